@@ -1,4 +1,4 @@
--- What an answer says, and what the scene of a site tells of its verdict.
+-- What an answer says, and what the scene of a merge set tells of its verdict.
 use Rattle.std.proofs.Common.{◌≡◌, ◌∙◌, ℕ, List, None, refl, subst, sym}
 use Rattle.clr_needs.specs.declared.faults.SceneFault.{SceneFault}
 use Rattle.clr_needs.specs.declared.faults.SceneFault.TheVariants as scene
@@ -7,13 +7,13 @@ use Rattle.clr_needs.specs.Covers.{AreCovered, Entry}
 use Rattle.clr_needs.specs.Members.{AreApart, IsSceneFault}
 use Rattle.clr_needs.specs.Settings.{Setting}
 use Rattle.clr_steps.specs.Offices.{Office}
-use Rattle.clr_steps.specs.Quiet.{Site}
+use Rattle.clr_steps.specs.Quiet.{MergeSet}
 use Rattle.clr_clearance.specs.declared.verdicts.Verdict.{Verdict}
 use Rattle.clr_clearance.specs.declared.verdicts.Verdict.TheVariants as verdict
 use Rattle.clr_clearance.specs.Headline.{Headline, RunsAreCleared}
 use Rattle.clr_clearance.specs.Laws.{StaysFree}
 use Rattle.clr_clearance.specs.Safety.{Safe}
-use Rattle.clr_clearance.specs.Sites.{RootHolds, change_sets, setting_by_position}
+use Rattle.clr_clearance.specs.MergeSets.{RootHolds, change_sets, setting_by_position}
 use Rattle.clr_clearance.specs.Verdicts.{IsVerdict, member_fault, of_cell, of_need, of_none}
 use Rattle.clr_clearance.specs.Verdicts.{of_member as member}
 use Rattle.clr_check.specs.Answers.{IsCheckAnswer, IsRefusingVerdict, of_memory, of_verdict, verdict_of}
@@ -23,13 +23,13 @@ use Rattle.clr_clearance.proofs.HeadlineLemmas.{headline}
 use Rattle.clr_clearance.proofs.ReplyLemmas.{quiet_run}
 use Rattle.clr_clearance.proofs.RunLemmas.{clear_is_safe}
 use Rattle.clr_kept_finders.specs.Fitting.{IsAdmitted}
-use Rattle.clr_sites.specs.Faults.{IsSiteFault, of_member, without_memory}
-use Rattle.clr_sites.proofs.SiteLemmas.{names_free, root_holds}
+use Rattle.clr_merge_sets.specs.Faults.{IsMergeSetFault, of_member, without_memory}
+use Rattle.clr_merge_sets.proofs.MergeSetLemmas.{names_free, root_holds}
 
 -- what an answer says ------------------------------------------------------------------------------
 
-module _ (o : Office) (s : Site) (entries : List Entry) where
-  pub fault_answers : (v : Verdict) → IsSiteFault o s v → IsCheckAnswer o s entries v
+module _ (o : Office) (s : MergeSet) (entries : List Entry) where
+  pub fault_answers : (v : Verdict) → IsMergeSetFault o s v → IsCheckAnswer o s entries v
   fault_answers v (of_member e) = of_verdict (member e)
   fault_answers v (without_memory e f) = of_memory e f
 
@@ -48,7 +48,7 @@ module _ (o : Office) (s : Site) (entries : List Entry) where
 
 -- what a scene tells --------------------------------------------------------------------------------
 
-module _ (o : Office) (s : Site) (entries : List Entry) (free : member_fault o s ≡ None) where
+module _ (o : Office) (s : MergeSet) (entries : List Entry) (free : member_fault o s ≡ None) where
   pub memory_answers : IsCheckAnswer o s entries verdict.OutOfMemory
   memory_answers = of_memory (names_free o s free) refl
 
@@ -65,7 +65,7 @@ module _ (o : Office) (s : Site) (entries : List Entry) (free : member_fault o s
         let moved = subst (λ d. IsLeastUncovered d entries n) is least in
         of_verdict (of_need n moved.0 moved.1 free apart moved.2 refl)
 
-module _ (o : Office) (s : Site) (entries : List Entry) (clear : IsCheckAnswer o s entries verdict.Clear) where
+module _ (o : Office) (s : MergeSet) (entries : List Entry) (clear : IsCheckAnswer o s entries verdict.Clear) where
   pub clear_holds : IsAdmitted o → RootHolds o s
   clear_holds admitted = root_holds o admitted s (clear_covers o s entries (clear_verdict o s entries verdict.Clear clear refl)).mergeable.kept
 

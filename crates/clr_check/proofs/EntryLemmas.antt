@@ -16,7 +16,7 @@ use Rattle.clr_needs.specs.declared.needs.Need.{Need}
 use Rattle.clr_needs.specs.Covers.{HasEntry, WitnessesCover}
 use Rattle.clr_needs.specs.Orders.{need_cmp}
 use Rattle.clr_needs.specs.Settings.{Setting, Lived}
-use Rattle.clr_sites.specs.Certificates.{entries_in}
+use Rattle.clr_merge_sets.specs.Certificates.{entries_in}
 use Rattle.clr_check.specs.Entries.{HasCover, IsEntryOf, RiseByNeed}
 use Rattle.clr_cert.specs.declared.certificates.Entry.{Entry}
 

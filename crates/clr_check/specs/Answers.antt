@@ -4,17 +4,17 @@ use Rattle.clr_needs.specs.declared.faults.SceneFault.{SceneFault}
 use Rattle.clr_needs.specs.declared.faults.SceneFault.TheVariants as scene
 use Rattle.clr_needs.specs.Covers.{Entry}
 use Rattle.clr_steps.specs.Offices.{Office}
-use Rattle.clr_steps.specs.Quiet.{Site}
+use Rattle.clr_steps.specs.Quiet.{MergeSet}
 use Rattle.clr_clearance.specs.declared.verdicts.Verdict.{Verdict}
 use Rattle.clr_clearance.specs.declared.verdicts.Verdict.TheVariants as verdict
 use Rattle.clr_clearance.specs.Verdicts.{IsVerdict, names_fault}
 
-pub data IsCheckAnswer (o : Office) (s : Site) (entries : List Entry) (v : Verdict) : Type 0 where
+pub data IsCheckAnswer (o : Office) (s : MergeSet) (entries : List Entry) (v : Verdict) : Type 0 where
   of_verdict : IsVerdict o s entries v → IsCheckAnswer o s entries v
   of_memory : names_fault o s ≡ None → v ≡ verdict.OutOfMemory → IsCheckAnswer o s entries v
 
 -- the verdict isn't clear
-pub record IsRefusingVerdict (o : Office) (s : Site) (entries : List Entry) (v : Verdict) : Type 0 where
+pub record IsRefusingVerdict (o : Office) (s : MergeSet) (entries : List Entry) (v : Verdict) : Type 0 where
   pub answer : IsCheckAnswer o s entries v
   pub not_clear : ¬ (v ≡ verdict.Clear)
 

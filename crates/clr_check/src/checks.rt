@@ -5,18 +5,18 @@ ghost use Rattle.clr_clearance.specs.Headline.{Headline, RunsAreCleared};
 ghost use Rattle.clr_clearance.specs.Laws.{StaysFree};
 ghost use Rattle.clr_clearance.specs.Safety.{Safe};
 ghost use Rattle.clr_clearance.specs.declared.verdicts.Verdict.TheVariants as verdict;
-ghost use Rattle.clr_steps.specs.Quiet.{Site};
+ghost use Rattle.clr_steps.specs.Quiet.{MergeSet};
 ghost use Rattle.clr_kept_finders.specs.Fitting.{IsAdmitted};
 ghost use Rattle.clr_check.specs.Answers.{IsCheckAnswer, verdict_of};
-ghost use Rattle.clr_sites.specs.Certificates.{entries_in, site_of};
-ghost use Rattle.clr_sites.specs.Sites.{AreOfSite, AreParts};
+ghost use Rattle.clr_merge_sets.specs.Certificates.{entries_in, merge_set_of};
+ghost use Rattle.clr_merge_sets.specs.MergeSets.{AreOfMergeSet, AreParts};
 
 use crate::covers::first_uncovered;
 use clr_cert::{Certificate, Entry};
 use clr_clearance::Verdict;
 use clr_engine::Office;
 use clr_needs::SceneFault;
-use clr_sites::{SiteParts, read_site};
+use clr_merge_sets::{MergeSetParts, read_merge_set};
 use std::alloc::Global;
 
 /// Returns what is said where change sets make no scene.
@@ -37,10 +37,10 @@ fn verdict_of(fault: SceneFault) -> Verdict
     }
 }
 
-/// Returns what the tests of cells and needs say of the parts of a site.
-fn judge_parts(alloc: Global, office: &Office, parts: &SiteParts, entries: &[Entry]) -> Verdict
-    requires { AreOfSite office.now parts.now }
-    ensures { (s : Site) → AreParts office.now s parts.now → IsCheckAnswer office.now s (entries_in entries.now) result }
+/// Returns what the tests of cells and needs say of the parts of a merge set.
+fn judge_parts(alloc: Global, office: &Office, parts: &MergeSetParts, entries: &[Entry]) -> Verdict
+    requires { AreOfMergeSet office.now parts.now }
+    ensures { (s : MergeSet) → AreParts office.now s parts.now → IsCheckAnswer office.now s (entries_in entries.now) result }
 {
     match parts.scene(alloc, office) {
         Ok(scene) => match first_uncovered(alloc, &scene, entries) {
@@ -64,14 +64,14 @@ fn judge_parts(alloc: Global, office: &Office, parts: &SiteParts, entries: &[Ent
 /// answers to quiet commands is then a cleared run. Nothing that the certificate says is taken to
 /// be true.
 pub fn check(alloc: Global, office: &Office, certificate: &Certificate) -> Verdict
-    ensures answer { IsCheckAnswer office.now (site_of certificate.now) (entries_in certificate.now.entries) result }
-    ensures free { result ≡ verdict.Clear → StaysFree office.now (site_of certificate.now) }
-    ensures safe { result ≡ verdict.Clear → Safe office.now (site_of certificate.now) }
-    ensures headline { result ≡ verdict.Clear → Headline office.now (site_of certificate.now) }
-    ensures runs { result ≡ verdict.Clear → RunsAreCleared office.now (site_of certificate.now) }
+    ensures answer { IsCheckAnswer office.now (merge_set_of certificate.now) (entries_in certificate.now.entries) result }
+    ensures free { result ≡ verdict.Clear → StaysFree office.now (merge_set_of certificate.now) }
+    ensures safe { result ≡ verdict.Clear → Safe office.now (merge_set_of certificate.now) }
+    ensures headline { result ≡ verdict.Clear → Headline office.now (merge_set_of certificate.now) }
+    ensures runs { result ≡ verdict.Clear → RunsAreCleared office.now (merge_set_of certificate.now) }
     ensures admitted { IsAdmitted office.now }
 {
-    match read_site(
+    match read_merge_set(
         alloc,
         office,
         certificate.root.as_str(),

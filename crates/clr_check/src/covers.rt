@@ -10,9 +10,9 @@ ghost use Rattle.clr_needs.specs.Needs.{AreServers, IsPossible, IsPossibleNeed};
 ghost use Rattle.clr_needs.specs.Orders.{version_cmp};
 ghost use Rattle.clr_foot.specs.Scenes.{IsReady, model_of, setting_of};
 ghost use Rattle.clr_needs.specs.Settings.{Lived};
-ghost use Rattle.clr_sites.specs.Certificates.{entries_in};
+ghost use Rattle.clr_merge_sets.specs.Certificates.{entries_in};
 ghost use Rattle.clr_check.specs.Entries.{HasCover, IsLeastUncovered, lives_with_subject, same_too};
-ghost use Rattle.clr_sites.specs.Told.{IsTold};
+ghost use Rattle.clr_merge_sets.specs.Told.{IsTold};
 
 use crate::entries::{entries_of, sort_entries};
 use clr_cert::Entry;

@@ -18,7 +18,7 @@
 //!   merge or refresh of a member among them is answered Conflict or RuleBroken, and the root has
 //!   the changes of the merged members over its first rows. Nothing is promised of commands after
 //!   one that isn't quiet.
-//! - `name_fault`, `read_site`, `SiteParts` and `NameList` are those of `clr_sites`, which reads what
+//! - `name_fault`, `read_merge_set`, `MergeSetParts` and `NameList` are those of `clr_merge_sets`, which reads what
 //!   a check and a plan look at.
 #![tactic(auto)]
 
@@ -30,5 +30,5 @@ mod runs;
 
 pub use checks::check;
 pub use clr_clearance::Verdict;
-pub use clr_sites::{NameList, SiteParts, name_fault, read_site};
+pub use clr_merge_sets::{NameList, MergeSetParts, name_fault, read_merge_set};
 pub use runs::{ClearedRun, perform_cleared};

@@ -5,7 +5,7 @@ ghost use Rattle.clr_clearance.specs.ClearedRuns.{IsClearedRun, IsQuietStart};
 ghost use Rattle.clr_clearance.specs.Verdicts.{IsVerdict};
 ghost use Rattle.clr_clearance.specs.declared.verdicts.Verdict.TheVariants as verdict;
 ghost use Rattle.clr_check.specs.Answers.{IsRefusingVerdict};
-ghost use Rattle.clr_sites.specs.Certificates.{entries_in, site_of};
+ghost use Rattle.clr_merge_sets.specs.Certificates.{entries_in, merge_set_of};
 
 use crate::checks::check;
 use crate::quiet::is_quiet;
@@ -33,7 +33,7 @@ fn perform_quiet(
 ) -> ClearedRun
     requires empty { replies.items ≡ [] }
     requires room { length commands.now ≤ vec_capacity replies }
-    ensures { IsQuietStart office.old (site_of certificate.now) commands.now result.replies.items office.new result.stopped }
+    ensures { IsQuietStart office.old (merge_set_of certificate.now) commands.now result.replies.items office.new result.stopped }
 {
     for command in commands {
         if !is_quiet(office, certificate, command) {
@@ -64,11 +64,11 @@ pub fn perform_cleared(
     certificate: &Certificate,
     commands: &[Command],
 ) -> Result<ClearedRun, Verdict>
-    ensures refused { IfErr result (IsRefusingVerdict office.old (site_of certificate.now) (entries_in certificate.now.entries)) }
+    ensures refused { IfErr result (IsRefusingVerdict office.old (merge_set_of certificate.now) (entries_in certificate.now.entries)) }
     ensures unchanged { OnErr result (office.new ≡ office.old) }
-    ensures clear { OnOk result (IsVerdict office.old (site_of certificate.now) (entries_in certificate.now.entries) verdict.Clear) }
-    ensures start { IfOk result (λ run. IsQuietStart office.old (site_of certificate.now) commands.now run.replies.items office.new run.stopped) }
-    ensures run { IfOk result (λ run. IsClearedRun office.old (site_of certificate.now)
+    ensures clear { OnOk result (IsVerdict office.old (merge_set_of certificate.now) (entries_in certificate.now.entries) verdict.Clear) }
+    ensures start { IfOk result (λ run. IsQuietStart office.old (merge_set_of certificate.now) commands.now run.replies.items office.new run.stopped) }
+    ensures run { IfOk result (λ run. IsClearedRun office.old (merge_set_of certificate.now)
         (take (length run.replies.items) commands.now) run.replies.items office.new) }
 {
     match check(alloc, office, certificate) {

@@ -8,7 +8,7 @@ use Rattle.clr_clearance.specs.Laws.{StaysFree}
 use Rattle.clr_clearance.specs.Safety.{Safe}
 use Rattle.clr_cert.specs.declared.certificates.Certificate.{Certificate}
 use Rattle.clr_check.specs.Answers.{IsCheckAnswer}
-use Rattle.clr_sites.specs.Certificates.{entries_in, site_of}
+use Rattle.clr_merge_sets.specs.Certificates.{entries_in, merge_set_of}
 use Rattle.clr_check_texts.specs.Cases.{Case}
 use Rattle.clr_check_texts.specs.declared.cases.CaseFault.{CaseFault}
 use Rattle.clr_check_texts.specs.declared.cases.CaseFault.TheVariants as fault
@@ -18,10 +18,10 @@ use Rattle.clr_check_texts.specs.declared.checked.Checked.TheVariants as checked
 -- the verdict on a certificate, or want of memory where no test of names fails. Where it is clear, the members are safe, as the headline
 -- says in one sentence, and every rule holds in the root with the changes of any of them
 pub record IsCheckedVerdict (o : Office) (c : Certificate) (v : Verdict) : Type 0 where
-  pub answer : IsCheckAnswer o (site_of c) (entries_in c.entries) v
-  pub free : v ≡ verdict.Clear → StaysFree o (site_of c)
-  pub safe : v ≡ verdict.Clear → Safe o (site_of c)
-  pub headline : v ≡ verdict.Clear → Headline o (site_of c)
+  pub answer : IsCheckAnswer o (merge_set_of c) (entries_in c.entries) v
+  pub free : v ≡ verdict.Clear → StaysFree o (merge_set_of c)
+  pub safe : v ≡ verdict.Clear → Safe o (merge_set_of c)
+  pub headline : v ≡ verdict.Clear → Headline o (merge_set_of c)
 
 -- it is the verdict on what the texts give
 abbrev pub IsVerdictOn : Case → Verdict → Type 0

@@ -18,7 +18,7 @@ use Rattle.clr_steps.specs.declared.commands.Reply.TheVariants.{Done, LiveIsFixe
 use Rattle.clr_steps.specs.Names.{is_live}
 use Rattle.clr_steps.specs.Offices.{Office, content_of, find_name, is_kept, workspace}
 use Rattle.clr_steps.specs.Effects.{after_merge, after_refresh, after_remove, effect, merged_content}
-use Rattle.clr_steps.specs.Quiet.{Member, Site, is_member, member_of}
+use Rattle.clr_steps.specs.Quiet.{Member, MergeSet, is_member, member_of}
 use Rattle.clr_steps.specs.Refusals.{breaks, first_broken, first_of, has_child, name_in, refusal, refusal_on, refusals_of, when}
 use Rattle.clr_steps.specs.Steps.{Answer, answer, refused_or_done, step}
 use Rattle.clr_steps.proofs.FindLemmas.{found_name}
@@ -28,7 +28,7 @@ use Rattle.clr_clearance.specs.Invariants.{Invariant}
 use Rattle.clr_clearance.specs.Laws.{MergeLaw, RefreshLaw}
 use Rattle.clr_clearance.specs.Runs.{merged_by}
 use Rattle.clr_clearance.specs.Safety.{IsMergeOf, IsSafeAnswer, is_clash, is_ready}
-use Rattle.clr_clearance.specs.Sites.{AreMergeable, KeepsRules, rows_with, setting_of}
+use Rattle.clr_clearance.specs.MergeSets.{AreMergeable, KeepsRules, rows_with, setting_of}
 use Rattle.clr_clearance.proofs.EffectLemmas.{member_refreshed, refresh_steps, shown}
 use Rattle.clr_clearance.proofs.MemberLemmas.{it, merge_lasts, merged_rows, no_conflict_now, not_root, part_with, refresh_lasts, remove_lasts}
 
@@ -109,28 +109,28 @@ safe_as o c r e clash done = record {
   is_done = λ h. ap (λ (a : Answer). a.reply) (step_as o c r e) ∙ done h;
 }
 
-merged_by-refused : (site : Site) (name : Name) (remove : Bool) (reply : Reply) → is_done reply ≡ false → merged_by site (command.Merge name remove) reply ≡ []
-merged_by-refused site name remove Done e = absurd (true≢false e)
-merged_by-refused site name remove _ e = refl
+merged_by-refused : (merge_set : MergeSet) (name : Name) (remove : Bool) (reply : Reply) → is_done reply ≡ false → merged_by merge_set (command.Merge name remove) reply ≡ []
+merged_by-refused merge_set name remove Done e = absurd (true≢false e)
+merged_by-refused merge_set name remove _ e = refl
 
 abbrev after_either : Office → Bool → Workspace → Office
 after_either o remove w = cond remove (after_remove (after_merge o w) w) (after_merge o w)
 
-module _ (first : Office) (site : Site) (mergeable : AreMergeable first site) (names : List Name) (now : Office) (inv : Invariant first site names now)
-    (name : Name) (member : is_member site name ≡ true) where
+module _ (first : Office) (merge_set : MergeSet) (mergeable : AreMergeable first merge_set) (names : List Name) (now : Office) (inv : Invariant first merge_set names now)
+    (name : Name) (member : is_member merge_set name ≡ true) where
   merge_refusal : (remove : Bool) (w : Workspace) → workspace now name ≡ Some w
       → refusal now (command.Merge name remove) ≡ first_of (when (remove && has_child now w.name) NotLeaf ∷ breaks now w.parent (merged_content now w) ∷ [])
   unfolding refusal refusals_of
   merge_refusal remove w e =
       of_standing now (command.Merge name remove) w e
       ∙ ap (λ r. first_of (when (remove && has_child now w.name) NotLeaf ∷ r ∷ breaks now w.parent (merged_content now w) ∷ []))
-      (no_conflict_now first site mergeable names now inv name member w e)
+      (no_conflict_now first merge_set mergeable names now inv name member w e)
 
   refresh_refusal : (w : Workspace) → workspace now name ≡ Some w → refusal now (command.Refresh name) ≡ breaks now w.name (merged_content now w)
   unfolding refusal refusals_of
   refresh_refusal w e =
       of_standing now (command.Refresh name) w e
-      ∙ ap (λ r. first_of (r ∷ breaks now w.name (merged_content now w) ∷ [])) (no_conflict_now first site mergeable names now inv name member w e)
+      ∙ ap (λ r. first_of (r ∷ breaks now w.name (merged_content now w) ∷ [])) (no_conflict_now first merge_set mergeable names now inv name member w e)
       ∙ only (breaks now w.name (merged_content now w))
     where
       only : (r : Option Reply) → first_of (r ∷ []) ≡ r
@@ -179,49 +179,49 @@ module _ (first : Office) (site : Site) (mergeable : AreMergeable first site) (n
     its_own : workspace now w.name ≡ Some w
     its_own = ap (workspace now) same ∙ e
 
-    its_member : is_member site w.name ≡ true
-    its_member = ap (is_member site) same ∙ member
+    its_member : is_member merge_set w.name ≡ true
+    its_member = ap (is_member merge_set) same ∙ member
 
-    either_lasts : (remove : Bool) → (after_either now remove w).book ≡ now.book → Invariant first site (names ++ w.name ∷ []) (after_either now remove w)
-    either_lasts true book = remove_lasts first site mergeable names now inv w its_member its_own book
-    either_lasts false book = merge_lasts first site mergeable names now inv w its_member its_own book
+    either_lasts : (remove : Bool) → (after_either now remove w).book ≡ now.book → Invariant first merge_set (names ++ w.name ∷ []) (after_either now remove w)
+    either_lasts true book = remove_lasts first merge_set mergeable names now inv w its_member its_own book
+    either_lasts false book = merge_lasts first merge_set mergeable names now inv w its_member its_own book
 
-  merge_kept : (remove : Bool) → let a = step now (command.Merge name remove) in Invariant first site (names
-      ++ merged_by site (command.Merge name remove) a.reply) a.office
+  merge_kept : (remove : Bool) → let a = step now (command.Merge name remove) in Invariant first merge_set (names
+      ++ merged_by merge_set (command.Merge name remove) a.reply) a.office
   merge_kept remove = by (merge_answered remove)
     where
       After : Answer → Type 0
-      After a = Invariant first site (names ++ merged_by site (command.Merge name remove) a.reply) a.office
+      After a = Invariant first merge_set (names ++ merged_by merge_set (command.Merge name remove) a.reply) a.office
 
       by : IsAnswered now (command.Merge name remove) (after_either now remove) → After (step now (command.Merge name remove))
       by (refused reply undone e) =
-          subst After (sym e) (subst (λ ns. Invariant first site ns now) (sym (ap (λ ns. names ++ ns) (merged_by-refused site name remove reply undone)
+          subst After (sym e) (subst (λ ns. Invariant first merge_set ns now) (sym (ap (λ ns. names ++ ns) (merged_by-refused merge_set name remove reply undone)
           ∙ append-nil names)) inv)
       by (performed w is e) =
           let next = after_either now remove w in
-          let one : names ++ w.name ∷ [] ≡ names ++ merged_by site (command.Merge name remove) Done =
+          let one : names ++ w.name ∷ [] ≡ names ++ merged_by merge_set (command.Merge name remove) Done =
           ap (λ n. names ++ n ∷ []) (same w is) ∙ sym (ap (λ b. names ++ cond b (name ∷ []) []) member) in
-          subst After (sym e) (subst (λ ns. Invariant first site ns next) one (either_lasts w is remove (book_as (command.Merge name remove) next e)))
+          subst After (sym e) (subst (λ ns. Invariant first merge_set ns next) one (either_lasts w is remove (book_as (command.Merge name remove) next e)))
 
-  refresh_kept : Invariant first site names (step now (command.Refresh name)).office
+  refresh_kept : Invariant first merge_set names (step now (command.Refresh name)).office
   refresh_kept = by refresh_answered
     where
-      by : IsAnswered now (command.Refresh name) (after_refresh now) → Invariant first site names (step now (command.Refresh name)).office
-      by (refused reply undone e) = subst (λ (a : Answer). Invariant first site names a.office) (sym e) inv
+      by : IsAnswered now (command.Refresh name) (after_refresh now) → Invariant first merge_set names (step now (command.Refresh name)).office
+      by (refused reply undone e) = subst (λ (a : Answer). Invariant first merge_set names a.office) (sym e) inv
       by (performed w is e) =
-          subst (λ (a : Answer). Invariant first site names a.office) (sym e)
-          (refresh_lasts first site mergeable names now inv w (its_member w is) (its_own w is) (book_as (command.Refresh name) (after_refresh now w) e))
+          subst (λ (a : Answer). Invariant first merge_set names a.office) (sym e)
+          (refresh_lasts first merge_set mergeable names now inv w (its_member w is) (its_own w is) (book_as (command.Refresh name) (after_refresh now w) e))
 
   -- where every rule holds in each merge, no answer is a clash --------------------------------------------------
 
-  module _ (keeps : KeepsRules first site) where
-    pub is_merge : (others : List Name) (content : Content) → AreAmong (setting_of first site) others site.members → ((cell : CellId) → row_at content cell
-        ≡ rows_with first site others cell) → IsMergeOf first site others content
+  module _ (keeps : KeepsRules first merge_set) where
+    pub is_merge : (others : List Name) (content : Content) → AreAmong (setting_of first merge_set) others merge_set.members → ((cell : CellId) → row_at content cell
+        ≡ rows_with first merge_set others cell) → IsMergeOf first merge_set others content
     is_merge others content part rows = record { rows = rows; holds = subst (Holds first.book) (λ i cell. sym (rows cell) i) (keeps others part) }
 
-    merged_is : (w : Workspace) → workspace now name ≡ Some w → IsMergeOf first site (name ∷ names) (merged_content now w)
-    merged_is w e = is_merge (name ∷ names) (merged_content now w) (part_with first site mergeable names now inv name member)
-        (merged_rows first site mergeable names now inv name member w e)
+    merged_is : (w : Workspace) → workspace now name ≡ Some w → IsMergeOf first merge_set (name ∷ names) (merged_content now w)
+    merged_is w e = is_merge (name ∷ names) (merged_content now w) (part_with first merge_set mergeable names now inv name member)
+        (merged_rows first merge_set mergeable names now inv name member w e)
 
     unbroken : (above : Name) (w : Workspace) → workspace now name ≡ Some w → breaks now above (merged_content now w) ≡ None
     unbroken above w e = none_breaks now above (merged_content now w) (subst (λ b. Holds b (row_at (merged_content now w))) (sym inv.book)
@@ -269,37 +269,37 @@ module _ (first : Office) (site : Site) (mergeable : AreMergeable first site) (n
 
     -- what a refresh leaves in the member
     refreshed_is : (v : Workspace) → (step now (command.Refresh name)).reply ≡ Done → workspace (step now (command.Refresh name)).office name ≡ Some v
-        → IsMergeOf first site (name ∷ names) v.current
+        → IsMergeOf first merge_set (name ∷ names) v.current
     unfolding merged_content
     refreshed_is v done found = by refresh_answered
       where
-        by : IsAnswered now (command.Refresh name) (after_refresh now) → IsMergeOf first site (name ∷ names) v.current
+        by : IsAnswered now (command.Refresh name) (after_refresh now) → IsMergeOf first merge_set (name ∷ names) v.current
         by (refused reply undone e) = absurd (false≢true (sym undone ∙ ap is_done (sym (ap (λ (a : Answer). a.reply) e) ∙ done)))
         by (performed w is e) =
-            let steps = refresh_steps site now w inv.kept (its_own w is) (not_root first site mergeable names now inv w.name (its_member w is))
-            (it first site mergeable names now inv w.name (its_member w is) w (its_own w is)).under in
+            let steps = refresh_steps merge_set now w inv.kept (its_own w is) (not_root first merge_set mergeable names now inv w.name (its_member w is))
+            (it first merge_set mergeable names now inv w.name (its_member w is) w (its_own w is)).under in
             let at : shown (after_refresh now w) w.name ≡ Some (member_of v) =
             ap (shown (after_refresh now w)) (same w is) ∙ sym (ap (λ (a : Answer). shown a.office name) e) ∙ ap (option_map member_of) found in
             let one : Some (member_refreshed (content_of now w.parent) (member_of w)) ≡ Some (member_of v) = sym steps.here ∙ at in
-            subst (IsMergeOf first site (name ∷ names)) (current_is (member_refreshed (content_of now w.parent) (member_of w)) (member_of v) one)
+            subst (IsMergeOf first merge_set (name ∷ names)) (current_is (member_refreshed (content_of now w.parent) (member_of w)) (member_of v) one)
             (merged_is w is)
           where
             current_is : (m k : Member) → Some m ≡ Some k → m.current ≡ k.current
             current_is m k e = let one : m ≡ k = cc in ap (λ (x : Member). x.current) one
 
 pub merge_claim : MergeLaw
-merge_claim first site names now name remove mergeable inv member = (
-  merge_kept first site mergeable names now inv name member remove,
+merge_claim first merge_set names now name remove mergeable inv member = (
+  merge_kept first merge_set mergeable names now inv name member remove,
   λ keeps. merge_safe first
-      site mergeable names now inv name member keeps remove,
+      merge_set mergeable names now inv name member keeps remove,
 )
 
 pub refresh_claim : RefreshLaw
-refresh_claim first site names now name mergeable inv member = (
-  refresh_kept first site mergeable names now inv name member,
+refresh_claim first merge_set names now name mergeable inv member = (
+  refresh_kept first merge_set mergeable names now inv name member,
   λ keeps. record {
-    answer = refresh_safe first site mergeable names now inv name member keeps;
-    content = refreshed_is first site mergeable names now inv name
+    answer = refresh_safe first merge_set mergeable names now inv name member keeps;
+    content = refreshed_is first merge_set mergeable names now inv name
         member keeps;
   },
 )

@@ -16,7 +16,7 @@ use Rattle.clr_steps.specs.declared.commands.Reply.{Reply}
 use Rattle.clr_steps.specs.Names.{same_name, is_live}
 use Rattle.clr_steps.specs.Offices.{Office, content_of, is_kept, stands, workspace}
 use Rattle.clr_steps.specs.Effects.{after_create, effect, set_kept}
-use Rattle.clr_steps.specs.Quiet.{Site, is_quiet, is_root}
+use Rattle.clr_steps.specs.Quiet.{MergeSet, is_quiet, is_root}
 use Rattle.clr_steps.specs.Refusals.{breaks, depth_within, first_broken, refusal, refusals_of}
 use Rattle.clr_steps.specs.Steps.{Answer, AreAnswers, is_lost, lost_in, step, step_or_lost}
 use Rattle.clr_rows.specs.Names.{is_good_name}
@@ -96,31 +96,31 @@ first_judged c entries needs at n list is covered bare =
 
 -- quiet commands -----------------------------------------------------------------------------------------------
 
-quiet_more : (o : Office) (site : Site) (commands : List Command) (replies : List Reply) (now : Office) (c : Command) (reply : Reply)
-    → AreAnswers o commands replies now → AreQuiet o site commands (lost_in replies) → is_quiet now site c ≡ true
-    → AreQuiet o site (commands ++ c ∷ []) (lost_in (replies ++ reply ∷ []))
-quiet_more o site [] [] now c reply answers quiet is zero d e = let one : c ≡ d = cc in ap (is_quiet o site) (sym one)
-    ∙ ap (λ p. is_quiet p site c) (sym answers) ∙ is
-quiet_more o site [] [] now c reply answers quiet is (suc k) d e = absurd (cc)
-quiet_more o site [] (r ∷ rs) now c reply answers quiet is at d e = absurd answers
-quiet_more o site (x ∷ cs) [] now c reply answers quiet is at d e = absurd answers
-quiet_more o site (x ∷ cs) (r ∷ rs) now c reply answers quiet is zero d e = quiet 0 d e
-quiet_more o site (x ∷ cs) (r ∷ rs) now c reply answers quiet is (suc at) d e =
+quiet_more : (o : Office) (merge_set : MergeSet) (commands : List Command) (replies : List Reply) (now : Office) (c : Command) (reply : Reply)
+    → AreAnswers o commands replies now → AreQuiet o merge_set commands (lost_in replies) → is_quiet now merge_set c ≡ true
+    → AreQuiet o merge_set (commands ++ c ∷ []) (lost_in (replies ++ reply ∷ []))
+quiet_more o merge_set [] [] now c reply answers quiet is zero d e = let one : c ≡ d = cc in ap (is_quiet o merge_set) (sym one)
+    ∙ ap (λ p. is_quiet p merge_set c) (sym answers) ∙ is
+quiet_more o merge_set [] [] now c reply answers quiet is (suc k) d e = absurd (cc)
+quiet_more o merge_set [] (r ∷ rs) now c reply answers quiet is at d e = absurd answers
+quiet_more o merge_set (x ∷ cs) [] now c reply answers quiet is at d e = absurd answers
+quiet_more o merge_set (x ∷ cs) (r ∷ rs) now c reply answers quiet is zero d e = quiet 0 d e
+quiet_more o merge_set (x ∷ cs) (r ∷ rs) now c reply answers quiet is (suc at) d e =
     let next = answers.0 in
     let office : (step_or_lost (is_lost r) o x).office ≡ next = ap (λ (a : Answer). a.office) (sym answers.1) in
     let lost : (λ k. lost_in (r ∷ rs) (k + 1)) ≡ lost_in rs = λ i k. lost_later r rs k i in
     let lost_more : (λ k. lost_in (r ∷ rs ++ reply ∷ []) (k + 1)) ≡ lost_in (rs ++ reply ∷ []) = λ i k. lost_later r (rs ++ reply ∷ []) k i in
-    let behind : AreQuiet (step_or_lost (is_lost r) o x).office site cs (λ k. lost_in (r ∷ rs) (k + 1)) = λ k y g. quiet (suc k) y g in
-    let rest = quiet_more next site cs rs now c reply answers.2
-    (subst (λ p. AreQuiet p site cs (lost_in rs)) office (subst (AreQuiet (step_or_lost (is_lost r) o x).office site cs) lost behind)) is in
-    let whole : AreQuiet (step_or_lost (is_lost r) o x).office site (cs ++ c ∷ []) (λ k. lost_in (r ∷ rs ++ reply ∷ []) (k + 1)) =
-    subst (AreQuiet (step_or_lost (is_lost r) o x).office site (cs ++ c ∷ [])) (sym lost_more)
-    (subst (λ p. AreQuiet p site (cs ++ c ∷ []) (lost_in (rs ++ reply ∷ []))) (sym office) rest) in
+    let behind : AreQuiet (step_or_lost (is_lost r) o x).office merge_set cs (λ k. lost_in (r ∷ rs) (k + 1)) = λ k y g. quiet (suc k) y g in
+    let rest = quiet_more next merge_set cs rs now c reply answers.2
+    (subst (λ p. AreQuiet p merge_set cs (lost_in rs)) office (subst (AreQuiet (step_or_lost (is_lost r) o x).office merge_set cs) lost behind)) is in
+    let whole : AreQuiet (step_or_lost (is_lost r) o x).office merge_set (cs ++ c ∷ []) (λ k. lost_in (r ∷ rs ++ reply ∷ []) (k + 1)) =
+    subst (AreQuiet (step_or_lost (is_lost r) o x).office merge_set (cs ++ c ∷ [])) (sym lost_more)
+    (subst (λ p. AreQuiet p merge_set (cs ++ c ∷ []) (lost_in (rs ++ reply ∷ []))) (sym office) rest) in
     whole at d e
 
 pub one_more : OneMoreLaw
-one_more o site commands replies now c reply left answers quiet is last = (
+one_more o merge_set commands replies now c reply left answers quiet is last = (
   more_law o commands replies now c reply left answers last,
-  quiet_more o site commands
+  quiet_more o merge_set commands
       replies now c reply answers quiet is,
 )

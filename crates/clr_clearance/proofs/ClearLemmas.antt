@@ -1,4 +1,4 @@
--- The verdict is clear exactly where the entries cover the site.
+-- The verdict is clear exactly where the entries cover the merge set.
 use Rattle.std.proofs.Common.{◌≡◌, ℕ, zero, suc, ◌+◌, ◌<◌, Bool, true, false, not, ◌||◌, cond, List, [], ◌∷◌, ◌⊎◌, inl, inr, refl, sym, ap, ◌∙◌, subst, arith}
 use Rattle.std.proofs.Common.{Option, Some, None, is_some, length, slice_get, slice_index_or, take}
 use Rattle.std.specs.List.{position, position_from, range_with_len}
@@ -17,13 +17,13 @@ use Rattle.clr_needs.specs.Positions.{after_member}
 use Rattle.clr_needs.specs.Settings.{AreDisjoint}
 use Rattle.clr_steps.specs.Names.{same_name, has, is_live}
 use Rattle.clr_steps.specs.Offices.{Office, find_name, is_kept, stands, workspace}
-use Rattle.clr_steps.specs.Quiet.{Site, is_member}
+use Rattle.clr_steps.specs.Quiet.{MergeSet, is_member}
 use Rattle.clr_steps.specs.Readings.{conflicts_in}
 use Rattle.clr_steps.proofs.FindLemmas.{same_is, same_itself}
 use Rattle.clr_clearance.specs.declared.verdicts.Verdict.{Verdict}
 use Rattle.clr_clearance.specs.declared.verdicts.Verdict.TheVariants as verdict
 use Rattle.clr_clearance.specs.Laws.{ClearLaw}
-use Rattle.clr_clearance.specs.Sites.{AreMergeable, Covers, change_sets, changed_by, is_child, setting_of}
+use Rattle.clr_clearance.specs.MergeSets.{AreMergeable, Covers, change_sets, changed_by, is_child, setting_of}
 use Rattle.clr_clearance.specs.Verdicts.{IsVerdict, first_conflict, first_repeated, is_repeated, member_fault, missing_member, names_fault, repeated_member}
 use Rattle.clr_clearance.specs.Verdicts.{root_fault, stray_member, of_cell, of_member, of_need, of_none}
 use Rattle.clr_clearance.proofs.NameLemmas.{has_is}
@@ -151,8 +151,8 @@ module _ (names : List Name) where
               let same = differ j x (slice_index_or names x []) f (slice_get-get_or names x [] within) in
               omega (arith, less, same)
 
-pub differ_unless_repeated : (site : Site) → repeated_member site ≡ None → AllDiffer site.members
-differ_unless_repeated site none = all_differ site.members (no_map verdict.RepeatedMember (first_repeated site.members) none)
+pub differ_unless_repeated : (merge_set : MergeSet) → repeated_member merge_set ≡ None → AllDiffer merge_set.members
+differ_unless_repeated merge_set none = all_differ merge_set.members (no_map verdict.RepeatedMember (first_repeated merge_set.members) none)
 
 -- the tests -------------------------------------------------------------------------------------------------
 
@@ -198,66 +198,66 @@ standing o name w e = by (is_live name) (find_name name o.workspaces) e
     by false None e = absurd (cc)
     by false (Some v) e = refl
 
-module _ (o : Office) (site : Site) where
-  is_kept_root : cond (is_kept o site.root) None (Some verdict.NotKept) ≡ None → is_kept o site.root ≡ true
-  is_kept_root none = by (is_kept o site.root) none
+module _ (o : Office) (merge_set : MergeSet) where
+  is_kept_root : cond (is_kept o merge_set.root) None (Some verdict.NotKept) ≡ None → is_kept o merge_set.root ≡ true
+  is_kept_root none = by (is_kept o merge_set.root) none
     where
       by : (b : Bool) → cond b None (Some verdict.NotKept) ≡ None → b ≡ true
       by true e = refl
       by false e = absurd (cc)
 
-  apart_names : AllDiffer site.members → AreApart (change_sets o site) → AreDisjoint (setting_of o site)
+  apart_names : AllDiffer merge_set.members → AreApart (change_sets o merge_set) → AreDisjoint (setting_of o merge_set)
   apart_names differ apart m n cell hm hn changes changes_too =
-      let (j, e) = position_of site.members m (sym (has_is site.members m) ∙ hm) in
-      let (k, f) = position_of site.members n (sym (has_is site.members n) ∙ hn) in
+      let (j, e) = position_of merge_set.members m (sym (has_is merge_set.members m) ∙ hm) in
+      let (k, f) = position_of merge_set.members n (sym (has_is merge_set.members n) ∙ hn) in
       let same = apart cell j k (at j m e changes) (at k n f changes_too) in
-      some_is m n (sym e ∙ ap (slice_get site.members) same ∙ f)
+      some_is m n (sym e ∙ ap (slice_get merge_set.members) same ∙ f)
     where
       some_is : (x y : Name) → Some x ≡ Some y → x ≡ y
       some_is x y e = cc
 
-      at : (j : ℕ) (name : Name) → slice_get site.members j ≡ Some name → is_some (changed_by o name cell) ≡ true
-          → is_some (after_of (change_sets o site) j cell) ≡ true
-      at j name e h = ap is_some (same_after o site j cell ∙ ap (λ r. after_member (setting_of o site) r cell) e) ∙ h
+      at : (j : ℕ) (name : Name) → slice_get merge_set.members j ≡ Some name → is_some (changed_by o name cell) ≡ true
+          → is_some (after_of (change_sets o merge_set) j cell) ≡ true
+      at j name e h = ap is_some (same_after o merge_set j cell ∙ ap (λ r. after_member (setting_of o merge_set) r cell) e) ∙ h
 
   -- what the tests of one member at a time say
   pub record IsFaultless : Type 0 where
-    pub kept : is_kept o site.root ≡ true
-    pub differ : AllDiffer site.members
-    pub children : (name : Name) → is_member site name ≡ true → is_child o site name ≡ true
-    pub free : (name : Name) → is_member site name ≡ true → conflicts_in o name ≡ []
+    pub kept : is_kept o merge_set.root ≡ true
+    pub differ : AllDiffer merge_set.members
+    pub children : (name : Name) → is_member merge_set name ≡ true → is_child o merge_set name ≡ true
+    pub free : (name : Name) → is_member merge_set name ≡ true → conflicts_in o name ≡ []
 
-  pub faultless : member_fault o site ≡ None → IsFaultless
+  pub faultless : member_fault o merge_set ≡ None → IsFaultless
   unfolding names_fault
   faultless none =
-      let both = neither (names_fault o site) (first_conflict o 0 site.members) none in
-      let root = neither (root_fault o site) (option_or (repeated_member site) (option_or (missing_member o site) (stray_member o site))) both.0 in
-      let repeated = neither (repeated_member site) (option_or (missing_member o site) (stray_member o site)) root.1 in
-      let missing = neither (missing_member o site) (stray_member o site) repeated.1 in
+      let both = neither (names_fault o merge_set) (first_conflict o 0 merge_set.members) none in
+      let root = neither (root_fault o merge_set) (option_or (repeated_member merge_set) (option_or (missing_member o merge_set) (stray_member o merge_set))) both.0 in
+      let repeated = neither (repeated_member merge_set) (option_or (missing_member o merge_set) (stray_member o merge_set)) root.1 in
+      let missing = neither (missing_member o merge_set) (stray_member o merge_set) repeated.1 in
       record {
         kept = is_kept_root root.0;
-        differ = differ_unless_repeated site repeated.0;
-        children = λ name h. not-false _ (each_of (λ n. not (is_child o site n)) site.members
-            (no_map verdict.NotUnderRoot (position (λ n. not (is_child o site n)) site.members) missing.1) name h);
-        free = all_free o 0 site.members both.1;
+        differ = differ_unless_repeated merge_set repeated.0;
+        children = λ name h. not-false _ (each_of (λ n. not (is_child o merge_set n)) merge_set.members
+            (no_map verdict.NotUnderRoot (position (λ n. not (is_child o merge_set n)) merge_set.members) missing.1) name h);
+        free = all_free o 0 merge_set.members both.1;
       }
 
-  pub mergeable_of : member_fault o site ≡ None → AreApart (change_sets o site) → AreMergeable o site
+  pub mergeable_of : member_fault o merge_set ≡ None → AreApart (change_sets o merge_set) → AreMergeable o merge_set
   mergeable_of none apart =
       let passed = faultless none in
       record { kept = passed.kept; distinct = passed.differ; children = passed.children; free = passed.free; apart = apart_names passed.differ apart }
 
-  pub no_member_fault : AreMergeable o site → member_fault o site ≡ None
+  pub no_member_fault : AreMergeable o merge_set → member_fault o merge_set ≡ None
   unfolding names_fault
   no_member_fault mergeable =
       rw (
         mergeable.kept,
-        none_repeated site.members mergeable.distinct,
-        none_of (λ name. not (stands o name)) site.members (λ name h. let child = child_under o site name (mergeable.children name h) in
+        none_repeated merge_set.members mergeable.distinct,
+        none_of (λ name. not (stands o name)) merge_set.members (λ name h. let child = child_under o merge_set name (mergeable.children name h) in
             ap not (standing o name child.at child.is)),
-        none_of (λ name. not (is_child o site name)) site.members (λ name h. ap not (mergeable.children name h)),
+        none_of (λ name. not (is_child o merge_set name)) merge_set.members (λ name h. ap not (mergeable.children name h)),
       )
-      (no_first_conflict o 0 site.members mergeable.free)
+      (no_first_conflict o 0 merge_set.members mergeable.free)
 
 -- no test that fails says clear -------------------------------------------------------------------------------
 
@@ -283,32 +283,32 @@ conflict_no_clear o at [] = tt
 conflict_no_clear o at (n ∷ ns) = either_no_clear (option_map (λ (c : CellId × ℕ). verdict.Conflict at c.0 c.1) (least_and_count (conflicts_in o n)))
     (first_conflict o (suc at) ns) (map_no_clear _ _ (λ c. refl)) (conflict_no_clear o (suc at) ns)
 
-pub fault_no_clear : (o : Office) (site : Site) → IsNoClear (member_fault o site)
+pub fault_no_clear : (o : Office) (merge_set : MergeSet) → IsNoClear (member_fault o merge_set)
 unfolding names_fault
-fault_no_clear o site =
-    either_no_clear (option_or (root_fault o site) (option_or (repeated_member site) (option_or (missing_member o site) (stray_member o site))))
-    (first_conflict o 0 site.members)
-    (either_no_clear (root_fault o site) (option_or (repeated_member site) (option_or (missing_member o site) (stray_member o site)))
-    (root (is_kept o site.root))
-    (either_no_clear (repeated_member site) (option_or (missing_member o site) (stray_member o site))
-    (map_no_clear verdict.RepeatedMember (first_repeated site.members) (λ k. refl))
-    (either_no_clear (missing_member o site) (stray_member o site)
-    (map_no_clear verdict.NoWorkspace (position (λ name. not (stands o name)) site.members) (λ k. refl))
-    (map_no_clear verdict.NotUnderRoot (position (λ name. not (is_child o site name)) site.members) (λ k. refl)))))
-    (conflict_no_clear o 0 site.members)
+fault_no_clear o merge_set =
+    either_no_clear (option_or (root_fault o merge_set) (option_or (repeated_member merge_set) (option_or (missing_member o merge_set) (stray_member o merge_set))))
+    (first_conflict o 0 merge_set.members)
+    (either_no_clear (root_fault o merge_set) (option_or (repeated_member merge_set) (option_or (missing_member o merge_set) (stray_member o merge_set)))
+    (root (is_kept o merge_set.root))
+    (either_no_clear (repeated_member merge_set) (option_or (missing_member o merge_set) (stray_member o merge_set))
+    (map_no_clear verdict.RepeatedMember (first_repeated merge_set.members) (λ k. refl))
+    (either_no_clear (missing_member o merge_set) (stray_member o merge_set)
+    (map_no_clear verdict.NoWorkspace (position (λ name. not (stands o name)) merge_set.members) (λ k. refl))
+    (map_no_clear verdict.NotUnderRoot (position (λ name. not (is_child o merge_set name)) merge_set.members) (λ k. refl)))))
+    (conflict_no_clear o 0 merge_set.members)
   where
     root : (b : Bool) → IsNoClear (cond b None (Some verdict.NotKept))
     root true = tt
     root false = refl
 
-pub clear_covers : (o : Office) (site : Site) (entries : List Entry) → IsVerdict o site entries verdict.Clear → Covers o site entries
-clear_covers o site entries (of_member e) = absurd (true≢false (subst IsNoClear e (fault_no_clear o site)))
-clear_covers o site entries (of_cell cell i j none shared e) = absurd (true≢false (ap is_clear e))
-clear_covers o site entries (of_need n a b none apart first e) = absurd (true≢false (ap is_clear e))
-clear_covers o site entries (of_none none apart covered e) = record { mergeable = mergeable_of o site none apart; covered = covered }
+pub clear_covers : (o : Office) (merge_set : MergeSet) (entries : List Entry) → IsVerdict o merge_set entries verdict.Clear → Covers o merge_set entries
+clear_covers o merge_set entries (of_member e) = absurd (true≢false (subst IsNoClear e (fault_no_clear o merge_set)))
+clear_covers o merge_set entries (of_cell cell i j none shared e) = absurd (true≢false (ap is_clear e))
+clear_covers o merge_set entries (of_need n a b none apart first e) = absurd (true≢false (ap is_clear e))
+clear_covers o merge_set entries (of_none none apart covered e) = record { mergeable = mergeable_of o merge_set none apart; covered = covered }
 
-pub covers_clear : (o : Office) (site : Site) (entries : List Entry) → Covers o site entries → IsVerdict o site entries verdict.Clear
-covers_clear o site entries covers = of_none (no_member_fault o site covers.mergeable) (apart_sets o site covers.mergeable) covers.covered refl
+pub covers_clear : (o : Office) (merge_set : MergeSet) (entries : List Entry) → Covers o merge_set entries → IsVerdict o merge_set entries verdict.Clear
+covers_clear o merge_set entries covers = of_none (no_member_fault o merge_set covers.mergeable) (apart_sets o merge_set covers.mergeable) covers.covered refl
 
 pub clear_law : ClearLaw
-clear_law o site entries = (clear_covers o site entries, covers_clear o site entries)
+clear_law o merge_set entries = (clear_covers o merge_set entries, covers_clear o merge_set entries)

@@ -1,4 +1,4 @@
--- What a merge and a refresh of one workspace under the root leave of a site: the root, the workspace itself, and the others.
+-- What a merge and a refresh of one workspace under the root leave of a merge set: the root, the workspace itself, and the others.
 use Rattle.std.proofs.Common.{◌≡◌, Bool, true, false, ◌||◌, cond, List, refl, sym, ap, ◌∙◌, subst, Option, Some, None}
 use Rattle.std.specs.Option.{option_map, option_map_or}
 use Rattle.std.proofs.lemmas.Bool.{false≢true}
@@ -9,7 +9,7 @@ use Rattle.clr_workspaces.specs.Operations.{with_base_merged, refresh, with_curr
 use Rattle.clr_steps.specs.Names.{same_name, is_live}
 use Rattle.clr_steps.specs.Offices.{Office, content_of, find_name, is_kept, modify, modify_marks, set_content, with_workspaces, without, workspace}
 use Rattle.clr_steps.specs.Effects.{after_merge, after_refresh, after_remove, merged_content}
-use Rattle.clr_steps.specs.Quiet.{IsRootKept, Member, Site, is_root, member_of, root_content}
+use Rattle.clr_steps.specs.Quiet.{IsRootKept, Member, MergeSet, is_root, member_of, root_content}
 use Rattle.clr_steps.proofs.FindLemmas.{find_modify, find_without, same_is, same_itself, seen_by, seen_marks, seen_other, seen_without}
 use Rattle.clr_steps.proofs.KeptLemmas.{Root, content_seen, kept_seen, or_false, root_of}
 use Rattle.clr_steps.proofs.ModifyLemmas.{LeavesName}
@@ -108,48 +108,48 @@ module _ (o : Office) (r : Name) (content : Content) where
 -- what one workspace's commands leave ------------------------------------------------------------------
 
 -- the root as it was, and every other member
-record LeavesOthers (site : Site) (n : Name) (p q : Office) : Type 0 where
-  root : root_content q site ≡ root_content p site
-  kept : is_kept q site.root ≡ is_kept p site.root
+record LeavesOthers (merge_set : MergeSet) (n : Name) (p q : Office) : Type 0 where
+  root : root_content q merge_set ≡ root_content p merge_set
+  kept : is_kept q merge_set.root ≡ is_kept p merge_set.root
   others : (name : Name) → same_name n name ≡ false → shown q name ≡ shown p name
 
-then_others : (site : Site) (n : Name) (a b c : Office) → LeavesOthers site n a b → LeavesOthers site n b c → LeavesOthers site n a c
-then_others site n a b c h k = record { root = k.root ∙ h.root; kept = k.kept ∙ h.kept; others = λ name apart. k.others name apart ∙ h.others name apart }
+then_others : (merge_set : MergeSet) (n : Name) (a b c : Office) → LeavesOthers merge_set n a b → LeavesOthers merge_set n b c → LeavesOthers merge_set n a c
+then_others merge_set n a b c h k = record { root = k.root ∙ h.root; kept = k.kept ∙ h.kept; others = λ name apart. k.others name apart ∙ h.others name apart }
 
-module _ (site : Site) (n : Name) (out : is_root site n ≡ false) (o : Office) where
-  others_modified : (f : Workspace → Workspace) → LeavesName f → LeavesOthers site n o (with_workspaces o (modify n f o.workspaces))
+module _ (merge_set : MergeSet) (n : Name) (out : is_root merge_set n ≡ false) (o : Office) where
+  others_modified : (f : Workspace → Workspace) → LeavesName f → LeavesOthers merge_set n o (with_workspaces o (modify n f o.workspaces))
   unfolding is_root root_content
   others_modified f names = record {
-    root = content_as o (modify n f o.workspaces) site.root (seen_other root_of site.root n f names out o.workspaces);
-    kept = kept_as o (modify n f o.workspaces) site.root (seen_other root_of site.root n f names out o.workspaces);
+    root = content_as o (modify n f o.workspaces) merge_set.root (seen_other root_of merge_set.root n f names out o.workspaces);
+    kept = kept_as o (modify n f o.workspaces) merge_set.root (seen_other root_of merge_set.root n f names out o.workspaces);
     others = λ name apart. shown_as o (modify n f o.workspaces) name (seen_other member_of name n f names apart o.workspaces);
   }
 
-  others_without : LeavesOthers site n o (with_workspaces o (without n o.workspaces))
+  others_without : LeavesOthers merge_set n o (with_workspaces o (without n o.workspaces))
   unfolding is_root root_content
   others_without = record {
-    root = content_as o (without n o.workspaces) site.root (seen_without root_of site.root n out o.workspaces);
-    kept = kept_as o (without n o.workspaces) site.root (seen_without root_of site.root n out o.workspaces);
+    root = content_as o (without n o.workspaces) merge_set.root (seen_without root_of merge_set.root n out o.workspaces);
+    kept = kept_as o (without n o.workspaces) merge_set.root (seen_without root_of merge_set.root n out o.workspaces);
     others = λ name apart. shown_as o (without n o.workspaces) name (seen_without member_of name n apart o.workspaces);
   }
 
   shown_marked : (m : Name) (f : List Mark → List Mark) (name : Name) → shown (with_workspaces o (modify_marks m f o.workspaces)) name ≡ shown o name
   shown_marked m f name = shown_as o (modify_marks m f o.workspaces) name (seen_marks member_of name (λ w marks. refl) m f o.workspaces)
 
-  others_marked : (m : Name) (f : List Mark → List Mark) → LeavesOthers site n o (with_workspaces o (modify_marks m f o.workspaces))
+  others_marked : (m : Name) (f : List Mark → List Mark) → LeavesOthers merge_set n o (with_workspaces o (modify_marks m f o.workspaces))
   unfolding root_content
   others_marked m f = record {
-    root = content_as o (modify_marks m f o.workspaces) site.root (seen_marks root_of site.root (λ w marks. refl) m f o.workspaces);
-    kept = kept_as o (modify_marks m f o.workspaces) site.root (seen_marks root_of site.root (λ w marks. refl) m f o.workspaces);
+    root = content_as o (modify_marks m f o.workspaces) merge_set.root (seen_marks root_of merge_set.root (λ w marks. refl) m f o.workspaces);
+    kept = kept_as o (modify_marks m f o.workspaces) merge_set.root (seen_marks root_of merge_set.root (λ w marks. refl) m f o.workspaces);
     others = λ name apart. shown_marked m f name;
   }
 
 -- the root's content, what is shown of the one workspace, and the others as they were
-pub record StepsTo (site : Site) (o next : Office) (n : Name) (content : Content) (member : Option Member) : Type 0 where
-  pub root : root_content next site ≡ content
-  pub kept : is_kept next site.root ≡ true
+pub record StepsTo (merge_set : MergeSet) (o next : Office) (n : Name) (content : Content) (member : Option Member) : Type 0 where
+  pub root : root_content next merge_set ≡ content
+  pub kept : is_kept next merge_set.root ≡ true
   pub here : shown next n ≡ member
-  pub others : (name : Name) → is_root site name ≡ false → same_name n name ≡ false → shown next name ≡ shown o name
+  pub others : (name : Name) → is_root merge_set name ≡ false → same_name n name ≡ false → shown next name ≡ shown o name
 
 -- a member after its merge, and after a refresh from a content
 abbrev pub member_rebased : Member → Member
@@ -158,54 +158,54 @@ member_rebased m = record { parent = m.parent; base = taken_over m.base (changes
 abbrev pub member_refreshed : Content → Member → Member
 member_refreshed above m = record { parent = m.parent; base = above; current = taken_over above (changes m.base m.current) }
 
-module _ (site : Site) (o : Office) (w : Workspace) (kept : IsRootKept o site) (is : workspace o w.name ≡ Some w) (out : is_root site w.name
-    ≡ false) (under : is_root site w.parent ≡ true) where
+module _ (merge_set : MergeSet) (o : Office) (w : Workspace) (kept : IsRootKept o merge_set) (is : workspace o w.name ≡ Some w) (out : is_root merge_set w.name
+    ≡ false) (under : is_root merge_set w.parent ≡ true) where
   is_there : shown o w.name ≡ Some (member_of w)
   is_there = ap (option_map member_of) is
 
-  parent_is : w.parent ≡ site.root
+  parent_is : w.parent ≡ merge_set.root
   unfolding is_root
-  parent_is = same_is w.parent site.root under
+  parent_is = same_is w.parent merge_set.root under
 
-  apart_from_root : (name : Name) → is_root site name ≡ false → same_name site.root name ≡ false
+  apart_from_root : (name : Name) → is_root merge_set name ≡ false → same_name merge_set.root name ≡ false
   unfolding is_root
-  apart_from_root name h = by (same_name site.root name) refl
+  apart_from_root name h = by (same_name merge_set.root name) refl
     where
-      by : (b : Bool) → same_name site.root name ≡ b → b ≡ false
-      by true e = absurd (false≢true (sym h ∙ ap (λ m. same_name name m) (same_is site.root name e) ∙ same_itself name))
+      by : (b : Bool) → same_name merge_set.root name ≡ b → b ≡ false
+      by true e = absurd (false≢true (sym h ∙ ap (λ m. same_name name m) (same_is merge_set.root name e) ∙ same_itself name))
       by false e = refl
 
   above : Office
-  above = set_content o site.root (merged_content o w)
+  above = set_content o merge_set.root (merged_content o w)
 
   merge_is : after_merge o w ≡ with_workspaces above (modify w.name with_base_merged above.workspaces)
   unfolding after_merge above
   merge_is = ap (λ p. let next = set_content o p (merged_content o w) in with_workspaces next (modify w.name with_base_merged next.workspaces)) parent_is
 
-  pub merge_steps : StepsTo site o (after_merge o w) w.name (merged_content o w) (Some (member_rebased (member_of w)))
+  pub merge_steps : StepsTo merge_set o (after_merge o w) w.name (merged_content o w) (Some (member_rebased (member_of w)))
   unfolding above root_content
   merge_steps =
-      let left = others_modified site w.name out above with_base_merged (λ v. refl) in
-      subst (λ next. StepsTo site o next w.name (merged_content o w) (Some (member_rebased (member_of w)))) (sym merge_is) (record {
-        root = left.root ∙ written_content o site.root (merged_content o w) kept;
-        kept = left.kept ∙ written_kept o site.root (merged_content o w) ∙ kept;
+      let left = others_modified merge_set w.name out above with_base_merged (λ v. refl) in
+      subst (λ next. StepsTo merge_set o next w.name (merged_content o w) (Some (member_rebased (member_of w)))) (sym merge_is) (record {
+        root = left.root ∙ written_content o merge_set.root (merged_content o w) kept;
+        kept = left.kept ∙ written_kept o merge_set.root (merged_content o w) ∙ kept;
         here = shown_modified above w.name with_base_merged member_rebased (λ v. refl) (λ v. refl)
-            ∙ ap (option_map member_rebased) (written_shown o site.root (merged_content o w) w.name (apart_from_root w.name out) ∙ is_there);
-        others = λ name apart_too apart. left.others name apart ∙ written_shown o site.root (merged_content o w) name (apart_from_root name apart_too);
+            ∙ ap (option_map member_rebased) (written_shown o merge_set.root (merged_content o w) w.name (apart_from_root w.name out) ∙ is_there);
+        others = λ name apart_too apart. left.others name apart ∙ written_shown o merge_set.root (merged_content o w) name (apart_from_root name apart_too);
       })
 
   -- the merge of a workspace after which it is taken away
-  pub remove_steps : StepsTo site o (after_remove (after_merge o w) w) w.name (merged_content o w) None
+  pub remove_steps : StepsTo merge_set o (after_remove (after_merge o w) w) w.name (merged_content o w) None
   unfolding after_remove
   remove_steps =
       let next = after_merge o w in
       let gone = with_workspaces next (without w.name next.workspaces) in
-      let left = then_others site w.name next gone _ (others_without site w.name out next)
-      (others_marked site w.name out gone w.parent (without_mark_of w.name)) in
+      let left = then_others merge_set w.name next gone _ (others_without merge_set w.name out next)
+      (others_marked merge_set w.name out gone w.parent (without_mark_of w.name)) in
       record {
         root = left.root ∙ merge_steps.root;
         kept = left.kept ∙ merge_steps.kept;
-        here = shown_marked site w.name out gone w.parent (without_mark_of w.name) w.name ∙ shown_is gone w.name
+        here = shown_marked merge_set w.name out gone w.parent (without_mark_of w.name) w.name ∙ shown_is gone w.name
             ∙ nothing (is_live w.name) _ (ap (option_map member_of) (find_without w.name next.workspaces));
         others = λ name apart_too apart. left.others name apart ∙ merge_steps.others name apart_too apart;
       }
@@ -214,17 +214,17 @@ module _ (site : Site) (o : Office) (w : Workspace) (kept : IsRootKept o site) (
       nothing true r e = refl
       nothing false r e = e
 
-  pub refresh_steps : StepsTo site o (after_refresh o w) w.name (root_content o site) (Some (member_refreshed (content_of o w.parent) (member_of w)))
+  pub refresh_steps : StepsTo merge_set o (after_refresh o w) w.name (root_content o merge_set) (Some (member_refreshed (content_of o w.parent) (member_of w)))
   unfolding after_refresh
   refresh_steps =
       let f = refresh (content_of o w.parent) in
       let next = with_workspaces o (modify w.name f o.workspaces) in
-      let left = then_others site w.name o next _ (others_modified site w.name out o f (λ v. refl))
-      (others_marked site w.name out next w.parent (mark_last w.name)) in
+      let left = then_others merge_set w.name o next _ (others_modified merge_set w.name out o f (λ v. refl))
+      (others_marked merge_set w.name out next w.parent (mark_last w.name)) in
       record {
         root = left.root;
         kept = left.kept ∙ kept;
-        here = shown_marked site w.name out next w.parent (mark_last w.name) w.name
+        here = shown_marked merge_set w.name out next w.parent (mark_last w.name) w.name
             ∙ shown_modified o w.name f (member_refreshed (content_of o w.parent)) (λ v. refl) (λ v. refl)
             ∙ ap (option_map (member_refreshed (content_of o w.parent))) is_there;
         others = λ name apart_too apart. left.others name apart;

@@ -20,7 +20,7 @@ use Rattle.clr_needs.proofs.PositionLaws.{range_has}
 use Rattle.clr_steps.specs.Names.{same_name, has}
 use Rattle.clr_steps.specs.declared.commands.Command.{Command}
 use Rattle.clr_steps.specs.Offices.{Office, content_of, workspace}
-use Rattle.clr_steps.specs.Quiet.{Site, is_member, is_root, root_content}
+use Rattle.clr_steps.specs.Quiet.{MergeSet, is_member, is_root, root_content}
 use Rattle.clr_steps.specs.Readings.{conflicts_in}
 use Rattle.clr_steps.specs.Refusals.{conflict}
 use Rattle.clr_steps.specs.Steps.{run}
@@ -30,7 +30,7 @@ use Rattle.clr_clearance.specs.Invariants.{Invariant}
 use Rattle.clr_clearance.specs.PlanLaws.{LastingCoverLaw, LastingCoverReorderedLaw, LastingLaw, LastingReorderedLaw, StaysClear}
 use Rattle.clr_clearance.specs.Plans.{standing}
 use Rattle.clr_clearance.specs.Runs.{AreQuiet}
-use Rattle.clr_clearance.specs.Sites.{AreMergeable, Covers, KeepsRules, RootHolds, changed_by, is_child, rows_with, setting_of}
+use Rattle.clr_clearance.specs.MergeSets.{AreMergeable, Covers, KeepsRules, RootHolds, changed_by, is_child, rows_with, setting_of}
 use Rattle.clr_clearance.proofs.CarryLemmas.{AreIdle, Changes, Fate, IsLater, Gone, Merged, Stays, carried, changes_of, idle_or_changed, on_entry}
 use Rattle.clr_clearance.proofs.ClearLemmas.{AllDiffer, has_at, no_member_fault, position_of}
 use Rattle.clr_clearance.proofs.MemberLemmas.{again, it, no_conflict_now, not_root}
@@ -38,7 +38,7 @@ use Rattle.clr_clearance.proofs.NameLemmas.{has_is}
 use Rattle.clr_clearance.proofs.PlanLemmas.{safe_plan}
 use Rattle.clr_clearance.proofs.ReorderedLemmas.{covers_reordered}
 use Rattle.clr_clearance.proofs.SafeLemmas.{quiet_list_law, safe_law}
-use Rattle.clr_clearance.proofs.SiteLemmas.{changed_by-standing, order_law, untaken}
+use Rattle.clr_clearance.proofs.MergeSetLemmas.{changed_by-standing, order_law, untaken}
 use Rattle.clr_clearance.proofs.StaticLemmas.{apart_by_position, keeps_rules, numbered_is}
 
 -- some of a list of names ------------------------------------------------------------------------------------------
@@ -120,7 +120,7 @@ placed (n ∷ ns) name (suc k) e = by (same_name n name) refl (placed ns name k 
 
 -- the members that stand ---------------------------------------------------------------------------------------------
 
-module _ (first : Office) (site : Site) (mergeable : AreMergeable first site) (names : List Name) (now : Office) (inv : Invariant first site names now) where
+module _ (first : Office) (merge_set : MergeSet) (mergeable : AreMergeable first merge_set) (names : List Name) (now : Office) (inv : Invariant first merge_set names now) where
   abbrev stands_now : Name → Bool
   stands_now name = is_some (workspace now name)
 
@@ -131,29 +131,29 @@ module _ (first : Office) (site : Site) (mergeable : AreMergeable first site) (n
       by None e h = absurd (false≢true h)
       by (Some w) e h = (w, e)
 
-  child_now : (name : Name) → is_member site name ≡ true → stands_now name ≡ true → is_child now (standing now site) name ≡ true
+  child_now : (name : Name) → is_member merge_set name ≡ true → stands_now name ≡ true → is_child now (standing now merge_set) name ≡ true
   unfolding is_root
   child_now name member h =
       let (w, e) = there name h in
-      let under = (it first site mergeable names now inv name member w e).under in
-      ap (λ b. not b && option_map_or (λ (v : Workspace). same_name v.parent site.root) (workspace now name) false)
-      (not_root first site mergeable names now inv name member)
-      ∙ ap (λ r. option_map_or (λ (v : Workspace). same_name v.parent site.root) r false) e ∙ under
+      let under = (it first merge_set mergeable names now inv name member w e).under in
+      ap (λ b. not b && option_map_or (λ (v : Workspace). same_name v.parent merge_set.root) (workspace now name) false)
+      (not_root first merge_set mergeable names now inv name member)
+      ∙ ap (λ r. option_map_or (λ (v : Workspace). same_name v.parent merge_set.root) r false) e ∙ under
 
-  free_now : (name : Name) → is_member site name ≡ true → stands_now name ≡ true → conflicts_in now name ≡ []
+  free_now : (name : Name) → is_member merge_set name ≡ true → stands_now name ≡ true → conflicts_in now name ≡ []
   unfolding conflict
   free_now name member h =
       let (w, e) = there name h in
       ap (λ r. option_map_or (λ (v : Workspace). conflicts (content_of now v.parent) (own_changes v)) r []) e
-      ∙ none_listed (conflicts (content_of now w.parent) (own_changes w)) (no_conflict_now first site mergeable names now inv name member w e)
+      ∙ none_listed (conflicts (content_of now w.parent) (own_changes w)) (no_conflict_now first merge_set mergeable names now inv name member w e)
 
   -- a member that stands has the changes that it had, unless it is merged
-  changes_now : (name : Name) → is_member site name ≡ true → stands_now name ≡ true → (cell : CellId) → changed_by now name cell
+  changes_now : (name : Name) → is_member merge_set name ≡ true → stands_now name ≡ true → (cell : CellId) → changed_by now name cell
       ≡ cond (has names name) None (changed_by first name cell)
   changes_now name member h cell = let (w, e) = there name h in changed_by-standing now name w cell e
-      ∙ (it first site mergeable names now inv name member w e).changes cell
+      ∙ (it first merge_set mergeable names now inv name member w e).changes cell
 
-  changed_before : (name : Name) (cell : CellId) → is_member site name ≡ true → stands_now name ≡ true → is_some (changed_by now name cell) ≡ true
+  changed_before : (name : Name) (cell : CellId) → is_member merge_set name ≡ true → stands_now name ≡ true → is_some (changed_by now name cell) ≡ true
       → is_some (changed_by first name cell) ≡ true
   changed_before name cell member h changes = by (has names name) (sym (ap is_some (changes_now name member h cell)) ∙ changes)
     where
@@ -161,23 +161,23 @@ module _ (first : Office) (site : Site) (mergeable : AreMergeable first site) (n
       by true h = absurd (false≢true h)
       by false h = h
 
-  standing_mergeable : AreMergeable now (standing now site)
+  standing_mergeable : AreMergeable now (standing now merge_set)
   standing_mergeable = record {
     kept = inv.kept;
-    distinct = some_differ stands_now site.members mergeable.distinct;
-    children = λ name h. (let both = of_some stands_now site.members name h in child_now name both.0 both.1);
-    free = λ name h. (let both = of_some stands_now site.members name h in free_now name both.0 both.1);
+    distinct = some_differ stands_now merge_set.members mergeable.distinct;
+    children = λ name h. (let both = of_some stands_now merge_set.members name h in child_now name both.0 both.1);
+    free = λ name h. (let both = of_some stands_now merge_set.members name h in free_now name both.0 both.1);
     apart = λ m n cell hm hn changes changes_too.
-        (let one = of_some stands_now site.members m (sym (has_is (standing now site).members m) ∙ hm) in
-        let two = of_some stands_now site.members n (sym (has_is (standing now site).members n) ∙ hn) in
-        mergeable.apart m n cell (has_is site.members m ∙ one.0) (has_is site.members n ∙ two.0) (changed_before m cell one.0 one.1 changes)
+        (let one = of_some stands_now merge_set.members m (sym (has_is (standing now merge_set).members m) ∙ hm) in
+        let two = of_some stands_now merge_set.members n (sym (has_is (standing now merge_set).members n) ∙ hn) in
+        mergeable.apart m n cell (has_is merge_set.members m ∙ one.0) (has_is merge_set.members n ∙ two.0) (changed_before m cell one.0 one.1 changes)
         (changed_before n cell two.0 two.1 changes_too));
   }
 
-  standing_holds : KeepsRules first site → RootHolds now (standing now site)
+  standing_holds : KeepsRules first merge_set → RootHolds now (standing now merge_set)
   unfolding root_content
   standing_holds keeps =
-      subst (λ b. Holds b (row_at (content_of now site.root))) (sym inv.book) (subst (Holds first.book) (λ i cell. sym (inv.rows cell) i)
+      subst (λ b. Holds b (row_at (content_of now merge_set.root))) (sym inv.book) (subst (Holds first.book) (λ i cell. sym (inv.rows cell) i)
       (keeps names inv.part))
 
   -- what became of each member -----------------------------------------------------------------------------------------
@@ -189,19 +189,19 @@ module _ (first : Office) (site : Site) (mergeable : AreMergeable first site) (n
   -- the member is merged, or stands at this position among those that stand, or is gone
   abbrev fate_of : Option Name → Fate ℕ
   fate_of None = Gone
-  fate_of (Some name) = cond (has names name) Merged (fate_at (place (standing now site).members name))
+  fate_of (Some name) = cond (has names name) Merged (fate_at (place (standing now merge_set).members name))
 
   abbrev fate : ℕ → Fate ℕ
-  fate k = fate_of (slice_get site.members k)
+  fate k = fate_of (slice_get merge_set.members k)
 
   abbrev old_setting : Setting ℕ
-  old_setting = by_position (setting_of first site)
+  old_setting = by_position (setting_of first merge_set)
 
   abbrev next_setting : Setting ℕ
-  next_setting = by_position (setting_of now (standing now site))
+  next_setting = by_position (setting_of now (standing now merge_set))
 
-  stands_at : (k : ℕ) (name : Name) → slice_get (standing now site).members k ≡ Some name → (is_member site name ≡ true) × (stands_now name ≡ true)
-  stands_at k name e = of_some stands_now site.members name (has_at (standing now site).members k name e)
+  stands_at : (k : ℕ) (name : Name) → slice_get (standing now merge_set).members k ≡ Some name → (is_member merge_set name ≡ true) × (stands_now name ≡ true)
+  stands_at k name e = of_some stands_now merge_set.members name (has_at (standing now merge_set).members k name e)
 
   in_range : (members : List Name) (k : ℕ) (name : Name) → slice_get members k ≡ Some name → has_by (λ i j. i == j) (range_with_len 0 (length members)) k ≡ true
   in_range members k name e = let within = slice_get_within members k name e in range_has (length members) 0 k (omega arith) (omega (arith, within))
@@ -212,14 +212,14 @@ module _ (first : Office) (site : Site) (mergeable : AreMergeable first site) (n
     is_at : slice_get members k ≡ Some name
     changes : changed_by o name cell ≡ Some row
 
-  named : (o : Office) (s : Site) (k : ℕ) (cell : CellId) (row : Option Row) → Changes (by_position (setting_of o s)) k cell row → Named o s.members k cell row
+  named : (o : Office) (s : MergeSet) (k : ℕ) (cell : CellId) (row : Option Row) → Changes (by_position (setting_of o s)) k cell row → Named o s.members k cell row
   named o s k cell row changed = by (slice_get s.members k) refl changed.after
     where
       by : (r : Option Name) → slice_get s.members k ≡ r → after_member (setting_of o s) r cell ≡ Some row → Named o s.members k cell row
       by None e f = absurd (cc)
       by (Some name) e f = record { name = name; is_at = e; changes = f }
 
-  changes_at : (o : Office) (s : Site) (k : ℕ) (name : Name) (cell : CellId) (row : Option Row) → slice_get s.members k ≡ Some name → changed_by o name cell
+  changes_at : (o : Office) (s : MergeSet) (k : ℕ) (name : Name) (cell : CellId) (row : Option Row) → slice_get s.members k ≡ Some name → changed_by o name cell
       ≡ Some row → Changes (by_position (setting_of o s)) k cell row
   changes_at o s k name cell row e f = record { member = in_range s.members k name e; after = ap (λ r. after_member (setting_of o s) r cell) e ∙ f }
 
@@ -233,23 +233,23 @@ module _ (first : Office) (site : Site) (mergeable : AreMergeable first site) (n
       by true e f = absurd (cc)
       by false e f = (e, f)
 
-  fate_stays : (name : Name) (k : ℕ) → has names name ≡ false → slice_get (standing now site).members k ≡ Some name → fate_of (Some name) ≡ Stays k
+  fate_stays : (name : Name) (k : ℕ) → has names name ≡ false → slice_get (standing now merge_set).members k ≡ Some name → fate_of (Some name) ≡ Stays k
   fate_stays name k out e =
-      let (j, f) = placed (standing now site).members name k e in
-      let same : j ≡ k = standing_mergeable.distinct j k name (place_is (standing now site).members name j f) e in
-      ap (λ b. cond b Merged (fate_at (place (standing now site).members name))) out ∙ ap fate_at (f ∙ ap Some same)
+      let (j, f) = placed (standing now merge_set).members name k e in
+      let same : j ≡ k = standing_mergeable.distinct j k name (place_is (standing now merge_set).members name j f) e in
+      ap (λ b. cond b Merged (fate_at (place (standing now merge_set).members name))) out ∙ ap fate_at (f ∙ ap Some same)
 
-  stays_at : (name : Name) (k : ℕ) → fate_of (Some name) ≡ Stays k → (has names name ≡ false) × (slice_get (standing now site).members k ≡ Some name)
-  stays_at name k = by (has names name) refl (place (standing now site).members name) refl
+  stays_at : (name : Name) (k : ℕ) → fate_of (Some name) ≡ Stays k → (has names name ≡ false) × (slice_get (standing now merge_set).members k ≡ Some name)
+  stays_at name k = by (has names name) refl (place (standing now merge_set).members name) refl
     where
-      by : (b : Bool) → has names name ≡ b → (r : Option ℕ) → place (standing now site).members name ≡ r → cond b Merged (fate_at r) ≡ Stays k
-          → (has names name ≡ false) × (slice_get (standing now site).members k ≡ Some name)
+      by : (b : Bool) → has names name ≡ b → (r : Option ℕ) → place (standing now merge_set).members name ≡ r → cond b Merged (fate_at r) ≡ Stays k
+          → (has names name ≡ false) × (slice_get (standing now merge_set).members k ≡ Some name)
       by true e r f d = absurd (cc)
       by false e None f d = absurd (cc)
-      by false e (Some j) f d = let same : j ≡ k = cc in (e, place_is (standing now site).members name k (f ∙ ap Some same))
+      by false e (Some j) f d = let same : j ≡ k = cc in (e, place_is (standing now merge_set).members name k (f ∙ ap Some same))
 
   of_merged : (name : Name) → fate_of (Some name) ≡ Merged → has names name ≡ true
-  of_merged name = by (has names name) refl (place (standing now site).members name)
+  of_merged name = by (has names name) refl (place (standing now merge_set).members name)
     where
       by : (b : Bool) → has names name ≡ b → (r : Option ℕ) → cond b Merged (fate_at r) ≡ Merged → has names name ≡ true
       by true e r f = e
@@ -258,106 +258,106 @@ module _ (first : Office) (site : Site) (mergeable : AreMergeable first site) (n
 
   of_unmerged : (name : Name) → (fate_of (Some name) ≡ Merged → ⊥) → has names name ≡ false
   of_unmerged name never = elim (cases_Bool (has names name)) [
-    | inl h ↦ absurd (never (ap (λ b. cond b Merged (fate_at (place (standing now site).members name))) h))
+    | inl h ↦ absurd (never (ap (λ b. cond b Merged (fate_at (place (standing now merge_set).members name))) h))
     | inr h ↦ h
   ]
 
   -- the root's rows
-  root_now : (cell : CellId) → next_setting.root cell ≡ rows_with first site names cell
+  root_now : (cell : CellId) → next_setting.root cell ≡ rows_with first merge_set names cell
   unfolding root_content
   root_now = inv.rows
 
-  idle_root : (cell : CellId) → AreIdle old_setting cell → rows_with first site names cell ≡ old_setting.root cell
-  idle_root cell idle = taken_is (setting_of first site) names (record { apart = mergeable.apart; part = inv.part }) cell
-      ∙ by (changer (setting_of first site) cell) (changer_is (setting_of first site) cell)
+  idle_root : (cell : CellId) → AreIdle old_setting cell → rows_with first merge_set names cell ≡ old_setting.root cell
+  idle_root cell idle = taken_is (setting_of first merge_set) names (record { apart = mergeable.apart; part = inv.part }) cell
+      ∙ by (changer (setting_of first merge_set) cell) (changer_is (setting_of first merge_set) cell)
     where
-      by : (x : Option Name) → IsChanger (setting_of first site) site.members cell x → standing_row (setting_of first site) names cell x ≡ old_setting.root cell
+      by : (x : Option Name) → IsChanger (setting_of first merge_set) merge_set.members cell x → standing_row (setting_of first merge_set) names cell x ≡ old_setting.root cell
       by None h = refl
       by (Some name) h =
-          let (row, changed) = changes_of (setting_of first site) name cell h.0 h.1 in
-          let (k, e) = position_of site.members name (sym (has_is site.members name) ∙ h.0) in
-          absurd (idle_or_changed old_setting k cell row idle (changes_at first site k name cell row e changed.after))
+          let (row, changed) = changes_of (setting_of first merge_set) name cell h.0 h.1 in
+          let (k, e) = position_of merge_set.members name (sym (has_is merge_set.members name) ∙ h.0) in
+          absurd (idle_or_changed old_setting k cell row idle (changes_at first merge_set k name cell row e changed.after))
 
-  merged_root : (name : Name) (cell : CellId) (row : Option Row) → is_member site name ≡ true → has names name ≡ true → changed_by first name cell ≡ Some row
-      → rows_with first site names cell ≡ row
+  merged_root : (name : Name) (cell : CellId) (row : Option Row) → is_member merge_set name ≡ true → has names name ≡ true → changed_by first name cell ≡ Some row
+      → rows_with first merge_set names cell ≡ row
   merged_root name cell row member h e =
-      order_law first site names (name ∷ names) mergeable inv.part (again first site mergeable names now inv name member h) cell
-      ∙ taken_over (setting_of first site) name names cell ∙ ap (λ r. unwrap_or r (rows_with first site names cell)) e
+      order_law first merge_set names (name ∷ names) mergeable inv.part (again first merge_set mergeable names now inv name member h) cell
+      ∙ taken_over (setting_of first merge_set) name names cell ∙ ap (λ r. unwrap_or r (rows_with first merge_set names cell)) e
 
   is_later : IsLater old_setting next_setting fate
   is_later = record {
     rules = inv.book;
-    apart = apart_by_position first site mergeable;
+    apart = apart_by_position first merge_set mergeable;
     came = λ y cell row changed.
-        (let at = named now (standing now site) y cell row changed in
+        (let at = named now (standing now merge_set) y cell row changed in
         let both = stands_at y at.name at.is_at in
         let before = waits at.name cell row (sym (changes_now at.name both.0 both.1 cell) ∙ at.changes) in
-        let (k, e) = position_of site.members at.name both.0 in
-        (k, changes_at first site k at.name cell row e before.1, ap fate_of e ∙ fate_stays at.name y before.0 at.is_at));
+        let (k, e) = position_of merge_set.members at.name both.0 in
+        (k, changes_at first merge_set k at.name cell row e before.1, ap fate_of e ∙ fate_stays at.name y before.0 at.is_at));
     stayed = λ x y cell row changed e.
-        (let at = named first site x cell row changed in
+        (let at = named first merge_set x cell row changed in
         let out = stays_at at.name y (sym (ap fate_of at.is_at) ∙ e) in
         let both = stands_at y at.name out.1 in
-        changes_at now (standing now site) y at.name cell row out.1
+        changes_at now (standing now merge_set) y at.name cell row out.1
         (changes_now at.name both.0 both.1 cell ∙ ap (λ b. cond b None (changed_by first at.name cell)) out.0 ∙ at.changes));
     idle = λ cell idle. root_now cell ∙ idle_root cell idle;
     merged = λ x cell row changed e.
-        (let at = named first site x cell row changed in
-        root_now cell ∙ merged_root at.name cell row (has_at site.members x at.name at.is_at) (of_merged at.name (sym (ap fate_of at.is_at) ∙ e)) at.changes);
+        (let at = named first merge_set x cell row changed in
+        root_now cell ∙ merged_root at.name cell row (has_at merge_set.members x at.name at.is_at) (of_merged at.name (sym (ap fate_of at.is_at) ∙ e)) at.changes);
     unmerged = λ x cell row changed not_merged.
-        (let at = named first site x cell row changed in
-        root_now cell ∙ untaken first site names at.name cell mergeable.apart inv.part (has_at site.members x at.name at.is_at)
+        (let at = named first merge_set x cell row changed in
+        root_now cell ∙ untaken first merge_set names at.name cell mergeable.apart inv.part (has_at merge_set.members x at.name at.is_at)
         (of_unmerged at.name (λ h. not_merged (ap fate_of at.is_at ∙ h))) (ap is_some at.changes));
   }
 
-  standing_covered : (entries : List Entry) → Covers first site entries → (more : List Entry) × Covers now (standing now site) more
+  standing_covered : (entries : List Entry) → Covers first merge_set entries → (more : List Entry) × Covers now (standing now merge_set) more
   standing_covered entries covers =
-      let before : AreCovered old_setting entries = subst (λ c. AreCovered c entries) (numbered_is first site) covers.covered in
+      let before : AreCovered old_setting entries = subst (λ c. AreCovered c entries) (numbered_is first merge_set) covers.covered in
       let more = map (on_entry old_setting next_setting fate) entries in (
         more,
         record {
           mergeable = standing_mergeable;
-          covered = subst (λ c. AreCovered c more) (sym (numbered_is now (standing now site))) (carried old_setting next_setting fate is_later entries before);
+          covered = subst (λ c. AreCovered c more) (sym (numbered_is now (standing now merge_set))) (carried old_setting next_setting fate is_later entries before);
         },
       )
 
--- where entries cover a site and every rule holds in its root, all is clear
-all_clear : (o : Office) (site : Site) (entries : List Entry) → Covers o site entries → RootHolds o site → StaysClear o site
-all_clear o site entries covers holds = record {
-  free = no_member_fault o site covers.mergeable;
+-- where entries cover a merge set and every rule holds in its root, all is clear
+all_clear : (o : Office) (merge_set : MergeSet) (entries : List Entry) → Covers o merge_set entries → RootHolds o merge_set → StaysClear o merge_set
+all_clear o merge_set entries covers holds = record {
+  free = no_member_fault o merge_set covers.mergeable;
   mergeable = covers.mergeable;
   holds = holds;
-  unblocked = λ order cause. safe_plan o site order cause (safe_law o site entries covers holds) holds;
+  unblocked = λ order cause. safe_plan o merge_set order cause (safe_law o merge_set entries covers holds) holds;
 }
 
 pub lasting_cover : LastingCoverLaw
-lasting_cover o site entries commands lost covers quiet = standing_covered o site covers.mergeable _ _ (quiet_list_law o site commands lost covers.mergeable
+lasting_cover o merge_set entries commands lost covers quiet = standing_covered o merge_set covers.mergeable _ _ (quiet_list_law o merge_set commands lost covers.mergeable
     quiet) entries covers
 
-pub lasting_holds : (o : Office) (site : Site) (entries : List Entry) (commands : List Command) (lost : ℕ → Bool) → Covers o site entries → RootHolds o site
-    → AreQuiet o site commands lost
-    → let now = (run o commands lost).office in RootHolds now (standing now site)
-lasting_holds o site entries commands lost covers holds quiet =
-    standing_holds o site covers.mergeable _ _ (quiet_list_law o site commands lost covers.mergeable quiet) (keeps_rules o site entries covers holds)
+pub lasting_holds : (o : Office) (merge_set : MergeSet) (entries : List Entry) (commands : List Command) (lost : ℕ → Bool) → Covers o merge_set entries → RootHolds o merge_set
+    → AreQuiet o merge_set commands lost
+    → let now = (run o commands lost).office in RootHolds now (standing now merge_set)
+lasting_holds o merge_set entries commands lost covers holds quiet =
+    standing_holds o merge_set covers.mergeable _ _ (quiet_list_law o merge_set commands lost covers.mergeable quiet) (keeps_rules o merge_set entries covers holds)
 
 pub lasting : LastingLaw
-lasting o site entries commands lost covers holds quiet =
+lasting o merge_set entries commands lost covers holds quiet =
     let now = (run o commands lost).office in
-    let (others, covers_now) = lasting_cover o site entries commands lost covers quiet in
-    all_clear now (standing now site) others covers_now (lasting_holds o site entries commands lost covers holds quiet)
+    let (others, covers_now) = lasting_cover o merge_set entries commands lost covers quiet in
+    all_clear now (standing now merge_set) others covers_now (lasting_holds o merge_set entries commands lost covers holds quiet)
 
 -- in whichever order the members that stand are named ------------------------------------------------------------------
 
 pub lasting_cover_reordered : LastingCoverReorderedLaw
-lasting_cover_reordered o site entries commands lost covers quiet other same once =
+lasting_cover_reordered o merge_set entries commands lost covers quiet other same once =
     let now = (run o commands lost).office in
-    let (others, covers_now) = lasting_cover o site entries commands lost covers quiet in
-    (others, covers_reordered now (standing now site) other others same once covers_now)
+    let (others, covers_now) = lasting_cover o merge_set entries commands lost covers quiet in
+    (others, covers_reordered now (standing now merge_set) other others same once covers_now)
 
 pub lasting_reordered : LastingReorderedLaw
 unfolding root_content
-lasting_reordered o site entries commands lost covers holds quiet other same once =
+lasting_reordered o merge_set entries commands lost covers holds quiet other same once =
     let now = (run o commands lost).office in
-    let (others, covers_now) = lasting_cover_reordered o site entries commands lost covers quiet other same once in
-    let holds_now = lasting_holds o site entries commands lost covers holds quiet in
+    let (others, covers_now) = lasting_cover_reordered o merge_set entries commands lost covers quiet other same once in
+    let holds_now = lasting_holds o merge_set entries commands lost covers holds quiet in
     all_clear now other others covers_now (subst (λ root. Holds now.book (row_at (content_of now root))) (sym same.root) holds_now)

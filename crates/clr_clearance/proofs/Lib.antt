@@ -17,6 +17,6 @@ pub mod ReplyLemmas
 pub mod RunLemmas
 pub mod SafeLemmas
 pub mod SharedLemmas
-pub mod SiteLemmas
+pub mod MergeSetLemmas
 pub mod StaticLemmas
 pub mod VerdictLemmas

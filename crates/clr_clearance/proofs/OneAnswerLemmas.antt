@@ -1,4 +1,4 @@
--- No site has two plans, and no list of commands two quiet starts.
+-- No merge set has two plans, and no list of commands two quiet starts.
 use Rattle.std.proofs.Common.{◌≡◌, ◌⊎◌, ℕ, suc, ◌+◌, ◌<◌, true, false, inl, inr, refl, sym, ap, ◌∙◌, subst, arith}
 use Rattle.std.proofs.Common.{List, [], ◌∷◌, length, map, slice_get, take, Option, Some, None}
 use Rattle.std.proofs.lemmas.Bool.{or_parts, true≢false}
@@ -19,7 +19,7 @@ use Rattle.clr_needs.proofs.VersionOrder.{version_total}
 use Rattle.clr_steps.specs.declared.commands.Command.{Command}
 use Rattle.clr_steps.specs.declared.commands.Reply.{Reply}
 use Rattle.clr_steps.specs.Offices.{Office}
-use Rattle.clr_steps.specs.Quiet.{Site, is_quiet}
+use Rattle.clr_steps.specs.Quiet.{MergeSet, is_quiet}
 use Rattle.clr_steps.specs.Steps.{Answer, AreAnswers, answer, is_lost, lost_in, step, step_or_lost}
 use Rattle.clr_steps.proofs.FirstLemmas.{some_is}
 use Rattle.clr_steps.proofs.RunLemmas.{lost_later}
@@ -29,7 +29,7 @@ use Rattle.clr_clearance.specs.ClearedRuns.{IsQuietStart, IsStop}
 use Rattle.clr_clearance.specs.OneAnswer.{OneBlockedLaw, OneClearedLaw, OneKindLaw, OneStartLaw, OneUnfitLaw}
 use Rattle.clr_clearance.specs.Plans.{ArePicked, IsBlocked, IsCleared, IsFirstUnpicked, of_conflict, of_shared, of_unpicked}
 use Rattle.clr_clearance.specs.Runs.{AreQuiet}
-use Rattle.clr_clearance.specs.Sites.{setting_by_position}
+use Rattle.clr_clearance.specs.MergeSets.{setting_by_position}
 use Rattle.clr_clearance.specs.Verdicts.{first_conflict, member_fault, names_fault}
 use Rattle.clr_clearance.proofs.ClearLemmas.{neither, order}
 use Rattle.clr_clearance.proofs.OrderLemmas.{in_order}
@@ -146,64 +146,64 @@ module _ (c : Setting ℕ) where
 
 -- plans ---------------------------------------------------------------------------------------------------
 
-module _ (o : Office) (site : Site) where
-  free_of_names : member_fault o site ≡ None → names_fault o site ≡ None
-  free_of_names none = (neither (names_fault o site) (first_conflict o 0 site.members) none).0
+module _ (o : Office) (merge_set : MergeSet) where
+  free_of_names : member_fault o merge_set ≡ None → names_fault o merge_set ≡ None
+  free_of_names none = (neither (names_fault o merge_set) (first_conflict o 0 merge_set.members) none).0
 
-  free_of_conflicts : member_fault o site ≡ None → first_conflict o 0 site.members ≡ None
-  free_of_conflicts none = (neither (names_fault o site) (first_conflict o 0 site.members) none).1
+  free_of_conflicts : member_fault o merge_set ≡ None → first_conflict o 0 merge_set.members ≡ None
+  free_of_conflicts none = (neither (names_fault o merge_set) (first_conflict o 0 merge_set.members) none).1
 
   -- a member in conflict fails a test of members
-  not_free : (v : Verdict) → first_conflict o 0 site.members ≡ Some v → member_fault o site ≡ None → ⊥
-  not_free v found none = not_both (first_conflict o 0 site.members) v (free_of_conflicts none) found
+  not_free : (v : Verdict) → first_conflict o 0 merge_set.members ≡ Some v → member_fault o merge_set ≡ None → ⊥
+  not_free v found none = not_both (first_conflict o 0 merge_set.members) v (free_of_conflicts none) found
 
-  blocked_names : (order : List ℕ) (cause : Verdict) → IsBlocked o site order cause → names_fault o site ≡ None
+  blocked_names : (order : List ℕ) (cause : Verdict) → IsBlocked o merge_set order cause → names_fault o merge_set ≡ None
   blocked_names order cause (of_conflict at cell count none found same is) = none
   blocked_names order cause (of_shared cell i j none shared same is) = free_of_names none
   blocked_names order cause (of_unpicked n none apart least blocks is) = free_of_names none
 
-  not_blocked : (entries : List Entry) (order : List ℕ) (cause : Verdict) → IsCleared o site entries → IsBlocked o site order cause → ⊥
+  not_blocked : (entries : List Entry) (order : List ℕ) (cause : Verdict) → IsCleared o merge_set entries → IsBlocked o merge_set order cause → ⊥
   not_blocked entries order cause cleared (of_conflict at cell count none found same is) = not_free (verdict.Conflict at cell count) found cleared.free
   not_blocked entries order cause cleared (of_shared cell i j none shared same is) = not_apart _ cell i j shared (cleared.apart cell)
   not_blocked entries order cause cleared (of_unpicked n none apart least blocks is) = picked_or_unpicked _ entries n cleared.picked least
 
 pub one_kind : OneKindLaw
-one_kind o site v entries order cause = (
-  λ both. not_both (names_fault o site) v (free_of_names o site both.1.free) both.0,
-  λ both. not_both (names_fault o site) v (blocked_names o site order cause both.1) both.0,
-  λ both. not_blocked o site entries order cause both.0 both.1,
+one_kind o merge_set v entries order cause = (
+  λ both. not_both (names_fault o merge_set) v (free_of_names o merge_set both.1.free) both.0,
+  λ both. not_both (names_fault o merge_set) v (blocked_names o merge_set order cause both.1) both.0,
+  λ both. not_blocked o merge_set entries order cause both.0 both.1,
 )
 
 pub one_unfit : OneUnfitLaw
-one_unfit o site v w = one_some (names_fault o site) v w
+one_unfit o merge_set v w = one_some (names_fault o merge_set) v w
 
 pub one_cleared : OneClearedLaw
-one_cleared o site entries others one two = one_picked _ entries others one.picked two.picked
+one_cleared o merge_set entries others one two = one_picked _ entries others one.picked two.picked
 
 pub one_blocked : OneBlockedLaw
-one_blocked o site order other cause reason (of_conflict at cell count none found same is) (of_conflict to q many free found_too same_too is_too) =
-    let one : verdict.Conflict at cell count ≡ verdict.Conflict to q many = one_some (first_conflict o 0 site.members) _ _ found found_too in
+one_blocked o merge_set order other cause reason (of_conflict at cell count none found same is) (of_conflict to q many free found_too same_too is_too) =
+    let one : verdict.Conflict at cell count ≡ verdict.Conflict to q many = one_some (first_conflict o 0 merge_set.members) _ _ found found_too in
     let position : at ≡ to = cc in
     (same ∙ ap (λ k. k ∷ []) position ∙ sym same_too, is ∙ one ∙ sym is_too)
-one_blocked o site order other cause reason (of_conflict at cell count none found same is) (of_shared q i j free shared same_too is_too) =
-    absurd (not_free o site _ found free)
-one_blocked o site order other cause reason (of_conflict at cell count none found same is) (of_unpicked n free apart least blocks is_too) =
-    absurd (not_free o site _ found free)
-one_blocked o site order other cause reason (of_shared q i j free shared same is) (of_conflict at cell count none found same_too is_too) =
-    absurd (not_free o site _ found free)
-one_blocked o site order other cause reason (of_shared q i j free shared same is) (of_shared r k l free_too shared_too same_too is_too) =
+one_blocked o merge_set order other cause reason (of_conflict at cell count none found same is) (of_shared q i j free shared same_too is_too) =
+    absurd (not_free o merge_set _ found free)
+one_blocked o merge_set order other cause reason (of_conflict at cell count none found same is) (of_unpicked n free apart least blocks is_too) =
+    absurd (not_free o merge_set _ found free)
+one_blocked o merge_set order other cause reason (of_shared q i j free shared same is) (of_conflict at cell count none found same_too is_too) =
+    absurd (not_free o merge_set _ found free)
+one_blocked o merge_set order other cause reason (of_shared q i j free shared same is) (of_shared r k l free_too shared_too same_too is_too) =
     let one : verdict.SharedCell q i j ≡ verdict.SharedCell r k l = one_cell _ q r i j k l shared shared_too in
     let first : i ≡ k = cc in
     let second : j ≡ l = cc in
     (same ∙ (λ t. first t ∷ second t ∷ []) ∙ sym same_too, is ∙ one ∙ sym is_too)
-one_blocked o site order other cause reason (of_shared q i j free shared same is) (of_unpicked n free_too apart least blocks is_too) =
+one_blocked o merge_set order other cause reason (of_shared q i j free shared same is) (of_unpicked n free_too apart least blocks is_too) =
     absurd (not_apart _ q i j shared (apart q))
-one_blocked o site order other cause reason (of_unpicked n free apart least blocks is) (of_conflict at cell count none found same_too is_too) =
-    absurd (not_free o site _ found free)
-one_blocked o site order other cause reason (of_unpicked n free apart least blocks is) (of_shared q i j free_too shared same_too is_too) =
+one_blocked o merge_set order other cause reason (of_unpicked n free apart least blocks is) (of_conflict at cell count none found same_too is_too) =
+    absurd (not_free o merge_set _ found free)
+one_blocked o merge_set order other cause reason (of_unpicked n free apart least blocks is) (of_shared q i j free_too shared same_too is_too) =
     absurd (not_apart _ q i j shared (apart q))
-one_blocked o site order other cause reason (of_unpicked n free apart least blocks is) (of_unpicked m free_too apart_too least_too blocks_too is_too) =
-    let c = setting_by_position o site in
+one_blocked o merge_set order other cause reason (of_unpicked n free apart least blocks is) (of_unpicked m free_too apart_too least_too blocks_too is_too) =
+    let c = setting_by_position o merge_set in
     let one = one_unpicked c n m least least_too in
     let same = one_blocks c m order other least_too.touched (subst (λ k. Blocks c k order) one blocks) blocks_too in
     (same, is ∙ ap verdict.Uncovered one ∙ sym is_too)
@@ -211,43 +211,43 @@ one_blocked o site order other cause reason (of_unpicked n free apart least bloc
 -- quiet starts --------------------------------------------------------------------------------------------
 
 -- the replies end with the list, or at a command that isn't quiet
-abbrev Ends : Site → List Command → List Reply → Office → Type 0
-Ends site commands replies left =
-    (length replies ≡ length commands) ⊎ ((c : Command) × (slice_get commands (length replies) ≡ Some c) × (is_quiet left site c ≡ false))
+abbrev Ends : MergeSet → List Command → List Reply → Office → Type 0
+Ends merge_set commands replies left =
+    (length replies ≡ length commands) ⊎ ((c : Command) × (slice_get commands (length replies) ≡ Some c) × (is_quiet left merge_set c ≡ false))
 
-ends_of : (site : Site) (commands : List Command) (replies : List Reply) (left : Office) (stopped : Option ℕ)
-    → IsStop site commands replies left stopped → Ends site commands replies left
-ends_of site commands replies left None stop = inl stop
-ends_of site commands replies left (Some number) stop = inr stop.1
+ends_of : (merge_set : MergeSet) (commands : List Command) (replies : List Reply) (left : Office) (stopped : Option ℕ)
+    → IsStop merge_set commands replies left stopped → Ends merge_set commands replies left
+ends_of merge_set commands replies left None stop = inl stop
+ends_of merge_set commands replies left (Some number) stop = inr stop.1
 
-record IsStart (o : Office) (site : Site) (commands : List Command) (replies : List Reply) (left : Office) : Type 0 where
+record IsStart (o : Office) (merge_set : MergeSet) (commands : List Command) (replies : List Reply) (left : Office) : Type 0 where
   answers : AreAnswers o (take (length replies) commands) replies left
-  quiet : AreQuiet o site (take (length replies) commands) (lost_in replies)
-  ends : Ends site commands replies left
+  quiet : AreQuiet o merge_set (take (length replies) commands) (lost_in replies)
+  ends : Ends merge_set commands replies left
   found : list_any is_lost replies ≡ false
 
-start_of : (o : Office) (site : Site) (commands : List Command) (replies : List Reply) (left : Office) (stopped : Option ℕ)
-    → IsQuietStart o site commands replies left stopped → list_any is_lost replies ≡ false → IsStart o site commands replies left
-start_of o site commands replies left stopped start found = record {
+start_of : (o : Office) (merge_set : MergeSet) (commands : List Command) (replies : List Reply) (left : Office) (stopped : Option ℕ)
+    → IsQuietStart o merge_set commands replies left stopped → list_any is_lost replies ≡ false → IsStart o merge_set commands replies left
+start_of o merge_set commands replies left stopped start found = record {
   answers = start.answers;
   quiet = start.quiet;
-  ends = ends_of site commands replies left stopped start.stop;
+  ends = ends_of merge_set commands replies left stopped start.stop;
   found = found;
 }
 
-module _ (site : Site) (c : Command) (cs : List Command) where
+module _ (merge_set : MergeSet) (c : Command) (cs : List Command) where
   -- a first reply that isn't lost, and the rest
   record IsFirst (o : Office) (reply : Reply) (replies : List Reply) (left : Office) : Type 0 where
-    quiet : is_quiet o site c ≡ true
+    quiet : is_quiet o merge_set c ≡ true
     is : reply ≡ (step o c).reply
-    rest : IsStart (step o c).office site cs replies left
+    rest : IsStart (step o c).office merge_set cs replies left
 
-  ends_later : (reply : Reply) (replies : List Reply) (left : Office) → Ends site (c ∷ cs) (reply ∷ replies) left → Ends site cs replies left
+  ends_later : (reply : Reply) (replies : List Reply) (left : Office) → Ends merge_set (c ∷ cs) (reply ∷ replies) left → Ends merge_set cs replies left
   ends_later reply replies left (inl same) = inl (omega (arith, same))
   ends_later reply replies left (inr (d, at, noisy)) = inr (d, at, noisy)
 
   first_of_start : (o : Office) (reply : Reply) (replies : List Reply) (left : Office)
-      → IsStart o site (c ∷ cs) (reply ∷ replies) left → IsFirst o reply replies left
+      → IsStart o merge_set (c ∷ cs) (reply ∷ replies) left → IsFirst o reply replies left
   first_of_start o reply replies left start =
       let (next, is, rest) = start.answers in
       let parts = or_parts (is_lost reply) (list_any is_lost replies) start.found in
@@ -257,46 +257,46 @@ module _ (site : Site) (c : Command) (cs : List Command) where
       let same : given ≡ (step o c).office = ap (λ b. (step_or_lost b o c).office) parts.0 in
       let lost : (λ k. lost_in (reply ∷ replies) (k + 1)) ≡ lost_in replies = λ i k. lost_later reply replies k i in
       let performed = take (length replies) cs in
-      let behind : AreQuiet given site performed (λ k. lost_in (reply ∷ replies) (k + 1)) = λ k x g. start.quiet (suc k) x g in
+      let behind : AreQuiet given merge_set performed (λ k. lost_in (reply ∷ replies) (k + 1)) = λ k x g. start.quiet (suc k) x g in
       record {
         quiet = start.quiet 0 c refl;
         is = ap (λ (a : Answer). a.reply) done;
         rest = record {
           answers = subst (λ p. AreAnswers p performed replies left) office rest;
-          quiet = subst (λ p. AreQuiet p site performed (lost_in replies)) same (subst (AreQuiet given site performed) lost behind);
+          quiet = subst (λ p. AreQuiet p merge_set performed (lost_in replies)) same (subst (AreQuiet given merge_set performed) lost behind);
           ends = ends_later reply replies left start.ends;
           found = parts.1;
         };
       }
 
   -- where nothing is answered the first command isn't quiet
-  stops_first : (o left : Office) → IsStart o site (c ∷ cs) [] left → is_quiet o site c ≡ false
+  stops_first : (o left : Office) → IsStart o merge_set (c ∷ cs) [] left → is_quiet o merge_set c ≡ false
   stops_first o left start = by start.ends
     where
-      by : Ends site (c ∷ cs) [] left → is_quiet o site c ≡ false
+      by : Ends merge_set (c ∷ cs) [] left → is_quiet o merge_set c ≡ false
       by (inl same) = absurd (omega (arith, same))
       by (inr (d, at, noisy)) =
           let one : c ≡ d = cc in
-          ap (is_quiet o site) one ∙ ap (λ p. is_quiet p site d) (sym start.answers) ∙ noisy
+          ap (is_quiet o merge_set) one ∙ ap (λ p. is_quiet p merge_set d) (sym start.answers) ∙ noisy
 
   -- no list of replies stops where another goes on
   not_both_ways : (o left rest : Office) (reply : Reply) (replies : List Reply)
-      → IsStart o site (c ∷ cs) [] left → IsStart o site (c ∷ cs) (reply ∷ replies) rest → ⊥
+      → IsStart o merge_set (c ∷ cs) [] left → IsStart o merge_set (c ∷ cs) (reply ∷ replies) rest → ⊥
   not_both_ways o left rest reply replies one two =
       true≢false (sym (first_of_start o reply replies rest two).quiet ∙ stops_first o left one)
 
-same_start : (o : Office) (site : Site) (commands : List Command) (replies others : List Reply) (left rest : Office)
-    → IsStart o site commands replies left → IsStart o site commands others rest → (replies ≡ others) × (left ≡ rest)
-same_start o site commands [] [] left rest one two = (refl, one.answers ∙ sym two.answers)
-same_start o site [] [] (s ∷ ss) left rest one two = absurd two.answers
-same_start o site [] (r ∷ rs) others left rest one two = absurd one.answers
-same_start o site (c ∷ cs) [] (s ∷ ss) left rest one two = absurd (not_both_ways site c cs o left rest s ss one two)
-same_start o site (c ∷ cs) (r ∷ rs) [] left rest one two = absurd (not_both_ways site c cs o rest left r rs two one)
-same_start o site (c ∷ cs) (r ∷ rs) (s ∷ ss) left rest one two =
-    let head = first_of_start site c cs o r rs left one in
-    let head_too = first_of_start site c cs o s ss rest two in
+same_start : (o : Office) (merge_set : MergeSet) (commands : List Command) (replies others : List Reply) (left rest : Office)
+    → IsStart o merge_set commands replies left → IsStart o merge_set commands others rest → (replies ≡ others) × (left ≡ rest)
+same_start o merge_set commands [] [] left rest one two = (refl, one.answers ∙ sym two.answers)
+same_start o merge_set [] [] (s ∷ ss) left rest one two = absurd two.answers
+same_start o merge_set [] (r ∷ rs) others left rest one two = absurd one.answers
+same_start o merge_set (c ∷ cs) [] (s ∷ ss) left rest one two = absurd (not_both_ways merge_set c cs o left rest s ss one two)
+same_start o merge_set (c ∷ cs) (r ∷ rs) [] left rest one two = absurd (not_both_ways merge_set c cs o rest left r rs two one)
+same_start o merge_set (c ∷ cs) (r ∷ rs) (s ∷ ss) left rest one two =
+    let head = first_of_start merge_set c cs o r rs left one in
+    let head_too = first_of_start merge_set c cs o s ss rest two in
     let same : r ≡ s = head.is ∙ sym head_too.is in
-    let more = same_start (step o c).office site cs rs ss left rest head.rest head_too.rest in
+    let more = same_start (step o c).office merge_set cs rs ss left rest head.rest head_too.rest in
     (λ i. same i ∷ more.0 i, more.1)
 
 -- a command at which replies stop isn't past the end
@@ -304,17 +304,17 @@ not_past : (commands : List Command) (replies : List Reply) (c : Command)
     → length replies ≡ length commands → slice_get commands (length replies) ≡ Some c → ⊥
 not_past commands replies c same e = let within = slice_get_within commands (length replies) c e in omega (arith, same, within)
 
-same_stop : (site : Site) (commands : List Command) (replies : List Reply) (left : Office) (stopped halted : Option ℕ)
-    → IsStop site commands replies left stopped → IsStop site commands replies left halted → stopped ≡ halted
-same_stop site commands replies left None None one two = refl
-same_stop site commands replies left None (Some number) one two = absurd (not_past commands replies two.1.0 one two.1.1)
-same_stop site commands replies left (Some number) None one two = absurd (not_past commands replies one.1.0 two one.1.1)
-same_stop site commands replies left (Some number) (Some other) one two = ap Some (one.0 ∙ sym two.0)
+same_stop : (merge_set : MergeSet) (commands : List Command) (replies : List Reply) (left : Office) (stopped halted : Option ℕ)
+    → IsStop merge_set commands replies left stopped → IsStop merge_set commands replies left halted → stopped ≡ halted
+same_stop merge_set commands replies left None None one two = refl
+same_stop merge_set commands replies left None (Some number) one two = absurd (not_past commands replies two.1.0 one two.1.1)
+same_stop merge_set commands replies left (Some number) None one two = absurd (not_past commands replies one.1.0 two one.1.1)
+same_stop merge_set commands replies left (Some number) (Some other) one two = ap Some (one.0 ∙ sym two.0)
 
 pub one_start : OneStartLaw
-one_start o site commands replies others left rest stopped halted one two found found_too =
-    let (same, office) = same_start o site commands replies others left rest
-    (start_of o site commands replies left stopped one found)
-    (start_of o site commands others rest halted two found_too) in
-    let stop = subst (λ p. IsStop site commands others p stopped) office (subst (λ rs. IsStop site commands rs left stopped) same one.stop) in
-    (same, office, same_stop site commands others rest stopped halted stop two.stop)
+one_start o merge_set commands replies others left rest stopped halted one two found found_too =
+    let (same, office) = same_start o merge_set commands replies others left rest
+    (start_of o merge_set commands replies left stopped one found)
+    (start_of o merge_set commands others rest halted two found_too) in
+    let stop = subst (λ p. IsStop merge_set commands others p stopped) office (subst (λ rs. IsStop merge_set commands rs left stopped) same one.stop) in
+    (same, office, same_stop merge_set commands others rest stopped halted stop two.stop)

@@ -25,7 +25,7 @@ use Rattle.clr_steps.specs.declared.commands.Reply.TheVariants.{Done, RuleBroken
 use Rattle.clr_steps.specs.Names.{same_name}
 use Rattle.clr_steps.specs.Offices.{Office, content_of, is_kept, workspace}
 use Rattle.clr_steps.specs.Effects.{after_merge, after_remove, effect, merged_content}
-use Rattle.clr_steps.specs.Quiet.{Member, Site, is_member, is_root, member_of}
+use Rattle.clr_steps.specs.Quiet.{Member, MergeSet, is_member, is_root, member_of}
 use Rattle.clr_steps.specs.Refusals.{breaks, conflict, first_of, in_conflict, refusal, refusals_of}
 use Rattle.clr_steps.specs.Steps.{Answer, answer, step}
 use Rattle.clr_steps.proofs.FindLemmas.{found_name, same_is as same_name_is, same_itself as same_name_itself}
@@ -38,7 +38,7 @@ use Rattle.clr_clearance.specs.Verdicts.{first_conflict}
 use Rattle.clr_clearance.proofs.PickLemmas.{blockers_are, unpicked_is_uncovered}
 use Rattle.clr_clearance.specs.Runs.{merged_by}
 use Rattle.clr_clearance.specs.Safety.{is_clash}
-use Rattle.clr_clearance.specs.Sites.{AreMergeable, RootHolds, setting_by_position, rows_with, setting_of}
+use Rattle.clr_clearance.specs.MergeSets.{AreMergeable, RootHolds, setting_by_position, rows_with, setting_of}
 use Rattle.clr_clearance.proofs.AnswerLemmas.{broken_or_none, merge_claim, of_standing, performed_as, step_as}
 use Rattle.clr_clearance.proofs.EffectLemmas.{StepsTo, merge_steps, shown}
 use Rattle.clr_clearance.proofs.MemberLemmas.{it, merged_rows, not_root, rows_last}
@@ -95,126 +95,126 @@ unbroken_holds o name content kept none = holds_where (is_kept o name) o.book co
 
 -- merges of members one after another -------------------------------------------------------------------------
 
-module _ (first : Office) (site : Site) (mergeable : AreMergeable first site) where
+module _ (first : Office) (merge_set : MergeSet) (mergeable : AreMergeable first merge_set) where
   abbrev AllStand : Office → Type 0
-  AllStand now = (name : Name) → is_member site name ≡ true → is_some (shown now name) ≡ true
+  AllStand now = (name : Name) → is_member merge_set name ≡ true → is_some (shown now name) ≡ true
 
   stands_as : (r : Option Workspace) → is_some (option_map member_of r) ≡ true → (w : Workspace) × (r ≡ Some w)
   stands_as None h = absurd (false≢true h)
   stands_as (Some w) h = (w, refl)
 
-  module _ (names : List Name) (now : Office) (inv : Invariant first site names now) (name : Name) (member : is_member site name ≡ true) where
-    kept_above : (w : Workspace) → is_root site w.parent ≡ true → is_kept now w.parent ≡ true
+  module _ (names : List Name) (now : Office) (inv : Invariant first merge_set names now) (name : Name) (member : is_member merge_set name ≡ true) where
+    kept_above : (w : Workspace) → is_root merge_set w.parent ≡ true → is_kept now w.parent ≡ true
     unfolding is_root
-    kept_above w under = ap (is_kept now) (same_name_is w.parent site.root under) ∙ inv.kept
+    kept_above w under = ap (is_kept now) (same_name_is w.parent merge_set.root under) ∙ inv.kept
 
-    stands_still : (w : Workspace) (m : Member) → StepsTo site now (after_merge now w) w.name (merged_content now w) (Some m) → AllStand now
+    stands_still : (w : Workspace) (m : Member) → StepsTo merge_set now (after_merge now w) w.name (merged_content now w) (Some m) → AllStand now
         → AllStand (after_merge now w)
     stands_still w m steps stand other h = by (same_name w.name other) refl
       where
         by : (b : Bool) → same_name w.name other ≡ b → is_some (shown (after_merge now w) other) ≡ true
         by true p = ap (λ k. is_some (shown (after_merge now w) k)) (sym (same_name_is w.name other p)) ∙ ap is_some steps.here
-        by false p = ap is_some (steps.others other (not_root first site mergeable names now inv other h) p) ∙ stand other h
+        by false p = ap is_some (steps.others other (not_root first merge_set mergeable names now inv other h) p) ∙ stand other h
 
     -- the next office, where the merge doesn't clash
     record IsNext (next : Office) : Type 0 where
-      lasts : Invariant first site (names ++ name ∷ []) next
+      lasts : Invariant first merge_set (names ++ name ∷ []) next
       stand : AllStand now → AllStand next
-      holds : Holds first.book (rows_with first site (names ++ name ∷ []))
+      holds : Holds first.book (rows_with first merge_set (names ++ name ∷ []))
 
     next_is : (w : Workspace) → workspace now name ≡ Some w → is_clash (step now (merge_of name)).reply ≡ false → IsNext (step now (merge_of name)).office
     next_is w e calm = by (merge_ends now name w e)
       where
-        last : step now (merge_of name) ≡ answer Done (after_merge now w) → names ++ merged_by site (merge_of name) (step now (merge_of name)).reply ≡ names
+        last : step now (merge_of name) ≡ answer Done (after_merge now w) → names ++ merged_by merge_set (merge_of name) (step now (merge_of name)).reply ≡ names
             ++ name ∷ []
-        last is = ap (λ (a : Answer). names ++ merged_by site (merge_of name) a.reply) is ∙ ap (λ b. names ++ cond b (name ∷ []) []) member
+        last is = ap (λ (a : Answer). names ++ merged_by merge_set (merge_of name) a.reply) is ∙ ap (λ b. names ++ cond b (name ∷ []) []) member
 
         by : IsMerged now name w → IsNext (step now (merge_of name)).office
         by (clashes h) = absurd (false≢true (sym calm ∙ h))
         by (merged free none is) =
             let named = found_name now name w e in
             let own : workspace now w.name ≡ Some w = ap (workspace now) named ∙ e in
-            let under = (it first site mergeable names now inv name member w e).under in
-            let out : is_root site w.name ≡ false = ap (is_root site) named ∙ not_root first site mergeable names now inv name member in
-            let steps = merge_steps site now w inv.kept own out under in
+            let under = (it first merge_set mergeable names now inv name member w e).under in
+            let out : is_root merge_set w.name ≡ false = ap (is_root merge_set) named ∙ not_root first merge_set mergeable names now inv name member in
+            let steps = merge_steps merge_set now w inv.kept own out under in
             let office : (step now (merge_of name)).office ≡ after_merge now w = ap (λ (a : Answer). a.office) is in
             let good : Holds now.book (row_at (merged_content now w)) = unbroken_holds now w.parent (merged_content now w) (kept_above w under) none in
             record {
-              lasts = subst (λ ns. Invariant first site ns (step now (merge_of name)).office) (last is) (merge_claim first site names now name false mergeable
+              lasts = subst (λ ns. Invariant first merge_set ns (step now (merge_of name)).office) (last is) (merge_claim first merge_set names now name false mergeable
                   inv member).0;
               stand = λ stand other h. ap (λ p. is_some (shown p other)) office ∙ stands_still w _ steps stand other h;
-              holds = subst (Holds first.book) (λ i cell. (merged_rows first site mergeable names now inv name member w e cell
-                  ∙ rows_last first site mergeable names now inv name member cell) i)
+              holds = subst (Holds first.book) (λ i cell. (merged_rows first merge_set mergeable names now inv name member w e cell
+                  ∙ rows_last first merge_set mergeable names now inv name member cell) i)
                   (subst (λ b. Holds b (row_at (merged_content now w))) inv.book good);
             }
 
   -- where none clashes, every rule holds with the changes of all of them
-  all_done : (ns names : List Name) (now : Office) → Invariant first site names now → AllStand now → AreAmong (setting_of first site) ns site.members
+  all_done : (ns names : List Name) (now : Office) → Invariant first merge_set names now → AllStand now → AreAmong (setting_of first merge_set) ns merge_set.members
       → is_order_refused now ns ≡ false
-      → Holds first.book (rows_with first site names) → Holds first.book (rows_with first site (names ++ ns))
-  all_done [] names now inv stand part calm holds = subst (λ ms. Holds first.book (rows_with first site ms)) (sym (append-nil names)) holds
+      → Holds first.book (rows_with first merge_set names) → Holds first.book (rows_with first merge_set (names ++ ns))
+  all_done [] names now inv stand part calm holds = subst (λ ms. Holds first.book (rows_with first merge_set ms)) (sym (append-nil names)) holds
   all_done (n ∷ ns) names now inv stand part calm holds =
-      let member : is_member site n ≡ true = sym (has_is site.members n) ∙ part n (or_left (same_name n n) (has_by same_name ns n) (same_name_itself n)) in
+      let member : is_member merge_set n ≡ true = sym (has_is merge_set.members n) ∙ part n (or_left (same_name n n) (has_by same_name ns n) (same_name_itself n)) in
       let both = or_parts (is_clash (step now (merge_of n)).reply) (is_order_refused (step now (merge_of n)).office ns) calm in
       let (w, e) = stands_as (workspace now n) (stand n member) in
       let next = next_is names now inv n member w e both.0 in
-      subst (λ ms. Holds first.book (rows_with first site ms)) (append_assoc names (n ∷ []) ns)
+      subst (λ ms. Holds first.book (rows_with first merge_set ms)) (append_assoc names (n ∷ []) ns)
       (all_done ns (names ++ n ∷ []) (step now (merge_of n)).office next.lasts (next.stand stand)
       (λ k h. part k (or_right (same_name n k) (has_by same_name ns k) h)) both.1 next.holds)
 
   -- an order of merges that break a rule is refused
-  pub breaking_is_refused : (names : List Name) → AreAmong (setting_of first site) names site.members → RootHolds first site
-      → ¬ (Holds first.book (rows_with first site names)) → is_order_refused first names ≡ true
+  pub breaking_is_refused : (names : List Name) → AreAmong (setting_of first merge_set) names merge_set.members → RootHolds first merge_set
+      → ¬ (Holds first.book (rows_with first merge_set names)) → is_order_refused first names ≡ true
   breaking_is_refused names part holds breaking = elim (cases_Bool (is_order_refused first names)) [
     | inl refused ↦ refused
-    | inr calm ↦ absurd (breaking (all_done names [] first (at_first first site mergeable) all_stand part calm
-        (subst (Holds first.book) (λ i cell. sym (root_is (setting_of first site) cell) i) holds)))
+    | inr calm ↦ absurd (breaking (all_done names [] first (at_first first merge_set mergeable) all_stand part calm
+        (subst (Holds first.book) (λ i cell. sym (root_is (setting_of first merge_set) cell) i) holds)))
   ]
     where
       all_stand : AllStand first
-      all_stand name h = let child = child_under first site name (mergeable.children name h) in ap (λ r. is_some (option_map member_of r)) child.is
+      all_stand name h = let child = child_under first merge_set name (mergeable.children name h) in ap (λ r. is_some (option_map member_of r)) child.is
 
 -- members by position ----------------------------------------------------------------------------------------
 
-module _ (o : Office) (site : Site) where
-  pub names_part : (order : List ℕ) → AreAmong (setting_of o site) (members_at site order) site.members
+module _ (o : Office) (merge_set : MergeSet) where
+  pub names_part : (order : List ℕ) → AreAmong (setting_of o merge_set) (members_at merge_set order) merge_set.members
   names_part [] name h = absurd (false≢true h)
-  names_part (k ∷ ks) name h = by (slice_get site.members k) refl h (names_part ks name)
+  names_part (k ∷ ks) name h = by (slice_get merge_set.members k) refl h (names_part ks name)
     where
-      by : (r : Option Name) → slice_get site.members k ≡ r → has_by same_name (cons_option r (members_at site ks)) name ≡ true
-          → (has_by same_name (members_at site ks) name ≡ true → has_by same_name site.members name ≡ true) → has_by same_name site.members name ≡ true
+      by : (r : Option Name) → slice_get merge_set.members k ≡ r → has_by same_name (cons_option r (members_at merge_set ks)) name ≡ true
+          → (has_by same_name (members_at merge_set ks) name ≡ true → has_by same_name merge_set.members name ≡ true) → has_by same_name merge_set.members name ≡ true
       by None e h more = more h
-      by (Some n) e h more = elim (or_cases (same_name n name) (has_by same_name (members_at site ks) name) h) [
-        | inl same ↦ ap (has_by same_name site.members) (sym (same_name_is n name same)) ∙ member_there o site site.members k n e
+      by (Some n) e h more = elim (or_cases (same_name n name) (has_by same_name (members_at merge_set ks) name) h) [
+        | inl same ↦ ap (has_by same_name merge_set.members) (sym (same_name_is n name same)) ∙ member_there o merge_set merge_set.members k n e
         | inr other ↦ more other
       ]
 
-  pub rows_at : (order : List ℕ) (cell : CellId) → view_with (by_position (setting_of o site)) order cell ≡ rows_with o site (members_at site order) cell
-  rows_at [] cell = root_is (by_position (setting_of o site)) cell ∙ sym (root_is (setting_of o site) cell)
-  rows_at (k ∷ ks) cell = taken_cons (by_position (setting_of o site)) k ks cell ∙ by (slice_get site.members k) (rows_at ks cell)
+  pub rows_at : (order : List ℕ) (cell : CellId) → view_with (by_position (setting_of o merge_set)) order cell ≡ rows_with o merge_set (members_at merge_set order) cell
+  rows_at [] cell = root_is (by_position (setting_of o merge_set)) cell ∙ sym (root_is (setting_of o merge_set) cell)
+  rows_at (k ∷ ks) cell = taken_cons (by_position (setting_of o merge_set)) k ks cell ∙ by (slice_get merge_set.members k) (rows_at ks cell)
     where
-      by : (r : Option Name) → view_with (by_position (setting_of o site)) ks cell ≡ rows_with o site (members_at site ks) cell
-          → unwrap_or (after_member (setting_of o site) r cell) (view_with (by_position (setting_of o site)) ks cell)
-          ≡ rows_with o site (cons_option r (members_at site ks)) cell
+      by : (r : Option Name) → view_with (by_position (setting_of o merge_set)) ks cell ≡ rows_with o merge_set (members_at merge_set ks) cell
+          → unwrap_or (after_member (setting_of o merge_set) r cell) (view_with (by_position (setting_of o merge_set)) ks cell)
+          ≡ rows_with o merge_set (cons_option r (members_at merge_set ks)) cell
       by None more = more
-      by (Some n) more = ap (unwrap_or ((setting_of o site).after n cell)) more ∙ sym (taken_cons (setting_of o site) n (members_at site ks) cell)
+      by (Some n) more = ap (unwrap_or ((setting_of o merge_set).after n cell)) more ∙ sym (taken_cons (setting_of o merge_set) n (members_at merge_set ks) cell)
 
 -- a need that nothing covers ------------------------------------------------------------------------------------
 
 pub unpicked_is_refused : UnpickedLaw
-unpicked_is_refused o site n order mergeable holds needed none blocks = breaking_is_refused o site mergeable (members_at site order) (names_part o site order)
+unpicked_is_refused o merge_set n order mergeable holds needed none blocks = breaking_is_refused o merge_set mergeable (members_at merge_set order) (names_part o merge_set order)
     holds breaking
   where
-    breaking : Holds o.book (rows_with o site (members_at site order)) → ⊥
+    breaking : Holds o.book (rows_with o merge_set (members_at merge_set order)) → ⊥
     breaking good =
         let (a, b, possible, touched) = needed in
-        let uncovered = unpicked_is_uncovered (setting_by_position o site) n a b possible (none a b possible) in
-        let blockers = blockers_are (setting_by_position o site) n a b order possible (blocks a b possible) in
-        uncovered_breaks (by_position (setting_of o site)) n a b order
-        (subst (λ c. IsUncovered c n a b) (numbered_is o site) uncovered)
-        (subst (λ c. AreBlockers c n a b order) (numbered_is o site) blockers)
-        (apart_by_position o site mergeable)
-        (subst (Holds o.book) (λ i cell. sym (rows_at o site order cell) i) good)
+        let uncovered = unpicked_is_uncovered (setting_by_position o merge_set) n a b possible (none a b possible) in
+        let blockers = blockers_are (setting_by_position o merge_set) n a b order possible (blocks a b possible) in
+        uncovered_breaks (by_position (setting_of o merge_set)) n a b order
+        (subst (λ c. IsUncovered c n a b) (numbered_is o merge_set) uncovered)
+        (subst (λ c. AreBlockers c n a b order) (numbered_is o merge_set) blockers)
+        (apart_by_position o merge_set mergeable)
+        (subst (Holds o.book) (λ i cell. sym (rows_at o merge_set order cell) i) good)
 
 -- a member in conflict ---------------------------------------------------------------------------------------------
 
@@ -250,12 +250,12 @@ in_conflict_at o from (n ∷ ns) at cell count e = by (least_and_count (conflict
         let three : c.1 ≡ count = cc in
         (0, omega (arith, one), record { name = n; is_at = refl; conflicts_are = f ∙ (λ i. Some (two i, three i)) })
 
-pub conflict_is_refused : (o : Office) (site : Site) (at : ℕ) (cell : CellId) (count : ℕ) → first_conflict o 0 site.members
-    ≡ Some (verdict.Conflict at cell count) → is_order_refused o (members_at site (at ∷ [])) ≡ true
+pub conflict_is_refused : (o : Office) (merge_set : MergeSet) (at : ℕ) (cell : CellId) (count : ℕ) → first_conflict o 0 merge_set.members
+    ≡ Some (verdict.Conflict at cell count) → is_order_refused o (members_at merge_set (at ∷ [])) ≡ true
 unfolding conflict
-conflict_is_refused o site at cell count e =
-    let (j, same, found) = in_conflict_at o 0 site.members at cell count e in
-    let here : slice_get site.members at ≡ Some found.name = (let one : at ≡ j = omega (arith, same) in ap (slice_get site.members) one ∙ found.is_at) in
+conflict_is_refused o merge_set at cell count e =
+    let (j, same, found) = in_conflict_at o 0 merge_set.members at cell count e in
+    let here : slice_get merge_set.members at ≡ Some found.name = (let one : at ≡ j = omega (arith, same) in ap (slice_get merge_set.members) one ∙ found.is_at) in
     ap (λ r. is_order_refused o (cons_option r [])) here ∙ by found.name (workspace o found.name) refl found.conflicts_are
   where
     by : (name : Name) (r : Option Workspace) → workspace o name ≡ r → least_and_count (conflicts_in o name) ≡ Some (cell, count)

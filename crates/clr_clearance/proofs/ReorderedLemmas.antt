@@ -1,4 +1,4 @@
--- A site whose members are named in another order.
+-- A merge set whose members are named in another order.
 use Rattle.std.proofs.Common.{◌≡◌, ◌∙◌, false, not, ◌||◌, ◌&&◌, cond, refl, sym, ap, subst}
 use Rattle.std.proofs.Common.{List, [], ◌∷◌, ◌++◌, map, Option, Some, None, unwrap_or}
 use Rattle.std.proofs.Math.Bool.{and-true}
@@ -17,38 +17,38 @@ use Rattle.clr_steps.specs.declared.commands.Reply.{Reply}
 use Rattle.clr_steps.specs.declared.commands.Reply.TheVariants.{Done}
 use Rattle.clr_steps.specs.Names.{same_name}
 use Rattle.clr_steps.specs.Offices.{Office, content_of, is_kept, workspace}
-use Rattle.clr_steps.specs.Quiet.{Site, is_of_member, is_other, is_quiet, is_root, is_under_other, root_content}
+use Rattle.clr_steps.specs.Quiet.{MergeSet, is_of_member, is_other, is_quiet, is_root, is_under_other, root_content}
 use Rattle.clr_steps.specs.Steps.{run}
 use Rattle.clr_clearance.specs.Headline.{CoversReorderedLaw, NamesTheSame, SafeReorderedLaw}
 use Rattle.clr_clearance.specs.Runs.{merged_by, merged_in, office_before}
 use Rattle.clr_clearance.specs.Safety.{IsMergeOf, IsSafeAt}
-use Rattle.clr_clearance.specs.Sites.{AreMergeable, is_child, rows_with, setting_of}
+use Rattle.clr_clearance.specs.MergeSets.{AreMergeable, is_child, rows_with, setting_of}
 use Rattle.clr_clearance.specs.Verdicts.{repeated_member}
 use Rattle.clr_clearance.proofs.CarryLemmas.{Changes, Fate, IsLater, Stays, carried, is_merged, on, on_entry, on_need}
 use Rattle.clr_clearance.proofs.ClearLemmas.{differ_unless_repeated}
 use Rattle.clr_clearance.proofs.NameLemmas.{has_is}
 use Rattle.clr_clearance.proofs.StaticLemmas.{number_law}
 
-module _ (site other : Site) (same : NamesTheSame site other) where
-  -- words of a site ------------------------------------------------------------------------------------
+module _ (merge_set other : MergeSet) (same : NamesTheSame merge_set other) where
+  -- words of a merge set ------------------------------------------------------------------------------------
 
-  root_alike : (name : Name) → is_root other name ≡ is_root site name
+  root_alike : (name : Name) → is_root other name ≡ is_root merge_set name
   unfolding is_root
   root_alike name = ap (same_name name) same.root
 
-  content_alike : (now : Office) → root_content now other ≡ root_content now site
+  content_alike : (now : Office) → root_content now other ≡ root_content now merge_set
   unfolding root_content
   content_alike now = ap (content_of now) same.root
 
-  other_alike : (name : Name) → is_other other name ≡ is_other site name
+  other_alike : (name : Name) → is_other other name ≡ is_other merge_set name
   unfolding is_other
   other_alike name = λ i. not (root_alike name i) && not (same.members name i)
 
-  under_alike : (now : Office) (ws : Name) → is_under_other now other ws ≡ is_under_other now site ws
+  under_alike : (now : Office) (ws : Name) → is_under_other now other ws ≡ is_under_other now merge_set ws
   unfolding is_under_other
   under_alike now ws = λ i. option_map_or (λ w. other_alike w.parent i) (workspace now ws) false
 
-  quiet_alike : (now : Office) (c : Command) → is_quiet now other c ≡ is_quiet now site c
+  quiet_alike : (now : Office) (c : Command) → is_quiet now other c ≡ is_quiet now merge_set c
   unfolding is_quiet
   quiet_alike now (command.Create name parent) = ap not (same.members name)
   quiet_alike now (command.Remove ws) = other_alike ws
@@ -63,17 +63,17 @@ module _ (site other : Site) (same : NamesTheSame site other) where
   quiet_alike now (command.Hold ws) = refl
   quiet_alike now (command.Release ws) = ap not (root_alike ws)
 
-  of_member_alike : (c : Command) → is_of_member other c ≡ is_of_member site c
+  of_member_alike : (c : Command) → is_of_member other c ≡ is_of_member merge_set c
   of_member_alike (command.Refresh ws) = same.members ws
   of_member_alike (command.Merge ws remove) = same.members ws
   of_member_alike _ = refl
 
-  merged_by_alike : (c : Command) (reply : Reply) → merged_by other c reply ≡ merged_by site c reply
+  merged_by_alike : (c : Command) (reply : Reply) → merged_by other c reply ≡ merged_by merge_set c reply
   merged_by_alike (command.Merge name remove) Done = ap (λ b. cond b (name ∷ []) []) (same.members name)
   merged_by_alike (command.Merge name remove) _ = refl
   merged_by_alike _ reply = refl
 
-  merged_alike : (cs : List Command) (rs : List Reply) → merged_in other cs rs ≡ merged_in site cs rs
+  merged_alike : (cs : List Command) (rs : List Reply) → merged_in other cs rs ≡ merged_in merge_set cs rs
   unfolding merged_in
   merged_alike [] rs = refl
   merged_alike (c ∷ cs) [] = refl
@@ -81,33 +81,33 @@ module _ (site other : Site) (same : NamesTheSame site other) where
 
   -- safe in either order -------------------------------------------------------------------------------
 
-  rows_alike : (o : Office) (names : List Name) (cell : CellId) → rows_with o other names cell ≡ rows_with o site names cell
-  rows_alike o [] cell = root_is (setting_of o other) cell ∙ ap (λ content. row_at content cell) (content_alike o) ∙ sym (root_is (setting_of o site) cell)
+  rows_alike : (o : Office) (names : List Name) (cell : CellId) → rows_with o other names cell ≡ rows_with o merge_set names cell
+  rows_alike o [] cell = root_is (setting_of o other) cell ∙ ap (λ content. row_at content cell) (content_alike o) ∙ sym (root_is (setting_of o merge_set) cell)
   rows_alike o (n ∷ ns) cell =
       taken_over (setting_of o other) n ns cell
-      ∙ ap (unwrap_or ((setting_of o site).after n cell)) (rows_alike o ns cell)
-      ∙ sym (taken_over (setting_of o site) n ns cell)
+      ∙ ap (unwrap_or ((setting_of o merge_set).after n cell)) (rows_alike o ns cell)
+      ∙ sym (taken_over (setting_of o merge_set) n ns cell)
 
-  merge_alike : (o : Office) (names : List Name) (content : Content) → IsMergeOf o site names content → IsMergeOf o other names content
+  merge_alike : (o : Office) (names : List Name) (content : Content) → IsMergeOf o merge_set names content → IsMergeOf o other names content
   merge_alike o names content merge = record { rows = λ cell. merge.rows cell ∙ sym (rows_alike o names cell); holds = merge.holds }
 
-  safe_alike : (first : Office) (names : List Name) (now : Office) → IsSafeAt first site names now → IsSafeAt first other names now
+  safe_alike : (first : Office) (names : List Name) (now : Office) → IsSafeAt first merge_set names now → IsSafeAt first other names now
   safe_alike first names now safe = record {
     book = safe.book;
-    root = subst (IsMergeOf first other names) (sym (content_alike now)) (merge_alike first names (root_content now site) safe.root);
+    root = subst (IsMergeOf first other names) (sym (content_alike now)) (merge_alike first names (root_content now merge_set) safe.root);
     answers = λ c member. safe.answers c (sym (of_member_alike c) ∙ member);
     refreshes = λ name w member done is. merge_alike first (name ∷ names) w.current (safe.refreshes name w (sym (same.members name) ∙ member) done is);
   }
 
   -- covered in either order ----------------------------------------------------------------------------
 
-  child_alike : (o : Office) (name : Name) → is_child o other name ≡ is_child o site name
+  child_alike : (o : Office) (name : Name) → is_child o other name ≡ is_child o merge_set name
   child_alike o name = λ i. not (root_alike name i) && option_map_or (λ w. root_alike w.parent i) (workspace o name) false
 
-  has_alike : (name : Name) → has_by same_name other.members name ≡ has_by same_name site.members name
-  has_alike name = has_is other.members name ∙ same.members name ∙ sym (has_is site.members name)
+  has_alike : (name : Name) → has_by same_name other.members name ≡ has_by same_name merge_set.members name
+  has_alike name = has_is other.members name ∙ same.members name ∙ sym (has_is merge_set.members name)
 
-  mergeable_alike : (o : Office) → repeated_member other ≡ None → AreMergeable o site → AreMergeable o other
+  mergeable_alike : (o : Office) → repeated_member other ≡ None → AreMergeable o merge_set → AreMergeable o other
   mergeable_alike o once mergeable = record {
     kept = ap (is_kept o) same.root ∙ mergeable.kept;
     distinct = differ_unless_repeated other once;
@@ -117,9 +117,9 @@ module _ (site other : Site) (same : NamesTheSame site other) where
   }
 
   -- every member stays what it is, and so do the names of versions
-  module _ (o : Office) (mergeable : AreMergeable o site) where
+  module _ (o : Office) (mergeable : AreMergeable o merge_set) where
     abbrev c : Setting Name
-    c = setting_of o site
+    c = setting_of o merge_set
 
     abbrev next : Setting Name
     next = setting_of o other
@@ -170,15 +170,15 @@ module _ (site other : Site) (same : NamesTheSame site other) where
     covered_alike entries covered = subst (AreCovered next) (entries_themselves entries) (carried c next itself is_later entries covered)
 
 pub safe_reordered : SafeReorderedLaw
-safe_reordered o site other same safe commands lost quiet =
+safe_reordered o merge_set other same safe commands lost quiet =
     let done = run o commands lost in
-    subst (λ names. IsSafeAt o other names done.office) (sym (merged_alike site other same commands done.replies))
-    (safe_alike site other same o _ done.office
-    (safe commands lost (λ at c e. sym (quiet_alike site other same (office_before o commands lost at) c) ∙ quiet at c e)))
+    subst (λ names. IsSafeAt o other names done.office) (sym (merged_alike merge_set other same commands done.replies))
+    (safe_alike merge_set other same o _ done.office
+    (safe commands lost (λ at c e. sym (quiet_alike merge_set other same (office_before o commands lost at) c) ∙ quiet at c e)))
 
 pub covers_reordered : CoversReorderedLaw
-covers_reordered o site other entries same once covers = record {
-  mergeable = mergeable_alike site other same o once covers.mergeable;
+covers_reordered o merge_set other entries same once covers = record {
+  mergeable = mergeable_alike merge_set other same o once covers.mergeable;
   covered = ((number_law o other).covered entries).0
-      (covered_alike site other same o covers.mergeable entries (((number_law o site).covered entries).1 covers.covered));
+      (covered_alike merge_set other same o covers.mergeable entries (((number_law o merge_set).covered entries).1 covers.covered));
 }

@@ -3,7 +3,7 @@ use Rattle.std.proofs.Common.{◌≡◌, ℕ, zero, suc, ◌+◌, ◌<◌, Bool,
 use Rattle.clr_steps.specs.declared.commands.Command.{Command}
 use Rattle.clr_steps.specs.declared.commands.Reply.{Reply}
 use Rattle.clr_steps.specs.Offices.{Office}
-use Rattle.clr_steps.specs.Quiet.{Site, is_quiet, root_content}
+use Rattle.clr_steps.specs.Quiet.{MergeSet, is_quiet, root_content}
 use Rattle.clr_steps.specs.Steps.{Run, lost_in, run, step_or_lost}
 use Rattle.clr_clearance.specs.Headline.{QuietReplyLaw, QuietRunLaw}
 use Rattle.clr_clearance.specs.Runs.{AreQuiet, merged_in, office_before}
@@ -39,24 +39,24 @@ taken_twice (y ∷ ys) (suc n) zero less = refl
 taken_twice (y ∷ ys) (suc n) (suc k) less = ap (λ zs. y ∷ zs) (taken_twice ys n k (omega (arith, less)))
 
 -- the first commands of a list are quiet where all are
-pub first_quiet : (o : Office) (site : Site) (commands : List Command) (lost : ℕ → Bool) (n : ℕ)
-    → AreQuiet o site commands lost → AreQuiet o site (take n commands) lost
-first_quiet o site commands lost n quiet at c e =
+pub first_quiet : (o : Office) (merge_set : MergeSet) (commands : List Command) (lost : ℕ → Bool) (n : ℕ)
+    → AreQuiet o merge_set commands lost → AreQuiet o merge_set (take n commands) lost
+first_quiet o merge_set commands lost n quiet at c e =
     let (less, is) = taken_at commands n at c e in
-    ap (λ cs. is_quiet (run o cs lost).office site c) (taken_twice commands n at less) ∙ quiet at c is
+    ap (λ cs. is_quiet (run o cs lost).office merge_set c) (taken_twice commands n at less) ∙ quiet at c is
 
 pub quiet_reply : QuietReplyLaw
-quiet_reply o site commands lost safe quiet at c reply e f member =
+quiet_reply o merge_set commands lost safe quiet at c reply e f member =
     ap is_clash (sym (reply_at o commands lost at c reply e f)) ∙ by (lost at)
   where
     by : (b : Bool) → is_clash (step_or_lost b (office_before o commands lost at) c).reply ≡ false
     by true = refl
-    by false = ((safe (take at commands) lost (first_quiet o site commands lost at quiet)).answers c member).no_clash
+    by false = ((safe (take at commands) lost (first_quiet o merge_set commands lost at quiet)).answers c member).no_clash
 
 pub quiet_run : QuietRunLaw
-quiet_run o site safe commands replies left quiet runs = record {
+quiet_run o merge_set safe commands replies left quiet runs = record {
   runs = runs;
-  no_clash = subst (λ (r : Run). NoneClashes site commands r.replies) runs (quiet_reply o site commands (lost_in replies) safe quiet);
-  root = subst (λ (r : Run). IsMergeOf o site (merged_in site commands r.replies) (root_content r.office site)) runs
+  no_clash = subst (λ (r : Run). NoneClashes merge_set commands r.replies) runs (quiet_reply o merge_set commands (lost_in replies) safe quiet);
+  root = subst (λ (r : Run). IsMergeOf o merge_set (merged_in merge_set commands r.replies) (root_content r.office merge_set)) runs
       (safe commands (lost_in replies) quiet).root;
 }

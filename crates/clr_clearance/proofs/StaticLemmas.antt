@@ -1,4 +1,4 @@
--- Where entries cover a site, every rule holds in what any of its members give, and the others stay free.
+-- Where entries cover a merge set, every rule holds in what any of its members give, and the others stay free.
 use Rattle.std.proofs.Common.{◌≡◌, ℕ, zero, suc, true, false, not, ◌==◌, List, [], ◌∷◌, refl, sym, ap, ◌∙◌, subst, Option, Some, None, is_some, slice_get}
 use Rattle.std.specs.List.{range_with_len}
 use Rattle.std.specs.Option.{option_map, option_map_or}
@@ -20,67 +20,67 @@ use Rattle.clr_needs.proofs.CoverLaws.{covered_holds}
 use Rattle.clr_needs.proofs.PositionLaws.{say_the_same}
 use Rattle.clr_steps.specs.Names.{same_name}
 use Rattle.clr_steps.specs.Offices.{Office, workspace, content_of}
-use Rattle.clr_steps.specs.Quiet.{Site, is_root, is_member, root_content}
+use Rattle.clr_steps.specs.Quiet.{MergeSet, is_root, is_member, root_content}
 use Rattle.clr_steps.specs.Readings.{changes_in, conflicts_in}
 use Rattle.clr_steps.proofs.FindLemmas.{same_itself}
 use Rattle.clr_clearance.specs.Laws.{NumberLaw, StaticLaw}
-use Rattle.clr_clearance.specs.Sites.{AgreesWith, AreMergeable, Covers, KeepsRules, RootHolds, change_sets, changed_by, is_child, setting_by_position}
-use Rattle.clr_clearance.specs.Sites.{setting_of}
-use Rattle.clr_clearance.proofs.SiteLemmas.{changed_by-standing, content_above, free_agrees, some_is_changed, untaken}
+use Rattle.clr_clearance.specs.MergeSets.{AgreesWith, AreMergeable, Covers, KeepsRules, RootHolds, change_sets, changed_by, is_child, setting_by_position}
+use Rattle.clr_clearance.specs.MergeSets.{setting_of}
+use Rattle.clr_clearance.proofs.MergeSetLemmas.{changed_by-standing, content_above, free_agrees, some_is_changed, untaken}
 
 -- children -------------------------------------------------------------------------------------------
 
-pub record IsUnder (o : Office) (site : Site) (name : Name) : Type 0 where
+pub record IsUnder (o : Office) (merge_set : MergeSet) (name : Name) : Type 0 where
   pub at : Workspace
   pub is : workspace o name ≡ Some at
-  pub under : is_root site at.parent ≡ true
+  pub under : is_root merge_set at.parent ≡ true
 
-pub child_under : (o : Office) (site : Site) (name : Name) → is_child o site name ≡ true → IsUnder o site name
-child_under o site name h = by (workspace o name) refl (and_parts (not (is_root site name)) _ h).1
+pub child_under : (o : Office) (merge_set : MergeSet) (name : Name) → is_child o merge_set name ≡ true → IsUnder o merge_set name
+child_under o merge_set name h = by (workspace o name) refl (and_parts (not (is_root merge_set name)) _ h).1
   where
-    by : (r : Option Workspace) → workspace o name ≡ r → option_map_or (λ (w : Workspace). is_root site w.parent) r false ≡ true → IsUnder o site name
+    by : (r : Option Workspace) → workspace o name ≡ r → option_map_or (λ (w : Workspace). is_root merge_set w.parent) r false ≡ true → IsUnder o merge_set name
     by None e h = absurd (false≢true h)
     by (Some w) e h = record { at = w; is = e; under = h }
 
-pub child_apart : (o : Office) (site : Site) (name : Name) → is_child o site name ≡ true → is_root site name ≡ false
-child_apart o site name h = not-true _ (and_parts (not (is_root site name)) _ h).0
+pub child_apart : (o : Office) (merge_set : MergeSet) (name : Name) → is_child o merge_set name ≡ true → is_root merge_set name ≡ false
+child_apart o merge_set name h = not-true _ (and_parts (not (is_root merge_set name)) _ h).0
 
-pub child_parent : (o : Office) (site : Site) (name : Name) (w : Workspace) → is_child o site name ≡ true → workspace o name ≡ Some w → is_root site w.parent
+pub child_parent : (o : Office) (merge_set : MergeSet) (name : Name) (w : Workspace) → is_child o merge_set name ≡ true → workspace o name ≡ Some w → is_root merge_set w.parent
     ≡ true
-child_parent o site name w h e = sym (ap (λ r. option_map_or (λ (v : Workspace). is_root site v.parent) r false) e)
-    ∙ (and_parts (not (is_root site name)) _ h).1
+child_parent o merge_set name w h e = sym (ap (λ r. option_map_or (λ (v : Workspace). is_root merge_set v.parent) r false) e)
+    ∙ (and_parts (not (is_root merge_set name)) _ h).1
 
 -- a child without conflicts took over the root's rows where it changed them
-pub child_agrees : (o : Office) (site : Site) (name : Name) (w : Workspace) → is_child o site name ≡ true → conflicts_in o name ≡ [] → workspace o name ≡ Some w
-    → AgreesWith (row_at (root_content o site)) w.base w.current
-child_agrees o site name w child free e =
-    free_agrees (root_content o site) w
-    (ap (λ c. conflicts c (own_changes w)) (sym (content_above o site w (child_parent o site name w child e)))
+pub child_agrees : (o : Office) (merge_set : MergeSet) (name : Name) (w : Workspace) → is_child o merge_set name ≡ true → conflicts_in o name ≡ [] → workspace o name ≡ Some w
+    → AgreesWith (row_at (root_content o merge_set)) w.base w.current
+child_agrees o merge_set name w child free e =
+    free_agrees (root_content o merge_set) w
+    (ap (λ c. conflicts c (own_changes w)) (sym (content_above o merge_set w (child_parent o merge_set name w child e)))
     ∙ sym (ap (λ r. option_map_or (λ (v : Workspace). conflicts (content_of o v.parent) (own_changes v)) r []) e)
     ∙ free)
 
-pub member_agrees : (o : Office) (site : Site) (name : Name) (w : Workspace) → AreMergeable o site → is_member site name ≡ true → workspace o name ≡ Some w
-    → AgreesWith (row_at (root_content o site)) w.base w.current
-member_agrees o site name w mergeable member e = child_agrees o site name w (mergeable.children name member) (mergeable.free name member) e
+pub member_agrees : (o : Office) (merge_set : MergeSet) (name : Name) (w : Workspace) → AreMergeable o merge_set → is_member merge_set name ≡ true → workspace o name ≡ Some w
+    → AgreesWith (row_at (root_content o merge_set)) w.base w.current
+member_agrees o merge_set name w mergeable member e = child_agrees o merge_set name w (mergeable.children name member) (mergeable.free name member) e
 
 -- positions ------------------------------------------------------------------------------------------
 
-module _ (o : Office) (site : Site) where
+module _ (o : Office) (merge_set : MergeSet) where
   abbrev c : Setting Name
-  c = setting_of o site
+  c = setting_of o merge_set
 
-  pub same_after : (k : ℕ) (cell : CellId) → after_of (change_sets o site) k cell ≡ after_member c (slice_get site.members k) cell
-  same_after k cell = ap (λ r. after_at r cell) (slice_get-map (changes_in o) site.members k) ∙ by (slice_get site.members k)
+  pub same_after : (k : ℕ) (cell : CellId) → after_of (change_sets o merge_set) k cell ≡ after_member c (slice_get merge_set.members k) cell
+  same_after k cell = ap (λ r. after_at r cell) (slice_get-map (changes_in o) merge_set.members k) ∙ by (slice_get merge_set.members k)
     where
       by : (r : Option Name) → after_at (option_map (changes_in o) r) cell ≡ after_member c r cell
       by None = refl
       by (Some name) = refl
 
-  pub numbered_is : setting_by_position o site ≡ by_position c
+  pub numbered_is : setting_by_position o merge_set ≡ by_position c
   numbered_is = λ i. record {
     rules = o.book;
-    root = row_at (root_content o site);
-    members = range_with_len 0 (length-map site.members (changes_in o) i);
+    root = row_at (root_content o merge_set);
+    members = range_with_len 0 (length-map merge_set.members (changes_in o) i);
     after = λ k cell. same_after k cell i;
     same = λ j k. j == k;
     decides = Decides-eqb;
@@ -93,42 +93,42 @@ module _ (o : Office) (site : Site) where
   member_there (n ∷ ns) (suc k) name e = or_right (same_name n name) (has_by same_name ns name) (member_there ns k name e)
 
   -- no cell is changed at two positions
-  pub apart_sets : AreMergeable o site → AreApart (change_sets o site)
+  pub apart_sets : AreMergeable o merge_set → AreApart (change_sets o merge_set)
   apart_sets mergeable cell j k changes changes_too =
-      by (slice_get site.members j) refl (slice_get site.members k) refl
+      by (slice_get merge_set.members j) refl (slice_get merge_set.members k) refl
       (sym (ap is_some (same_after j cell)) ∙ changes)
       (sym (ap is_some (same_after k cell)) ∙ changes_too)
     where
-      by : (x : Option Name) → slice_get site.members j ≡ x → (y : Option Name) → slice_get site.members k ≡ y → is_some (after_member c x cell) ≡ true
+      by : (x : Option Name) → slice_get merge_set.members j ≡ x → (y : Option Name) → slice_get merge_set.members k ≡ y → is_some (after_member c x cell) ≡ true
           → is_some (after_member c y cell) ≡ true → j ≡ k
       by None e y f g h = absurd (false≢true g)
       by (Some m) e None f g h = absurd (false≢true h)
       by (Some m) e (Some n) f g h =
-          let same : m ≡ n = mergeable.apart m n cell (member_there site.members j m e) (member_there site.members k n f) g h in
+          let same : m ≡ n = mergeable.apart m n cell (member_there merge_set.members j m e) (member_there merge_set.members k n f) g h in
           mergeable.distinct j k m e (f ∙ ap Some (sym same))
 
-  pub apart_by_position : AreMergeable o site → AreDisjoint (by_position c)
+  pub apart_by_position : AreMergeable o merge_set → AreDisjoint (by_position c)
   apart_by_position mergeable j k cell hj hk changes changes_too =
       apart_sets mergeable cell j k (ap is_some (same_after j cell) ∙ changes) (ap is_some (same_after k cell) ∙ changes_too)
 
 pub number_law : NumberLaw
-number_law o site = subst (SayTheSame (setting_of o site)) (sym (numbered_is o site)) (say_the_same (setting_of o site))
+number_law o merge_set = subst (SayTheSame (setting_of o merge_set)) (sym (numbered_is o merge_set)) (say_the_same (setting_of o merge_set))
 
-pub keeps_rules : (o : Office) (site : Site) (entries : List Entry) → Covers o site entries → RootHolds o site → KeepsRules o site
-keeps_rules o site entries covers holds names part =
-    covered_holds (setting_of o site) entries
+pub keeps_rules : (o : Office) (merge_set : MergeSet) (entries : List Entry) → Covers o merge_set entries → RootHolds o merge_set → KeepsRules o merge_set
+keeps_rules o merge_set entries covers holds names part =
+    covered_holds (setting_of o merge_set) entries
     (record {
       apart = covers.mergeable.apart;
-      covered = ((number_law o site).covered entries).1 covers.covered;
+      covered = ((number_law o merge_set).covered entries).1 covers.covered;
       holds = holds;
     })
     names part
 
 pub static_law : StaticLaw
-static_law o site entries covers holds = record {
-  keeps = keeps_rules o site entries covers holds;
+static_law o merge_set entries covers holds = record {
+  keeps = keeps_rules o merge_set entries covers holds;
   free = λ names name w part member out e cell changed.
       (let changes : is_some (changed_by o name cell) ≡ true = ap is_some (changed_by-standing o name w cell e) ∙ some_is_changed w.base w.current cell
       ∙ changed in
-      untaken o site names name cell covers.mergeable.apart part member out changes ∙ member_agrees o site name w covers.mergeable member e cell changed);
+      untaken o merge_set names name cell covers.mergeable.apart part member out changes ∙ member_agrees o merge_set name w covers.mergeable member e cell changed);
 }

@@ -1,4 +1,4 @@
--- No site has two verdicts.
+-- No merge set has two verdicts.
 use Rattle.std.proofs.Common.{◌≡◌, ℕ, ◌<◌, inl, inr, List, Option, Some, None, sym, ap, ◌∙◌, subst, arith}
 use Rattle.clr_rows.specs.declared.cells.CellId.{CellId}
 use Rattle.clr_rows.proofs.CellOrder.{cell_cmp_total, cell_cmp_exact}
@@ -72,20 +72,20 @@ module _ (c : Setting ℕ) (entries : List Entry) where
   ]
 
 pub one_verdict : OneVerdictLaw
-one_verdict o site entries v w (of_member e) (of_member f) = one_some (member_fault o site) v w e f
-one_verdict o site entries v w (of_member e) (of_cell cell i j none s f) = absurd (not_both (member_fault o site) v none e)
-one_verdict o site entries v w (of_member e) (of_need n a b none apart first f) = absurd (not_both (member_fault o site) v none e)
-one_verdict o site entries v w (of_member e) (of_none none apart covered f) = absurd (not_both (member_fault o site) v none e)
-one_verdict o site entries v w (of_cell cell i j none s e) (of_member f) = absurd (not_both (member_fault o site) w none f)
-one_verdict o site entries v w (of_cell cell i j none s e) (of_cell other k l none_too t f) = e ∙ one_cell _ cell other i j k l s t ∙ sym f
-one_verdict o site entries v w (of_cell cell i j none s e) (of_need n a b none_too apart first f) = absurd (not_apart _ cell i j s (apart cell))
-one_verdict o site entries v w (of_cell cell i j none s e) (of_none none_too apart covered f) = absurd (not_apart _ cell i j s (apart cell))
-one_verdict o site entries v w (of_need n a b none apart first e) (of_member f) = absurd (not_both (member_fault o site) w none f)
-one_verdict o site entries v w (of_need n a b none apart first e) (of_cell cell i j none_too s f) = absurd (not_apart _ cell i j s (apart cell))
-one_verdict o site entries v w (of_need n a b none apart first e) (of_need m d g none_too apart_too first_too f) = e
+one_verdict o merge_set entries v w (of_member e) (of_member f) = one_some (member_fault o merge_set) v w e f
+one_verdict o merge_set entries v w (of_member e) (of_cell cell i j none s f) = absurd (not_both (member_fault o merge_set) v none e)
+one_verdict o merge_set entries v w (of_member e) (of_need n a b none apart first f) = absurd (not_both (member_fault o merge_set) v none e)
+one_verdict o merge_set entries v w (of_member e) (of_none none apart covered f) = absurd (not_both (member_fault o merge_set) v none e)
+one_verdict o merge_set entries v w (of_cell cell i j none s e) (of_member f) = absurd (not_both (member_fault o merge_set) w none f)
+one_verdict o merge_set entries v w (of_cell cell i j none s e) (of_cell other k l none_too t f) = e ∙ one_cell _ cell other i j k l s t ∙ sym f
+one_verdict o merge_set entries v w (of_cell cell i j none s e) (of_need n a b none_too apart first f) = absurd (not_apart _ cell i j s (apart cell))
+one_verdict o merge_set entries v w (of_cell cell i j none s e) (of_none none_too apart covered f) = absurd (not_apart _ cell i j s (apart cell))
+one_verdict o merge_set entries v w (of_need n a b none apart first e) (of_member f) = absurd (not_both (member_fault o merge_set) w none f)
+one_verdict o merge_set entries v w (of_need n a b none apart first e) (of_cell cell i j none_too s f) = absurd (not_apart _ cell i j s (apart cell))
+one_verdict o merge_set entries v w (of_need n a b none apart first e) (of_need m d g none_too apart_too first_too f) = e
     ∙ ap verdict.Uncovered (one_need _ entries n m a d b g first first_too) ∙ sym f
-one_verdict o site entries v w (of_need n a b none apart first e) (of_none none_too apart_too covered f) = absurd (not_covered _ entries n a b first covered)
-one_verdict o site entries v w (of_none none apart covered e) (of_member f) = absurd (not_both (member_fault o site) w none f)
-one_verdict o site entries v w (of_none none apart covered e) (of_cell cell i j none_too s f) = absurd (not_apart _ cell i j s (apart cell))
-one_verdict o site entries v w (of_none none apart covered e) (of_need n a b none_too apart_too first f) = absurd (not_covered _ entries n a b first covered)
-one_verdict o site entries v w (of_none none apart covered e) (of_none none_too apart_too covered_too f) = e ∙ sym f
+one_verdict o merge_set entries v w (of_need n a b none apart first e) (of_none none_too apart_too covered f) = absurd (not_covered _ entries n a b first covered)
+one_verdict o merge_set entries v w (of_none none apart covered e) (of_member f) = absurd (not_both (member_fault o merge_set) w none f)
+one_verdict o merge_set entries v w (of_none none apart covered e) (of_cell cell i j none_too s f) = absurd (not_apart _ cell i j s (apart cell))
+one_verdict o merge_set entries v w (of_none none apart covered e) (of_need n a b none_too apart_too first f) = absurd (not_covered _ entries n a b first covered)
+one_verdict o merge_set entries v w (of_none none apart covered e) (of_none none_too apart_too covered_too f) = e ∙ sym f

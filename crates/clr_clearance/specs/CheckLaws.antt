@@ -7,7 +7,7 @@ use Rattle.clr_needs.specs.Settings.{Setting, Lived}
 use Rattle.clr_steps.specs.declared.commands.Command.{Command}
 use Rattle.clr_steps.specs.declared.commands.Reply.{Reply}
 use Rattle.clr_steps.specs.Offices.{Office}
-use Rattle.clr_steps.specs.Quiet.{Site, is_quiet}
+use Rattle.clr_steps.specs.Quiet.{MergeSet, is_quiet}
 use Rattle.clr_steps.specs.Steps.{AreAnswers, IsAnswer, lost_in}
 use Rattle.clr_clearance.specs.Runs.{AreQuiet}
 use Rattle.clr_clearance.specs.Verdicts.{IsFirstUncovered}
@@ -34,9 +34,9 @@ FirstJudgedLaw = (c : Setting ℕ) (entries : List Entry) (needs : List Need) (a
 
 -- a list of quiet commands with the replies to them, and one more, is again such a list
 abbrev pub OneMoreLaw : Type 0
-OneMoreLaw = (o : Office) (site : Site) (commands : List Command) (replies : List Reply) (now : Office) (c : Command) (reply : Reply) (left : Office)
+OneMoreLaw = (o : Office) (merge_set : MergeSet) (commands : List Command) (replies : List Reply) (now : Office) (c : Command) (reply : Reply) (left : Office)
     → AreAnswers o commands replies now
-    → AreQuiet o site commands (lost_in replies)
-    → is_quiet now site c ≡ true
+    → AreQuiet o merge_set commands (lost_in replies)
+    → is_quiet now merge_set c ≡ true
     → IsAnswer now c reply left
-    → AreAnswers o (commands ++ c ∷ []) (replies ++ reply ∷ []) left × AreQuiet o site (commands ++ c ∷ []) (lost_in (replies ++ reply ∷ []))
+    → AreAnswers o (commands ++ c ∷ []) (replies ++ reply ∷ []) left × AreQuiet o merge_set (commands ++ c ∷ []) (lost_in (replies ++ reply ∷ []))

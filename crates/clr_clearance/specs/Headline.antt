@@ -9,80 +9,80 @@ use Rattle.clr_steps.specs.declared.commands.Command.{Command}
 use Rattle.clr_steps.specs.declared.commands.Reply.{Reply}
 use Rattle.clr_steps.specs.Names.{has}
 use Rattle.clr_steps.specs.Offices.{Office}
-use Rattle.clr_steps.specs.Quiet.{Site, is_member, root_content}
+use Rattle.clr_steps.specs.Quiet.{MergeSet, is_member, root_content}
 use Rattle.clr_steps.specs.Steps.{lost_in, run}
 use Rattle.clr_clearance.specs.declared.verdicts.Verdict.TheVariants as verdict
 use Rattle.clr_clearance.specs.ClearedRuns.{IsClearedRun}
 use Rattle.clr_clearance.specs.Runs.{AreQuiet, merged_in, office_before}
 use Rattle.clr_clearance.specs.Safety.{NoneClashes, Safe}
-use Rattle.clr_clearance.specs.Sites.{Covers, RootHolds}
+use Rattle.clr_clearance.specs.MergeSets.{Covers, RootHolds}
 use Rattle.clr_clearance.specs.Verdicts.{IsVerdict, repeated_member}
 
 -- a run of a list of commands -----------------------------------------------------------------------
 
 -- the members that a run merges
-abbrev pub merged_after : Office → Site → List Command → (ℕ → Bool) → List Name
-merged_after o site commands lost = merged_in site commands (run o commands lost).replies
+abbrev pub merged_after : Office → MergeSet → List Command → (ℕ → Bool) → List Name
+merged_after o merge_set commands lost = merged_in merge_set commands (run o commands lost).replies
 
 -- the rows that the root has after a run
-abbrev pub root_after : Office → Site → List Command → (ℕ → Bool) → View
-root_after o site commands lost = row_at (root_content (run o commands lost).office site)
+abbrev pub root_after : Office → MergeSet → List Command → (ℕ → Bool) → View
+root_after o merge_set commands lost = row_at (root_content (run o commands lost).office merge_set)
 
 -- every member is merged in a run
-abbrev pub AreAllMerged : Office → Site → List Command → (ℕ → Bool) → Type 0
-AreAllMerged o site commands lost = (name : Name) → is_member site name ≡ true → has (merged_after o site commands lost) name ≡ true
+abbrev pub AreAllMerged : Office → MergeSet → List Command → (ℕ → Bool) → Type 0
+AreAllMerged o merge_set commands lost = (name : Name) → is_member merge_set name ≡ true → has (merged_after o merge_set commands lost) name ≡ true
 
 -- every list of quiet commands ------------------------------------------------------------------------
 
 -- in every list of commands that are quiet for the members, whichever of them find no memory, no merge or refresh of a member meets a conflict or
 -- breaks a rule; every rule holds in the root after each command; after any two such lists that merge the same members the root has the same rows,
 -- and so it has once all members are merged
-pub record Headline (o : Office) (site : Site) : Type 0 where
-  pub no_clash : (commands : List Command) (lost : ℕ → Bool) → AreQuiet o site commands lost → NoneClashes site commands (run o commands lost).replies
-  pub holds : (commands : List Command) (lost : ℕ → Bool) → AreQuiet o site commands lost → (at : ℕ) → RootHolds (office_before o commands lost at) site
-  pub same_rows : (commands others : List Command) (lost lost_of_others : ℕ → Bool) → AreQuiet o site commands lost → AreQuiet o site others lost_of_others
-      → ((name : Name) → has (merged_after o site commands lost) name ≡ has (merged_after o site others lost_of_others) name)
-      → (cell : CellId) → root_after o site commands lost cell ≡ root_after o site others lost_of_others cell
-  pub all_merged : (commands others : List Command) (lost lost_of_others : ℕ → Bool) → AreQuiet o site commands lost → AreQuiet o site others lost_of_others
-      → AreAllMerged o site commands lost → AreAllMerged o site others lost_of_others
-      → (cell : CellId) → root_after o site commands lost cell ≡ root_after o site others lost_of_others cell
+pub record Headline (o : Office) (merge_set : MergeSet) : Type 0 where
+  pub no_clash : (commands : List Command) (lost : ℕ → Bool) → AreQuiet o merge_set commands lost → NoneClashes merge_set commands (run o commands lost).replies
+  pub holds : (commands : List Command) (lost : ℕ → Bool) → AreQuiet o merge_set commands lost → (at : ℕ) → RootHolds (office_before o commands lost at) merge_set
+  pub same_rows : (commands others : List Command) (lost lost_of_others : ℕ → Bool) → AreQuiet o merge_set commands lost → AreQuiet o merge_set others lost_of_others
+      → ((name : Name) → has (merged_after o merge_set commands lost) name ≡ has (merged_after o merge_set others lost_of_others) name)
+      → (cell : CellId) → root_after o merge_set commands lost cell ≡ root_after o merge_set others lost_of_others cell
+  pub all_merged : (commands others : List Command) (lost lost_of_others : ℕ → Bool) → AreQuiet o merge_set commands lost → AreQuiet o merge_set others lost_of_others
+      → AreAllMerged o merge_set commands lost → AreAllMerged o merge_set others lost_of_others
+      → (cell : CellId) → root_after o merge_set commands lost cell ≡ root_after o merge_set others lost_of_others cell
 
 -- the headline holds where the verdict is clear and every rule holds in the root
 abbrev pub HeadlineLaw : Type 0
-HeadlineLaw = (o : Office) (site : Site) (entries : List Entry) → IsVerdict o site entries verdict.Clear → RootHolds o site → Headline o site
+HeadlineLaw = (o : Office) (merge_set : MergeSet) (entries : List Entry) → IsVerdict o merge_set entries verdict.Clear → RootHolds o merge_set → Headline o merge_set
 
--- no reply of a run of quiet commands to a merge or a refresh of a member of a safe site is a clash
+-- no reply of a run of quiet commands to a merge or a refresh of a member of a safe merge set is a clash
 abbrev pub QuietReplyLaw : Type 0
-QuietReplyLaw = (o : Office) (site : Site) (commands : List Command) (lost : ℕ → Bool)
-    → Safe o site
-    → AreQuiet o site commands lost
-    → NoneClashes site commands (run o commands lost).replies
+QuietReplyLaw = (o : Office) (merge_set : MergeSet) (commands : List Command) (lost : ℕ → Bool)
+    → Safe o merge_set
+    → AreQuiet o merge_set commands lost
+    → NoneClashes merge_set commands (run o commands lost).replies
 
 -- a run of quiet commands, in which those answered OutOfMemory are lost, is a cleared one
-abbrev pub RunsAreCleared : Office → Site → Type 0
-RunsAreCleared o site = (commands : List Command) (replies : List Reply) (left : Office)
-    → AreQuiet o site commands (lost_in replies)
+abbrev pub RunsAreCleared : Office → MergeSet → Type 0
+RunsAreCleared o merge_set = (commands : List Command) (replies : List Reply) (left : Office)
+    → AreQuiet o merge_set commands (lost_in replies)
     → run o commands (lost_in replies) ≡ record { replies = replies; office = left }
-    → IsClearedRun o site commands replies left
+    → IsClearedRun o merge_set commands replies left
 
 abbrev pub QuietRunLaw : Type 0
-QuietRunLaw = (o : Office) (site : Site) → Safe o site → RunsAreCleared o site
+QuietRunLaw = (o : Office) (merge_set : MergeSet) → Safe o merge_set → RunsAreCleared o merge_set
 
 -- the order in which members are named ----------------------------------------------------------------
 
--- two sites of the same root and the same members, in whatever order
-pub record NamesTheSame (site other : Site) : Type 0 where
-  pub root : other.root ≡ site.root
-  pub members : (name : Name) → is_member other name ≡ is_member site name
+-- two merge sets of the same root and the same members, in whatever order
+pub record NamesTheSame (merge_set other : MergeSet) : Type 0 where
+  pub root : other.root ≡ merge_set.root
+  pub members : (name : Name) → is_member other name ≡ is_member merge_set name
 
--- a site of the same members as a safe one is safe too
+-- a merge set of the same members as a safe one is safe too
 abbrev pub SafeReorderedLaw : Type 0
-SafeReorderedLaw = (o : Office) (site other : Site) → NamesTheSame site other → Safe o site → Safe o other
+SafeReorderedLaw = (o : Office) (merge_set other : MergeSet) → NamesTheSame merge_set other → Safe o merge_set → Safe o other
 
--- the same entries cover a site of the same members, where none is named twice
+-- the same entries cover a merge set of the same members, where none is named twice
 abbrev pub CoversReorderedLaw : Type 0
-CoversReorderedLaw = (o : Office) (site other : Site) (entries : List Entry)
-    → NamesTheSame site other
+CoversReorderedLaw = (o : Office) (merge_set other : MergeSet) (entries : List Entry)
+    → NamesTheSame merge_set other
     → repeated_member other ≡ None
-    → Covers o site entries
+    → Covers o merge_set entries
     → Covers o other entries

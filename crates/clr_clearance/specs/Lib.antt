@@ -9,5 +9,5 @@ pub mod Plans
 pub mod PlanLaws
 pub mod Runs
 pub mod Safety
-pub mod Sites
+pub mod MergeSets
 pub mod Verdicts

@@ -1,4 +1,4 @@
--- What a site promises over every list of quiet commands, whichever of them find no memory.
+-- What a merge set promises over every list of quiet commands, whichever of them find no memory.
 use Rattle.std.specs.Prelude.{◌≡◌, ℕ, Bool, true, false, not, ◌&&◌, List, ◌∷◌, Some, is_some, slice_get}
 use Rattle.clr_rows.specs.declared.cells.CellId.{CellId}
 use Rattle.clr_rows.specs.Contents.{Content, row_at}
@@ -10,15 +10,15 @@ use Rattle.clr_steps.specs.declared.commands.Command.TheVariants as command
 use Rattle.clr_steps.specs.declared.commands.Reply.{Reply}
 use Rattle.clr_steps.specs.declared.commands.Reply.TheVariants.{Conflict, Done, RuleBroken}
 use Rattle.clr_steps.specs.Offices.{Office, workspace}
-use Rattle.clr_steps.specs.Quiet.{Site, is_member, is_of_member, root_content}
+use Rattle.clr_steps.specs.Quiet.{MergeSet, is_member, is_of_member, root_content}
 use Rattle.clr_steps.specs.Refusals.{has_child}
 use Rattle.clr_steps.specs.Steps.{run, step}
 use Rattle.clr_clearance.specs.Runs.{AreQuiet, merged_in}
-use Rattle.clr_clearance.specs.Sites.{rows_with}
+use Rattle.clr_clearance.specs.MergeSets.{rows_with}
 
 -- a content has the root's rows with the changes of some members over them, and every rule holds in it
-pub record IsMergeOf (o : Office) (site : Site) (names : List Name) (content : Content) : Type 0 where
-  pub rows : (cell : CellId) → row_at content cell ≡ rows_with o site names cell
+pub record IsMergeOf (o : Office) (merge_set : MergeSet) (names : List Name) (content : Content) : Type 0 where
+  pub rows : (cell : CellId) → row_at content cell ≡ rows_with o merge_set names cell
   pub holds : Holds o.book (row_at content)
 
 -- a reply that names a conflict or a broken rule
@@ -28,9 +28,9 @@ is_clash (RuleBroken need) = true
 is_clash _ = false
 
 -- no reply to a merge or a refresh of a member is a clash
-abbrev pub NoneClashes : Site → List Command → List Reply → Type 0
-NoneClashes site commands replies = (at : ℕ) (c : Command) (reply : Reply) → slice_get commands at ≡ Some c → slice_get replies at ≡ Some reply
-    → is_of_member site c ≡ true → is_clash reply ≡ false
+abbrev pub NoneClashes : MergeSet → List Command → List Reply → Type 0
+NoneClashes merge_set commands replies = (at : ℕ) (c : Command) (reply : Reply) → slice_get commands at ≡ Some c → slice_get replies at ≡ Some reply
+    → is_of_member merge_set c ≡ true → is_clash reply ≡ false
 
 -- the workspace that is to be merged or refreshed stands and, where it is to go, has no children
 abbrev pub is_ready : Office → Command → Bool
@@ -45,14 +45,14 @@ pub record IsSafeAnswer (o : Office) (c : Command) : Type 0 where
 
 -- an office after commands that merged some members: the root is their merge, each merge and each refresh of a member is safe, and a refresh that is
 -- done gives the member the merge of those and itself
-pub record IsSafeAt (first : Office) (site : Site) (names : List Name) (now : Office) : Type 0 where
+pub record IsSafeAt (first : Office) (merge_set : MergeSet) (names : List Name) (now : Office) : Type 0 where
   pub book : now.book ≡ first.book
-  pub root : IsMergeOf first site names (root_content now site)
-  pub answers : (c : Command) → is_of_member site c ≡ true → IsSafeAnswer now c
-  pub refreshes : (name : Name) (w : Workspace) → is_member site name ≡ true → (step now (command.Refresh name)).reply ≡ Done
-      → workspace (step now (command.Refresh name)).office name ≡ Some w → IsMergeOf first site (name ∷ names) w.current
+  pub root : IsMergeOf first merge_set names (root_content now merge_set)
+  pub answers : (c : Command) → is_of_member merge_set c ≡ true → IsSafeAnswer now c
+  pub refreshes : (name : Name) (w : Workspace) → is_member merge_set name ≡ true → (step now (command.Refresh name)).reply ≡ Done
+      → workspace (step now (command.Refresh name)).office name ≡ Some w → IsMergeOf first merge_set (name ∷ names) w.current
 
 -- the office is safe in this sense after every list of quiet commands
-abbrev pub Safe : Office → Site → Type 0
-Safe o site = (commands : List Command) (lost : ℕ → Bool) → AreQuiet o site commands lost
-    → let done = run o commands lost in IsSafeAt o site (merged_in site commands done.replies) done.office
+abbrev pub Safe : Office → MergeSet → Type 0
+Safe o merge_set = (commands : List Command) (lost : ℕ → Bool) → AreQuiet o merge_set commands lost
+    → let done = run o commands lost in IsSafeAt o merge_set (merged_in merge_set commands done.replies) done.office

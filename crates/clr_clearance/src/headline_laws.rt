@@ -11,7 +11,7 @@ pub fn clear_keeps_the_headline()
     ensures { HeadlineLaw }
 {}
 
-/// No reply of a run of quiet commands to a merge or a refresh of a member of a safe site is a
+/// No reply of a run of quiet commands to a merge or a refresh of a member of a safe merge set is a
 /// conflict or a broken rule. Commands that `perform_all` answered, each quiet when it was given,
 /// make a cleared run there.
 pub fn quiet_runs_are_cleared()
@@ -19,7 +19,7 @@ pub fn quiet_runs_are_cleared()
     ensures run { QuietRunLaw }
 {}
 
-/// Whether a site is safe, and whether entries cover it, doesn't depend on the order in which its
+/// Whether a merge set is safe, and whether entries cover it, doesn't depend on the order in which its
 /// members are named, where none is named twice.
 pub fn members_stand_in_any_order()
     ensures safe { SafeReorderedLaw }

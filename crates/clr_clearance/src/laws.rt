@@ -42,11 +42,11 @@ pub fn quiet_lists_leave_merges()
 /// after every list of quiet commands. Every rule holds in the root, the root has the changes of
 /// the merged members over its first rows, and no merge or refresh of a member is answered by a
 /// conflict or a broken rule.
-pub fn covered_sites_are_safe()
+pub fn covered_merge_sets_are_safe()
     ensures { SafeLaw }
 {}
 
-/// The verdict is clear exactly where the entries cover the members. No site has two verdicts on
+/// The verdict is clear exactly where the entries cover the members. No merge set has two verdicts on
 /// the same entries.
 pub fn clear_is_covered()
     ensures clear { ClearLaw }
@@ -56,7 +56,7 @@ pub fn clear_is_covered()
 /// Where the verdict is clear and every rule holds in the root, every rule holds with the changes
 /// of any of the members over it, and no other member is in conflict with those rows. All of it
 /// stays so over every list of quiet commands.
-pub fn clear_sites_are_safe()
+pub fn clear_merge_sets_are_safe()
     ensures { ClearIsSafeLaw }
 {}
 

@@ -2,9 +2,9 @@
 
 ghost use Rattle.clr_clearance.specs.OneAnswer.{OneBlockedLaw, OneClearedLaw, OneKindLaw, OneStartLaw, OneUnfitLaw};
 
-/// No site has two plans: it is unfit for one reason, cleared by one list of entries, or blocked in
+/// No merge set has two plans: it is unfit for one reason, cleared by one list of entries, or blocked in
 /// one order and for one cause, and no two of these.
-pub fn sites_have_one_plan()
+pub fn merge_sets_have_one_plan()
     ensures kind { OneKindLaw }
     ensures unfit { OneUnfitLaw }
     ensures cleared { OneClearedLaw }

@@ -24,8 +24,8 @@ pub fn unpicked_needs_are_refused()
     ensures { UnpickedLaw }
 {}
 
-/// No order of merges of members of a safe site is refused. No plan for a safe site is blocked.
-pub fn safe_sites_are_never_blocked()
+/// No order of merges of members of a safe merge set is refused. No plan for a safe merge set is blocked.
+pub fn safe_merge_sets_are_never_blocked()
     ensures order { SafeOrderLaw }
     ensures plan { SafePlanLaw }
 {}

@@ -1,4 +1,4 @@
--- Layers without neutral entries after a sweep.
+-- Deltas without neutral entries after a sweep.
 use Rattle.std.proofs.Common.{◌≡◌, ◌≢◌, ℕ, ◌<◌, Bool, true, false, List, [], ◌∷◌, length, map, unwrap_or, refl, ap, sym, subst, ◌∙◌}
 use Rattle.std.specs.declared.option.Option.{Option}
 use Rattle.std.specs.FinMap as finite
@@ -11,9 +11,9 @@ use Rattle.clr_differences.proofs.DifferenceLemmas.{row-seen_over}
 use Rattle.clr_differences.proofs.SweepLemmas.{seen-swept, seen-swept_at, own_swept, own_made, own_stays}
 use Rattle.clr_workspaces.specs.Marks.{Saved, ChildMark}
 use Rattle.clr_workspaces.specs.Workspaces.{Workspace, workspace_at}
-use Rattle.clr_layers.specs.Layers.{Layer, layer_at, whole_mark, wholes, AreOwnOver, IsUnder}
-use Rattle.clr_layers.specs.declared.stored_marks.StoredMark.{StoredMark}
-use Rattle.clr_layers.specs.declared.stored_marks.StoredMark.TheVariants as kinds
+use Rattle.clr_deltas.specs.Deltas.{Delta, delta_at, whole_mark, wholes, AreOwnOver, IsUnder}
+use Rattle.clr_deltas.specs.declared.stored_marks.StoredMark.{StoredMark}
+use Rattle.clr_deltas.specs.declared.stored_marks.StoredMark.TheVariants as kinds
 use Rattle.clr_workspaces.specs.Roots.{IsRooted}
 use Rattle.clr_contents.specs.Lean.{content_of_parent, row_above, swept_marks, swept_marks_at, IsLeanAt, IsLeanBeside, IsLeanOver}
 use Rattle.clr_contents.proofs.ReadLemmas.{under_its_parent}
@@ -46,14 +46,14 @@ seen-swept_marks_at cells b [] = refl
 seen-swept_marks_at cells b (kinds.Saved name d ∷ ms) = λ i. Saved name (seen-swept_at b cells d i) ∷ seen-swept_marks_at cells b ms i
 seen-swept_marks_at cells b (kinds.Child name ∷ ms) = ap (λ ns. ChildMark name ∷ ns) (seen-swept_marks_at cells b ms)
 
--- one layer swept ----------------------------------------------------------------------------------
+-- one delta swept ----------------------------------------------------------------------------------
 
-module _ (live : Content) (ls : List Layer) (k : ℕ) (r : IsRooted (wholes live ls)) (some : 0 < k) (lt : k < length ls) where
+module _ (live : Content) (ls : List Delta) (k : ℕ) (r : IsRooted (wholes live ls)) (some : 0 < k) (lt : k < length ls) where
   abbrev ws : List Workspace
   ws = wholes live ls
 
-  abbrev l : Layer
-  l = layer_at ls k
+  abbrev l : Delta
+  l = delta_at ls k
 
   abbrev above : Content
   above = content_of_parent ws k
@@ -62,16 +62,16 @@ module _ (live : Content) (ls : List Layer) (k : ℕ) (r : IsRooted (wholes live
   base = (workspace_at ws k).base
 
   -- the row of the base, from differences that mean the same
-  pub base_row : (d : Differences) → seen_over (content_of_parent (wholes live ls) k) d ≡ seen_over (content_of_parent (wholes live ls) k) (layer_at ls k).base
+  pub base_row : (d : Differences) → seen_over (content_of_parent (wholes live ls) k) d ≡ seen_over (content_of_parent (wholes live ls) k) (delta_at ls k).base
       → (q : CellId)
       → row_at (workspace_at (wholes live ls) k).base q ≡ unwrap_or (finite.get d q) (row_above (wholes live ls) k q)
   base_row d same q = ap (λ (m : Content). row_at m q) (base_is live ls k r some lt ∙ sym same) ∙ row-seen_over above d q
 
-  pub lean_swept : IsLeanOver (wholes live ls) k (record (layer_at ls k) {
-    base = without_neutral (content_of_parent (wholes live ls) k) (layer_at ls k).base;
-    current = without_neutral (workspace_at (wholes live ls) k).base (layer_at ls k).current;
+  pub lean_swept : IsLeanOver (wholes live ls) k (record (delta_at ls k) {
+    base = without_neutral (content_of_parent (wholes live ls) k) (delta_at ls k).base;
+    current = without_neutral (workspace_at (wholes live ls) k).base (delta_at ls k).current;
     marks = swept_marks (workspace_at (wholes live ls) k).base
-        (layer_at ls k).marks;
+        (delta_at ls k).marks;
   })
   lean_swept q =
       let row = base_row (without_neutral above l.base) (seen-swept above l.base) q in
@@ -82,7 +82,7 @@ module _ (live : Content) (ls : List Layer) (k : ℕ) (r : IsRooted (wholes live
       }
 
   module _ (cells : List CellId) where
-    abbrev left : Layer
+    abbrev left : Delta
     left = record l { base = swept_at above cells l.base; current = swept_at base cells l.current; marks = swept_marks_at base cells l.marks }
 
     lean_made : (q : CellId) → is_among cells q ≡ true → IsLeanAt (row_above (wholes live ls) k q) left q
@@ -94,7 +94,7 @@ module _ (live : Content) (ls : List Layer) (k : ℕ) (r : IsRooted (wholes live
           saved = subst (λ (v : Option Row). AreOwnOver v q (swept_marks_at base cells l.marks)) row (marks_made base cells l.marks q among);
         }
 
-    lean_kept : (q : CellId) → IsLeanAt (row_above (wholes live ls) k q) (layer_at ls k) q → IsLeanAt (row_above (wholes live ls) k q) left q
+    lean_kept : (q : CellId) → IsLeanAt (row_above (wholes live ls) k q) (delta_at ls k) q → IsLeanAt (row_above (wholes live ls) k q) left q
     lean_kept q was =
         let row = sym (base_row l.base refl q) ∙ base_row (swept_at above cells l.base) (seen-swept_at above cells l.base) q in
         record {
@@ -103,13 +103,13 @@ module _ (live : Content) (ls : List Layer) (k : ℕ) (r : IsRooted (wholes live
           saved = subst (λ (v : Option Row). AreOwnOver v q (swept_marks_at base cells l.marks)) row (marks_stay base cells l.marks q _ was.saved);
         }
 
-    pub lean_swept_at : (at : ℕ) → IsLeanBeside (wholes live ls) at cells k (layer_at ls k)
-        → IsLeanOver (wholes live ls) k (record (layer_at ls k) {
-          base = swept_at (content_of_parent (wholes live ls) k) cells (layer_at ls k).base;
+    pub lean_swept_at : (at : ℕ) → IsLeanBeside (wholes live ls) at cells k (delta_at ls k)
+        → IsLeanOver (wholes live ls) k (record (delta_at ls k) {
+          base = swept_at (content_of_parent (wholes live ls) k) cells (delta_at ls k).base;
           current =
-              swept_at (workspace_at (wholes live ls) k).base cells (layer_at ls k).current;
+              swept_at (workspace_at (wholes live ls) k).base cells (delta_at ls k).current;
           marks = swept_marks_at (workspace_at (wholes live ls) k).base cells
-              (layer_at ls k).marks;
+              (delta_at ls k).marks;
         })
     lean_swept_at at beside q = by (is_among cells q) refl
       where
@@ -117,8 +117,8 @@ module _ (live : Content) (ls : List Layer) (k : ℕ) (r : IsRooted (wholes live
         by true e = lean_made q e
         by false e = lean_kept q (beside q (record { other = λ _. e; under = λ _. e }))
 
-  -- a layer that is neither near
-  pub lean_apart : (at : ℕ) (cells : List CellId) → k ≢ at → (IsUnder (layer_at ls at).name (layer_at ls k) → ⊥)
-      → IsLeanBeside (wholes live ls) at cells k (layer_at ls k) → IsLeanOver (wholes live ls) k (layer_at ls k)
+  -- a delta that is neither near
+  pub lean_apart : (at : ℕ) (cells : List CellId) → k ≢ at → (IsUnder (delta_at ls at).name (delta_at ls k) → ⊥)
+      → IsLeanBeside (wholes live ls) at cells k (delta_at ls k) → IsLeanOver (wholes live ls) k (delta_at ls k)
   lean_apart at cells other stranger beside q =
       beside q (record { other = λ e. absurd (other e); under = λ e. absurd (stranger (under_its_parent live ls k at e)) })

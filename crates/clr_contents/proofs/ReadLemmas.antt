@@ -1,4 +1,4 @@
--- What is read of layers: parents, bases and current contents.
+-- What is read of deltas: parents, bases and current contents.
 use Rattle.std.proofs.Common.{◌≡◌, ℕ, ◌<◌, List, length, map, Some, None, unwrap_or, refl, ap, sym, subst, ◌∙◌}
 use Rattle.std.specs.declared.option.Option.{Option}
 use Rattle.std.specs.FinMap as finite
@@ -9,50 +9,50 @@ use Rattle.clr_rows.specs.Contents.{Content, row_at, over}
 use Rattle.clr_differences.specs.Differences.{seen_over}
 use Rattle.clr_differences.proofs.DifferenceLemmas.{row-seen_over}
 use Rattle.clr_workspaces.specs.Workspaces.{Workspace, workspace_at, find, parent_of}
-use Rattle.clr_layers.specs.Layers.{Layer, layer_at, find_layer, whole_of, whole_mark, wholes, above_at, IsUnder}
+use Rattle.clr_deltas.specs.Deltas.{Delta, delta_at, find_delta, whole_of, whole_mark, wholes, above_at, IsUnder}
 use Rattle.clr_workspaces.proofs.FindLemmas.{find_named}
-use Rattle.clr_layers.proofs.Meaning.{length-wholes, name-wholes, parent-wholes, find-wholes, wholes-at, named_found}
+use Rattle.clr_deltas.proofs.Meaning.{length-wholes, name-wholes, parent-wholes, find-wholes, wholes-at, named_found}
 use Rattle.clr_rows.specs.Contents.{no_rows}
 use Rattle.clr_workspaces.specs.Roots.{IsRooted}
 
-pub parent_here : (live : Content) (ls : List Layer) (at : ℕ) → parent_of (wholes live ls) at ≡ find_layer ls (layer_at ls at).parent
-parent_here live ls at = ap (find (wholes live ls)) (parent-wholes live ls at) ∙ find-wholes live ls (layer_at ls at).parent
+pub parent_here : (live : Content) (ls : List Delta) (at : ℕ) → parent_of (wholes live ls) at ≡ find_delta ls (delta_at ls at).parent
+parent_here live ls at = ap (find (wholes live ls)) (parent-wholes live ls at) ∙ find-wholes live ls (delta_at ls at).parent
 
-pub within_wholes : (live : Content) (ls : List Layer) (at : ℕ) → at < length ls → at < length (wholes live ls)
+pub within_wholes : (live : Content) (ls : List Delta) (at : ℕ) → at < length ls → at < length (wholes live ls)
 within_wholes live ls at lt = subst (λ n. at < n) (sym (length-wholes live ls)) lt
 
-pub within_layers : (live : Content) (ls : List Layer) (at : ℕ) → at < length (wholes live ls) → at < length ls
-within_layers live ls at lt = subst (λ n. at < n) (length-wholes live ls) lt
+pub within_deltas : (live : Content) (ls : List Delta) (at : ℕ) → at < length (wholes live ls) → at < length ls
+within_deltas live ls at lt = subst (λ n. at < n) (length-wholes live ls) lt
 
-pub parent_layer : (live : Content) (ls : List Layer) (at : ℕ) → IsRooted (wholes live ls) → 0 < at → at < length ls → (p : ℕ)
-    × (find_layer ls (layer_at ls at).parent ≡ Some p) × (p < at)
-parent_layer live ls at r some lt = let q = r.under at some (within_wholes live ls at lt) in (q.0, sym (parent_here live ls at) ∙ q.1, q.2)
+pub parent_delta : (live : Content) (ls : List Delta) (at : ℕ) → IsRooted (wholes live ls) → 0 < at → at < length ls → (p : ℕ)
+    × (find_delta ls (delta_at ls at).parent ≡ Some p) × (p < at)
+parent_delta live ls at r some lt = let q = r.under at some (within_wholes live ls at lt) in (q.0, sym (parent_here live ls at) ∙ q.1, q.2)
 
-pub above_parent : (live : Content) (ls : List Layer) (at p : ℕ) → parent_of (wholes live ls) at ≡ Some p → p < at → above_at live ls at
+pub above_parent : (live : Content) (ls : List Delta) (at p : ℕ) → parent_of (wholes live ls) at ≡ Some p → p < at → above_at live ls at
     ≡ (workspace_at (wholes live ls) p).current
-above_parent live ls at p e lt = ap (λ o. unwrap_or o no_rows) (named_found (wholes live ls) (layer_at ls at).parent p at
+above_parent live ls at p e lt = ap (λ o. unwrap_or o no_rows) (named_found (wholes live ls) (delta_at ls at).parent p at
     (ap (find (wholes live ls)) (sym (parent-wholes live ls at)) ∙ e) lt)
 
-pub parent_earlier : (live : Content) (ls : List Layer) (at p : ℕ) → IsRooted (wholes live ls) → 0 < at → at < length ls → parent_of (wholes live ls) at
+pub parent_earlier : (live : Content) (ls : List Delta) (at p : ℕ) → IsRooted (wholes live ls) → 0 < at → at < length ls → parent_of (wholes live ls) at
     ≡ Some p → p < at
 parent_earlier live ls at p r some lt e =
     let up = r.under at some (within_wholes live ls at lt) in
     subst (λ (n : ℕ). n < at) (ap (λ (o : Option ℕ). unwrap_or o 0) (sym up.1 ∙ e)) up.2
 
-pub base_of_whole : (above : Content) (l : Layer) → (whole_of above l).base ≡ seen_over above l.base
+pub base_of_whole : (above : Content) (l : Delta) → (whole_of above l).base ≡ seen_over above l.base
 unfolding whole_of
 base_of_whole above l = refl
 
-pub current_of_whole : (above : Content) (l : Layer) → (whole_of above l).current ≡ seen_over (seen_over above l.base) l.current
+pub current_of_whole : (above : Content) (l : Delta) → (whole_of above l).current ≡ seen_over (seen_over above l.base) l.current
 unfolding whole_of
 current_of_whole above l = refl
 
-module _ (live : Content) (ls : List Layer) (at : ℕ) (some : 0 < at) (lt : at < length ls) where
+module _ (live : Content) (ls : List Delta) (at : ℕ) (some : 0 < at) (lt : at < length ls) where
   abbrev here : Workspace
   here = workspace_at (wholes live ls) at
 
-  abbrev stored : Layer
-  stored = layer_at ls at
+  abbrev stored : Delta
+  stored = delta_at ls at
 
   pub current-wholes : here.current ≡ seen_over here.base stored.current
   current-wholes =
@@ -91,34 +91,34 @@ module _ (live : Content) (ls : List Layer) (at : ℕ) (some : 0 < at) (lt : at 
     unfolding seen_over
     current_parts = ap (λ (m : Content). over m (finite.entries stored.current)) base_parts ∙ sym current-wholes
 
-pub found_base : (live : Content) (ls : List Layer) (at : ℕ) (q : CellId) (v : Option Row) → IsRooted (wholes live ls) → 0 < at → at < length ls
-    → finite.get (layer_at ls at).base q ≡ Some v → v ≡ row_at (workspace_at (wholes live ls) at).base q
+pub found_base : (live : Content) (ls : List Delta) (at : ℕ) (q : CellId) (v : Option Row) → IsRooted (wholes live ls) → 0 < at → at < length ls
+    → finite.get (delta_at ls at).base q ≡ Some v → v ≡ row_at (workspace_at (wholes live ls) at).base q
 found_base live ls at q v r some lt e =
     let up = r.under at some (within_wholes live ls at lt) in
     sym (row-base live ls at some lt up.0 up.1 up.2 q ∙ ap (λ o. unwrap_or o (row_at (workspace_at (wholes live ls) up.0).current q)) e)
 
 -- a workspace is a child of its parent
-pub under_its_parent : (live : Content) (ls : List Layer) (at p : ℕ) → parent_of (wholes live ls) at ≡ Some p → IsUnder (layer_at ls p).name (layer_at ls at)
+pub under_its_parent : (live : Content) (ls : List Delta) (at p : ℕ) → parent_of (wholes live ls) at ≡ Some p → IsUnder (delta_at ls p).name (delta_at ls at)
 under_its_parent live ls at p e =
     let named = find_named (wholes live ls) (workspace_at (wholes live ls) at).parent p e in
     (bytes_decides _ _).1 (sym (name-wholes live ls p) ∙ sym named ∙ parent-wholes live ls at)
 
 -- the marks and the flag
-marks_of_whole : (above : Content) (l : Layer) → (whole_of above l).marks ≡ map (whole_mark (seen_over above l.base)) l.marks
+marks_of_whole : (above : Content) (l : Delta) → (whole_of above l).marks ≡ map (whole_mark (seen_over above l.base)) l.marks
 unfolding whole_of
 marks_of_whole m l = refl
 
-kept_of_whole : (above : Content) (l : Layer) → (whole_of above l).kept ≡ l.kept
+kept_of_whole : (above : Content) (l : Delta) → (whole_of above l).kept ≡ l.kept
 unfolding whole_of
 kept_of_whole m l = refl
 
-module _ (live : Content) (ls : List Layer) (at : ℕ) (some : 0 < at) (lt : at < length ls) where
-  pub marks-wholes : (workspace_at (wholes live ls) at).marks ≡ map (whole_mark (workspace_at (wholes live ls) at).base) (layer_at ls at).marks
+module _ (live : Content) (ls : List Delta) (at : ℕ) (some : 0 < at) (lt : at < length ls) where
+  pub marks-wholes : (workspace_at (wholes live ls) at).marks ≡ map (whole_mark (workspace_at (wholes live ls) at).base) (delta_at ls at).marks
   marks-wholes =
       let whole = wholes-at live ls at some lt in
       let above = above_at live ls at in
-      ap (λ (w : Workspace). w.marks) whole ∙ marks_of_whole above (layer_at ls at)
-      ∙ ap (λ (m : Content). map (whole_mark m) (layer_at ls at).marks) (sym (ap (λ (w : Workspace). w.base) whole ∙ base_of_whole above (layer_at ls at)))
+      ap (λ (w : Workspace). w.marks) whole ∙ marks_of_whole above (delta_at ls at)
+      ∙ ap (λ (m : Content). map (whole_mark m) (delta_at ls at).marks) (sym (ap (λ (w : Workspace). w.base) whole ∙ base_of_whole above (delta_at ls at)))
 
-  pub kept-wholes : (workspace_at (wholes live ls) at).kept ≡ (layer_at ls at).kept
-  kept-wholes = ap (λ (w : Workspace). w.kept) (wholes-at live ls at some lt) ∙ kept_of_whole (above_at live ls at) (layer_at ls at)
+  pub kept-wholes : (workspace_at (wholes live ls) at).kept ≡ (delta_at ls at).kept
+  kept-wholes = ap (λ (w : Workspace). w.kept) (wholes-at live ls at some lt) ∙ kept_of_whole (above_at live ls at) (delta_at ls at)

@@ -12,48 +12,48 @@ use Rattle.clr_differences.specs.Differences.{Differences, seen_over}
 use Rattle.clr_differences.proofs.SweepLemmas.{seen-swept}
 use Rattle.clr_workspaces.specs.Marks.{Name, Saved, ChildMark}
 use Rattle.clr_workspaces.specs.Workspaces.{Workspace, workspace_at, find, parent_of}
-use Rattle.clr_layers.specs.Layers.{Layer, no_layer, layer_at, layer_changed, find_layer, whole_of, whole_mark, top, content_by_name, above_in, grow, wholes}
-use Rattle.clr_layers.specs.Layers.{above_at}
-use Rattle.clr_layers.specs.declared.stored_marks.StoredMark.{StoredMark}
-use Rattle.clr_layers.specs.declared.stored_marks.StoredMark.TheVariants as kinds
-use Rattle.clr_layers.proofs.Meaning.{length-wholes, name-wholes, parent-wholes, find-wholes, wholes-at}
+use Rattle.clr_deltas.specs.Deltas.{Delta, no_delta, delta_at, delta_changed, find_delta, whole_of, whole_mark, top, content_by_name, above_in, grow, wholes}
+use Rattle.clr_deltas.specs.Deltas.{above_at}
+use Rattle.clr_deltas.specs.declared.stored_marks.StoredMark.{StoredMark}
+use Rattle.clr_deltas.specs.declared.stored_marks.StoredMark.TheVariants as kinds
+use Rattle.clr_deltas.proofs.Meaning.{length-wholes, name-wholes, parent-wholes, find-wholes, wholes-at}
 use Rattle.clr_workspaces.specs.Roots.{IsRooted}
 use Rattle.clr_contents.specs.Lean.{content_above, content_of_parent, swept_marks}
 use Rattle.clr_contents.proofs.PinLemmas.{whole_base, whole_current, whole_marks}
 use Rattle.clr_contents.proofs.MoveLemmas.{stays}
 use Rattle.clr_contents.proofs.ReadLemmas.{within_wholes, above_parent, base_of_whole}
 
--- a layer set ------------------------------------------------------------------------------------------
+-- a delta set ------------------------------------------------------------------------------------------
 
 pub set_twice : {A : Type 0} (xs : List A) (at : ℕ) (x y : A) → slice_set (slice_set xs at x) at y ≡ slice_set xs at y
 set_twice [] at x y = refl
 set_twice (z ∷ xs) zero x y = refl
 set_twice (z ∷ xs) (suc at) x y = ap (λ ys. z ∷ ys) (set_twice xs at x y)
 
-module _ (ls : List Layer) (at : ℕ) (m : Layer) (lt : at < length ls) where
-  pub set_here : layer_at (slice_set ls at m) at ≡ m
-  set_here = get_or-set_same ls at m no_layer lt
+module _ (ls : List Delta) (at : ℕ) (m : Delta) (lt : at < length ls) where
+  pub set_here : delta_at (slice_set ls at m) at ≡ m
+  set_here = get_or-set_same ls at m no_delta lt
 
-  pub set_again : (f : Layer → Layer) → layer_changed (slice_set ls at m) at f ≡ slice_set ls at (f m)
-  set_again f = ap (λ (l : Layer). slice_set (slice_set ls at m) at (f l)) set_here ∙ set_twice ls at m (f m)
+  pub set_again : (f : Delta → Delta) → delta_changed (slice_set ls at m) at f ≡ slice_set ls at (f m)
+  set_again f = ap (λ (l : Delta). slice_set (slice_set ls at m) at (f l)) set_here ∙ set_twice ls at m (f m)
 
-module _ (ls : List Layer) (at : ℕ) (m : Layer) (name : m.name ≡ (layer_at ls at).name) (parent : m.parent ≡ (layer_at ls at).parent) where
-  abbrev new : List Layer
+module _ (ls : List Delta) (at : ℕ) (m : Delta) (name : m.name ≡ (delta_at ls at).name) (parent : m.parent ≡ (delta_at ls at).parent) where
+  abbrev new : List Delta
   new = slice_set ls at m
 
-  field_stays : (f : Layer → Name) → f m ≡ f (layer_at ls at) → (i : ℕ) → f (layer_at (slice_set ls at m) i) ≡ f (layer_at ls i)
-  field_stays f e i = sym (get_or-map f new i no_layer) ∙ ap (λ (fs : List Name). get_or fs i (f no_layer)) (map-set_same f ls at m no_layer e)
-      ∙ get_or-map f ls i no_layer
+  field_stays : (f : Delta → Name) → f m ≡ f (delta_at ls at) → (i : ℕ) → f (delta_at (slice_set ls at m) i) ≡ f (delta_at ls i)
+  field_stays f e i = sym (get_or-map f new i no_delta) ∙ ap (λ (fs : List Name). get_or fs i (f no_delta)) (map-set_same f ls at m no_delta e)
+      ∙ get_or-map f ls i no_delta
 
-  found_same : (n : Name) → find_layer (slice_set ls at m) n ≡ find_layer ls n
-  found_same n = rw (position_or_len-set (λ (l : Layer). bytes_eq n l.name) ls at m no_layer (ap (bytes_eq n) name), length-set ls at m) refl
+  found_same : (n : Name) → find_delta (slice_set ls at m) n ≡ find_delta ls n
+  found_same n = rw (position_or_len-set (λ (l : Delta). bytes_eq n l.name) ls at m no_delta (ap (bytes_eq n) name), length-set ls at m) refl
 
   module _ (live : Content) where
     name_same : (i : ℕ) → (workspace_at (wholes live new) i).name ≡ (workspace_at (wholes live ls) i).name
-    name_same i = name-wholes live new i ∙ field_stays (λ (l : Layer). l.name) name i ∙ sym (name-wholes live ls i)
+    name_same i = name-wholes live new i ∙ field_stays (λ (l : Delta). l.name) name i ∙ sym (name-wholes live ls i)
 
     parent_same : (i : ℕ) → (workspace_at (wholes live new) i).parent ≡ (workspace_at (wholes live ls) i).parent
-    parent_same i = parent-wholes live new i ∙ field_stays (λ (l : Layer). l.parent) parent i ∙ sym (parent-wholes live ls i)
+    parent_same i = parent-wholes live new i ∙ field_stays (λ (l : Delta). l.parent) parent i ∙ sym (parent-wholes live ls i)
 
     find_same : (n : Name) → find (wholes live new) n ≡ find (wholes live ls) n
     find_same n = find-wholes live new n ∙ found_same n ∙ sym (find-wholes live ls n)
@@ -61,7 +61,7 @@ module _ (ls : List Layer) (at : ℕ) (m : Layer) (name : m.name ≡ (layer_at l
     pub above_same : (i : ℕ) → parent_of (wholes live (slice_set ls at m)) i ≡ parent_of (wholes live ls) i
     above_same i = find_same (workspace_at (wholes live new) i).parent ∙ ap (find (wholes live ls)) (parent_same i)
 
-    -- a layer of the same name and parent leaves the workspaces rooted
+    -- a delta of the same name and parent leaves the workspaces rooted
     pub rooted_still : IsRooted (wholes live ls) → IsRooted (wholes live (slice_set ls at m))
     rooted_still r =
         let long : length (wholes live new) ≡ length (wholes live ls) = length-wholes live new ∙ length-set ls at m ∙ sym (length-wholes live ls) in
@@ -84,19 +84,19 @@ at_take (w ∷ ws) (suc n) (suc i) lt = at_take ws n i (omega arith)
 
 -- earlier workspaces stay -------------------------------------------------------------------------------
 
-before_grow : (ws : List Workspace) (ls : List Layer) (at : ℕ) (m : Layer) → take at (grow ws (slice_set ls at m)) ≡ take at (grow ws ls)
+before_grow : (ws : List Workspace) (ls : List Delta) (at : ℕ) (m : Delta) → take at (grow ws (slice_set ls at m)) ≡ take at (grow ws ls)
 unfolding grow
 before_grow ws [] at m = refl
 before_grow ws (l ∷ ls) zero m = refl
 before_grow ws (l ∷ ls) (suc at) m = let w = whole_of (above_in ws l) l in ap (λ rest. w ∷ rest) (before_grow (ws ++ w ∷ []) ls at m)
 
-pub before_stays : (live : Content) (ls : List Layer) (at : ℕ) (m : Layer) → take at (wholes live (slice_set ls at m)) ≡ take at (wholes live ls)
+pub before_stays : (live : Content) (ls : List Delta) (at : ℕ) (m : Delta) → take at (wholes live (slice_set ls at m)) ≡ take at (wholes live ls)
 unfolding wholes
 before_stays live [] at m = refl
 before_stays live (l ∷ ls) zero m = refl
 before_stays live (l ∷ ls) (suc at) m = let w = top live l in ap (λ rest. w ∷ rest) (before_grow (w ∷ []) ls at m)
 
-pub earlier_stays : (live : Content) (ls : List Layer) (at i : ℕ) (m : Layer) → i < at → workspace_at (wholes live (slice_set ls at m)) i
+pub earlier_stays : (live : Content) (ls : List Delta) (at i : ℕ) (m : Delta) → i < at → workspace_at (wholes live (slice_set ls at m)) i
     ≡ workspace_at (wholes live ls) i
 earlier_stays live ls at i m lt =
     sym (at_take (wholes live (slice_set ls at m)) at i lt) ∙ ap (λ (ws : List Workspace). workspace_at ws i) (before_stays live ls at m)
@@ -111,12 +111,12 @@ seen-swept_marks b (kinds.Child name ∷ ms) = ap (λ ns. ChildMark name ∷ ns)
 
 -- sweeping one workspace ----------------------------------------------------------------------------------
 
-module _ (live : Content) (ls : List Layer) (at : ℕ) (r : IsRooted (wholes live ls)) (some : 0 < at) (lt : at < length ls) where
+module _ (live : Content) (ls : List Delta) (at : ℕ) (r : IsRooted (wholes live ls)) (some : 0 < at) (lt : at < length ls) where
   abbrev ws : List Workspace
   ws = wholes live ls
 
-  abbrev stored : Layer
-  stored = layer_at ls at
+  abbrev stored : Delta
+  stored = delta_at ls at
 
   abbrev above : Content
   above = content_of_parent ws at
@@ -126,22 +126,22 @@ module _ (live : Content) (ls : List Layer) (at : ℕ) (r : IsRooted (wholes liv
       let q = r.under at some (within_wholes live ls at lt) in
       above_parent live ls at q.0 q.1 q.2 ∙ sym (ap (content_above ws) q.1)
 
-  pub base_is : (workspace_at (wholes live ls) at).base ≡ seen_over (content_of_parent (wholes live ls) at) (layer_at ls at).base
+  pub base_is : (workspace_at (wholes live ls) at).base ≡ seen_over (content_of_parent (wholes live ls) at) (delta_at ls at).base
   base_is = ap (λ (w : Workspace). w.base) (wholes-at live ls at some lt) ∙ base_of_whole (above_at live ls at) stored
       ∙ ap (λ (m : Content). seen_over m stored.base) above_is
 
   -- the parent's content while the base is taken out
   pub parent_stays : (d : Differences) (p : ℕ) → parent_of (wholes live ls) at ≡ Some p → p < at
-      → (workspace_at (wholes live (layer_changed ls at (λ l. record l { base = d }))) p).current ≡ content_of_parent (wholes live ls) at
+      → (workspace_at (wholes live (delta_changed ls at (λ l. record l { base = d }))) p).current ≡ content_of_parent (wholes live ls) at
   parent_stays d p e up = ap (λ (w : Workspace). w.current) (earlier_stays live ls at p (record stored { base = d }) up) ∙ sym (ap (content_above ws) e)
 
   -- the base while the current content or the marks are taken out
-  pub base_stays : (m : Layer) → m.parent ≡ (layer_at ls at).parent → m.base ≡ (layer_at ls at).base → (workspace_at (wholes live (slice_set ls at m)) at).base
+  pub base_stays : (m : Delta) → m.parent ≡ (delta_at ls at).parent → m.base ≡ (delta_at ls at).base → (workspace_at (wholes live (slice_set ls at m)) at).base
       ≡ (workspace_at (wholes live ls) at).base
   base_stays m parent base =
       let there : at < length (slice_set ls at m) = subst (λ n. at < n) (sym (length-set ls at m)) lt in
       ap (λ (w : Workspace). w.base) (wholes-at live (slice_set ls at m) at some there)
-      ∙ ap (λ (l : Layer). (whole_of (above_in (take at (wholes live (slice_set ls at m))) l) l).base) (get_or-set_same ls at m no_layer lt)
+      ∙ ap (λ (l : Delta). (whole_of (above_in (take at (wholes live (slice_set ls at m))) l) l).base) (get_or-set_same ls at m no_delta lt)
       ∙ ap (λ (vs : List Workspace). (whole_of (above_in vs m) m).base) (before_stays live ls at m)
       ∙ base_of_whole (above_in (take at (wholes live ls)) m) m
       ∙ (λ i. seen_over (unwrap_or (content_by_name (take at (wholes live ls)) (parent i)) no_rows) (base i))
@@ -150,12 +150,12 @@ module _ (live : Content) (ls : List Layer) (at : ℕ) (r : IsRooted (wholes liv
 
   -- any way of sweeping that changes nothing seen
   module _ (sw : Content → Differences → Differences) (seen : (m : Content) (d : Differences) → seen_over m (sw m d) ≡ seen_over m d) where
-    pub base_swept : wholes live (layer_changed ls at (λ l. record l { base = sw (content_of_parent (wholes live ls) at) l.base })) ≡ wholes live ls
+    pub base_swept : wholes live (delta_changed ls at (λ l. record l { base = sw (content_of_parent (wholes live ls) at) l.base })) ≡ wholes live ls
     base_swept = stays live ls at r some lt _ refl refl (whole_base (above_at live ls at) stored (sw above stored.base)
         (ap (λ (m : Content). seen_over m (sw above stored.base)) above_is ∙ seen above stored.base
         ∙ ap (λ (m : Content). seen_over m stored.base) (sym above_is)))
 
-    pub current_swept : wholes live (layer_changed ls at (λ l. record l { current = sw (workspace_at (wholes live ls) at).base l.current })) ≡ wholes live ls
+    pub current_swept : wholes live (delta_changed ls at (λ l. record l { current = sw (workspace_at (wholes live ls) at).base l.current })) ≡ wholes live ls
     current_swept =
         let base = (workspace_at ws at).base in
         let is : seen_over (above_at live ls at) stored.base ≡ base = ap (λ (m : Content). seen_over m stored.base) above_is ∙ sym base_is in
@@ -164,7 +164,7 @@ module _ (live : Content) (ls : List Layer) (at : ℕ) (r : IsRooted (wholes liv
 
   pub saved_swept : (sm : Content → List StoredMark → List StoredMark) → ((m : Content) (ms : List StoredMark) → map (whole_mark m) (sm m ms)
       ≡ map (whole_mark m) ms)
-      → wholes live (layer_changed ls at (λ l. record l { marks = sm (workspace_at (wholes live ls) at).base l.marks })) ≡ wholes live ls
+      → wholes live (delta_changed ls at (λ l. record l { marks = sm (workspace_at (wholes live ls) at).base l.marks })) ≡ wholes live ls
   saved_swept sm seen =
       let base = (workspace_at ws at).base in
       let is : seen_over (above_at live ls at) stored.base ≡ base = ap (λ (m : Content). seen_over m stored.base) above_is ∙ sym base_is in
@@ -177,9 +177,9 @@ module _ (live : Content) (ls : List Layer) (at : ℕ) (r : IsRooted (wholes liv
 -- any way of sweeping that changes nothing seen
 module _ (sw : Content → Differences → Differences) (sm : Content → List StoredMark → List StoredMark) (seen : (m : Content) (d : Differences)
     → seen_over m (sw m d) ≡ seen_over m d) (same : (m : Content) (ms : List StoredMark) → map (whole_mark m) (sm m ms) ≡ map (whole_mark m) ms)
-    (live : Content) (ls : List Layer) (at : ℕ) (r : IsRooted (wholes live ls)) (some : 0 < at) (lt : at < length ls) where
-  abbrev old : Layer
-  old = layer_at ls at
+    (live : Content) (ls : List Delta) (at : ℕ) (r : IsRooted (wholes live ls)) (some : 0 < at) (lt : at < length ls) where
+  abbrev old : Delta
+  old = delta_at ls at
 
   abbrev seen_above : Content
   seen_above = content_of_parent (wholes live ls) at
@@ -188,8 +188,8 @@ module _ (sw : Content → Differences → Differences) (sm : Content → List S
   seen_base = (workspace_at (wholes live ls) at).base
 
   -- the base
-  module _ (one : List Layer) (a : one ≡ layer_changed ls at (λ l. record l { base = sw (content_of_parent (wholes live ls) at) l.base })) where
-    abbrev l_one : Layer
+  module _ (one : List Delta) (a : one ≡ delta_changed ls at (λ l. record l { base = sw (content_of_parent (wholes live ls) at) l.base })) where
+    abbrev l_one : Delta
     l_one = record old { base = sw seen_above old.base }
 
     pub seen_one : wholes live one ≡ wholes live ls
@@ -199,11 +199,11 @@ module _ (sw : Content → Differences → Differences) (sm : Content → List S
     rooted_one = subst IsRooted (sym seen_one) r
 
     within_one : at < length one
-    within_one = subst (λ n. at < n) (sym (ap (λ (ms : List Layer). length ms) a ∙ length-set ls at l_one)) lt
+    within_one = subst (λ n. at < n) (sym (ap (λ (ms : List Delta). length ms) a ∙ length-set ls at l_one)) lt
 
     -- then the current content
-    module _ (two : List Layer) (b : two ≡ layer_changed one at (λ l. record l { current = sw (workspace_at (wholes live one) at).base l.current })) where
-      abbrev l_two : Layer
+    module _ (two : List Delta) (b : two ≡ delta_changed one at (λ l. record l { current = sw (workspace_at (wholes live one) at).base l.current })) where
+      abbrev l_two : Delta
       l_two = record l_one { current = sw seen_base old.current }
 
       pub seen_two : wholes live two ≡ wholes live ls
@@ -213,34 +213,34 @@ module _ (sw : Content → Differences → Differences) (sm : Content → List S
       rooted_two = subst IsRooted (sym seen_two) r
 
       is_two : two ≡ slice_set ls at l_two
-      is_two = b ∙ (λ i. layer_changed (a i) at (λ l. record l { current = sw (workspace_at (seen_one i) at).base l.current }))
+      is_two = b ∙ (λ i. delta_changed (a i) at (λ l. record l { current = sw (workspace_at (seen_one i) at).base l.current }))
           ∙ set_again ls at l_one lt (λ l. record l { current = sw seen_base l.current })
 
       within_two : at < length two
-      within_two = subst (λ n. at < n) (sym (ap (λ (ms : List Layer). length ms) is_two ∙ length-set ls at l_two)) lt
+      within_two = subst (λ n. at < n) (sym (ap (λ (ms : List Delta). length ms) is_two ∙ length-set ls at l_two)) lt
 
       -- then the savepoints
-      module _ (three : List Layer) (c : three ≡ layer_changed two at (λ l. record l { marks = sm (workspace_at (wholes live two) at).base l.marks })) where
+      module _ (three : List Delta) (c : three ≡ delta_changed two at (λ l. record l { marks = sm (workspace_at (wholes live two) at).base l.marks })) where
         pub seen_three : wholes live three ≡ wholes live ls
         seen_three = ap (wholes live) c ∙ saved_swept live two at rooted_two some within_two sm same ∙ seen_two
 
-        is_three : three ≡ slice_set ls at (record (layer_at ls at) {
+        is_three : three ≡ slice_set ls at (record (delta_at ls at) {
           base = sw seen_above old.base;
           current = sw seen_base old.current;
           marks =
               sm seen_base old.marks;
         })
         is_three =
-            c ∙ (λ i. layer_changed (is_two i) at (λ l. record l { marks = sm (workspace_at (seen_two i) at).base l.marks }))
+            c ∙ (λ i. delta_changed (is_two i) at (λ l. record l { marks = sm (workspace_at (seen_two i) at).base l.marks }))
             ∙ set_again ls at l_two lt (λ l. record l { marks = sm seen_base l.marks })
 
-        pub here_three : layer_at three at ≡ record (layer_at ls at) {
-          base = sw (content_of_parent (wholes live ls) at) (layer_at ls at).base;
+        pub here_three : delta_at three at ≡ record (delta_at ls at) {
+          base = sw (content_of_parent (wholes live ls) at) (delta_at ls at).base;
           current =
-              sw (workspace_at (wholes live ls) at).base (layer_at ls at).current;
-          marks = sm (workspace_at (wholes live ls) at).base (layer_at ls at).marks;
+              sw (workspace_at (wholes live ls) at).base (delta_at ls at).current;
+          marks = sm (workspace_at (wholes live ls) at).base (delta_at ls at).marks;
         }
-        here_three = ap (λ (ms : List Layer). layer_at ms at) is_three ∙ set_here ls at _ lt
+        here_three = ap (λ (ms : List Delta). delta_at ms at) is_three ∙ set_here ls at _ lt
 
-        pub others_three : three ≡ layer_changed ls at (λ _. layer_at three at)
-        others_three = is_three ∙ ap (λ (l : Layer). slice_set ls at l) (sym here_three)
+        pub others_three : three ≡ delta_changed ls at (λ _. delta_at three at)
+        others_three = is_three ∙ ap (λ (l : Delta). slice_set ls at l) (sym here_three)

@@ -7,38 +7,38 @@ use Rattle.clr_rows.specs.Contents.{Content, Changes, row_at}
 use Rattle.clr_change.specs.ChangeSets.{set_change}
 use Rattle.clr_differences.specs.Differences.{RowEntries, HasDifference, HasEntries, is_among, IsOwnOver}
 use Rattle.clr_workspaces.specs.Marks.{Name}
-use Rattle.clr_layers.specs.Layers.{Layer, layer_at, IsUnder, AreOwnOver}
+use Rattle.clr_deltas.specs.Deltas.{Delta, delta_at, IsUnder, AreOwnOver}
 
--- a layer of the same name and parent with at least the entries of another
-pub record HasEntriesOf (l m : Layer) : Type 0 where
+-- a delta of the same name and parent with at least the entries of another
+pub record HasEntriesOf (l m : Delta) : Type 0 where
   pub name : m.name ≡ l.name
   pub parent : m.parent ≡ l.parent
   pub base : (q : CellId) → HasDifference l.base q → HasDifference m.base q
   pub current : (q : CellId) → HasDifference l.current q → HasDifference m.current q
 
--- each layer has the same name and parent as before, and at least the same entries
-pub record Extends (ls ms : List Layer) : Type 0 where
+-- each delta has the same name and parent as before, and at least the same entries
+pub record Extends (ls ms : List Delta) : Type 0 where
   pub long : length ms ≡ length ls
-  pub each : (k : ℕ) → HasEntriesOf (layer_at ls k) (layer_at ms k)
+  pub each : (k : ℕ) → HasEntriesOf (delta_at ls k) (delta_at ms k)
 
--- a layer has the base entry of another at a cell, and no other neutral entry there where the other has none
-pub record StaysOwnAt (q : CellId) (l m : Layer) : Type 0 where
+-- a delta has the base entry of another at a cell, and no other neutral entry there where the other has none
+pub record StaysOwnAt (q : CellId) (l m : Delta) : Type 0 where
   pub base : finite.get m.base q ≡ finite.get l.base q
   pub current : (row : Option Row) → IsOwnOver row (finite.get l.current q) → IsOwnOver row (finite.get m.current q)
   pub saved : (row : Option Row) → AreOwnOver row q l.marks → AreOwnOver row q m.marks
 
--- each layer has no new neutral entry at any cell, but for the one at a position at some cells
-abbrev pub StayOwnBut : ℕ → List CellId → List Layer → List Layer → Type 0
-StayOwnBut at cells ls ms = (k : ℕ) (q : CellId) → (k ≡ at → is_among cells q ≡ false) → StaysOwnAt q (layer_at ls k) (layer_at ms k)
+-- each delta has no new neutral entry at any cell, but for the one at a position at some cells
+abbrev pub StayOwnBut : ℕ → List CellId → List Delta → List Delta → Type 0
+StayOwnBut at cells ls ms = (k : ℕ) (q : CellId) → (k ≡ at → is_among cells q ≡ false) → StaysOwnAt q (delta_at ls k) (delta_at ms k)
 
--- each layer has no new neutral entry at any cell, but for the children of a workspace at some cells
-abbrev pub StayOwnButChildren : Name → List CellId → List Layer → List Layer → Type 0
-StayOwnButChildren name cells ls ms = (k : ℕ) (q : CellId) → (IsUnder name (layer_at ls k) → is_among cells q ≡ false)
-    → StaysOwnAt q (layer_at ls k) (layer_at ms k)
+-- each delta has no new neutral entry at any cell, but for the children of a workspace at some cells
+abbrev pub StayOwnButChildren : Name → List CellId → List Delta → List Delta → Type 0
+StayOwnButChildren name cells ls ms = (k : ℕ) (q : CellId) → (IsUnder name (delta_at ls k) → is_among cells q ≡ false)
+    → StaysOwnAt q (delta_at ls k) (delta_at ms k)
 
 -- the base of each child of a workspace has entries at these cells
-abbrev pub ChildrenPin : List Layer → Name → List CellId → Type 0
-ChildrenPin ls name cells = (k : ℕ) → 0 < k → k < length ls → IsUnder name (layer_at ls k) → HasEntries (layer_at ls k).base cells
+abbrev pub ChildrenPin : List Delta → Name → List CellId → Type 0
+ChildrenPin ls name cells = (k : ℕ) → 0 < k → k < length ls → IsUnder name (delta_at ls k) → HasEntries (delta_at ls k).base cells
 
 -- the changes from a content to the rows at some cells, set one after another
 unfoldable pub set_each : Content → Changes → RowEntries → Changes

@@ -4,7 +4,7 @@
 ghost use Rattle.std.specs.Prelude.{◌≡◌, ◌<◌, ◌++◌, true, length, Some, IfOk};
 ghost use Rattle.std.specs.FinMap as finite;
 ghost use Rattle.clr_rows.specs.Contents.{changes, no_changes, taken_over};
-ghost use Rattle.clr_layers.specs.Layers.{layer_at, stored_at, saved_differences, wholes};
+ghost use Rattle.clr_deltas.specs.Deltas.{delta_at, stored_at, saved_differences, wholes};
 ghost use Rattle.clr_workspaces.specs.Marks.{is_saved, mark_at, saved_content};
 ghost use Rattle.clr_workspaces.specs.Workspaces.{workspace_at, parent_of as position_of_parent};
 ghost use Rattle.clr_workspaces.specs.Operations.{own_changes};
@@ -14,7 +14,7 @@ ghost use Rattle.clr_contents.specs.Comparing.{set_at};
 use crate::views::{BaseView, ChangedView, SavedView, View};
 use clr_change::ChangeSet;
 use clr_differences::Differences;
-use clr_layers::{StoredMark, WorkspaceMap};
+use clr_deltas::{StoredMark, WorkspaceMap};
 use clr_rows::{CellId, RowView, Sheet};
 use std::alloc::{AllocError, Global};
 
@@ -53,8 +53,8 @@ fn cells_of_mark(alloc: Global, mark: &StoredMark) -> Result<Vec<CellId>, AllocE
 /// one of its savepoints.
 fn cells_of_both(map: &WorkspaceMap, at: usize, mark: usize) -> Result<Vec<CellId>, AllocError>
     requires within { at < length map.now }
-    requires marked { mark < length (layer_at map.now at).marks }
-    ensures { IfOk result (λ cells. let l = layer_at map.now at in
+    requires marked { mark < length (delta_at map.now at).marks }
+    ensures { IfOk result (λ cells. let l = delta_at map.now at in
         cells.items ≡ finite.keys l.current ++ finite.keys (saved_differences (stored_at l.marks mark))) }
 {
     let mut cells = map.current(at).cells()?;

@@ -3,13 +3,13 @@
 ghost use Rattle.std.specs.Prelude.{◌≡◌, ◌<◌, ◌∷◌, [], length, OnOk};
 ghost use Rattle.std.specs.Str.{bytes_eq};
 ghost use Rattle.clr_differences.specs.Differences.{HasDifference, HasEntries};
-ghost use Rattle.clr_layers.specs.Layers.{layer_at, wholes, IsUnder, EachMarkPins};
+ghost use Rattle.clr_deltas.specs.Deltas.{delta_at, wholes, IsUnder, EachMarkPins};
 ghost use Rattle.clr_contents.specs.Pinning.{Extends, ChildrenPin, StayOwnBut, StayOwnButChildren};
 ghost use Rattle.clr_workspaces.specs.Roots.{IsRooted};
 
 use crate::reads::{base_row_of, parent_of, row_of};
 use clr_change::copy_row;
-use clr_layers::WorkspaceMap;
+use clr_deltas::WorkspaceMap;
 use clr_rows::{CellId, Sheet};
 use std::alloc::AllocError;
 
@@ -25,7 +25,7 @@ fn pin_base(live: &Sheet, map: &mut WorkspaceMap, at: usize, cell: CellId) -> Re
     ensures seen { wholes live.now map.new ≡ wholes live.now map.old }
     ensures extends { Extends map.old map.new }
     ensures elsewhere { StayOwnBut at (cell ∷ []) map.old map.new }
-    ensures pinned { OnOk result (HasDifference (layer_at map.new at).base cell) }
+    ensures pinned { OnOk result (HasDifference (delta_at map.new at).base cell) }
 {
     if map.base(at).get(cell).is_some() {
         return Ok(());
@@ -49,7 +49,7 @@ fn pin_bases(
     ensures seen { wholes live.now map.new ≡ wholes live.now map.old }
     ensures extends { Extends map.old map.new }
     ensures elsewhere { StayOwnBut at cells.now map.old map.new }
-    ensures pinned { OnOk result (HasEntries (layer_at map.new at).base cells.now) }
+    ensures pinned { OnOk result (HasEntries (delta_at map.new at).base cells.now) }
 {
     for cell in cells {
         pin_base(live, map, at, *cell)?;
@@ -61,7 +61,7 @@ fn pin_bases(
 fn is_child_of(map: &WorkspaceMap, child: usize, parent: usize) -> bool
     requires child { child < length map.now }
     requires parent { parent < length map.now }
-    ensures { result ≡ bytes_eq (layer_at map.now parent).name (layer_at map.now child).parent }
+    ensures { result ≡ bytes_eq (delta_at map.now parent).name (delta_at map.now child).parent }
 {
     map.name_at(parent) == map.parent_name(child)
 }
@@ -80,8 +80,8 @@ fn pin_child(
     requires rooted { IsRooted (wholes live.now map.old) }
     ensures seen { wholes live.now map.new ≡ wholes live.now map.old }
     ensures extends { Extends map.old map.new }
-    ensures elsewhere { StayOwnButChildren (layer_at map.old parent).name cells.now map.old map.new }
-    ensures pinned { OnOk result (IsUnder (layer_at map.old parent).name (layer_at map.new child) → HasEntries (layer_at map.new child).base cells.now) }
+    ensures elsewhere { StayOwnButChildren (delta_at map.old parent).name cells.now map.old map.new }
+    ensures pinned { OnOk result (IsUnder (delta_at map.old parent).name (delta_at map.new child) → HasEntries (delta_at map.new child).base cells.now) }
 {
     if !is_child_of(map, child, parent) {
         return Ok(());
@@ -102,8 +102,8 @@ pub fn pin_children(
     requires rooted { IsRooted (wholes live.now map.old) }
     ensures seen { wholes live.now map.new ≡ wholes live.now map.old }
     ensures extends { Extends map.old map.new }
-    ensures elsewhere { StayOwnButChildren (layer_at map.old at).name cells.now map.old map.new }
-    ensures children { OnOk result (ChildrenPin map.new (layer_at map.old at).name cells.now) }
+    ensures elsewhere { StayOwnButChildren (delta_at map.old at).name cells.now map.old map.new }
+    ensures children { OnOk result (ChildrenPin map.new (delta_at map.old at).name cells.now) }
 {
     for k in 1..map.len() {
         pin_child(live, map, k, at, cells)?;
@@ -125,7 +125,7 @@ fn pin_current(
     ensures seen { wholes live.now map.new ≡ wholes live.now map.old }
     ensures extends { Extends map.old map.new }
     ensures elsewhere { StayOwnBut at (cell ∷ []) map.old map.new }
-    ensures pinned { OnOk result (HasDifference (layer_at map.new at).current cell) }
+    ensures pinned { OnOk result (HasDifference (delta_at map.new at).current cell) }
 {
     if map.current(at).get(cell).is_some() {
         return Ok(());
@@ -148,7 +148,7 @@ pub fn pin_own(
     ensures seen { wholes live.now map.new ≡ wholes live.now map.old }
     ensures extends { Extends map.old map.new }
     ensures elsewhere { StayOwnBut at cells.now map.old map.new }
-    ensures pinned { OnOk result (HasEntries (layer_at map.new at).current cells.now) }
+    ensures pinned { OnOk result (HasEntries (delta_at map.new at).current cells.now) }
 {
     for cell in cells {
         pin_current(live, map, at, *cell)?;
@@ -170,7 +170,7 @@ fn pin_saved(
     ensures seen { wholes live.now map.new ≡ wholes live.now map.old }
     ensures extends { Extends map.old map.new }
     ensures elsewhere { StayOwnBut at (cell ∷ []) map.old map.new }
-    ensures pinned { OnOk result (EachMarkPins (layer_at map.new at).marks cell) }
+    ensures pinned { OnOk result (EachMarkPins (delta_at map.new at).marks cell) }
 {
     let row = copy_row(base_row_of(live, map, at, cell))?;
     map.pin_saved(at, cell, row.as_ref())
@@ -191,8 +191,8 @@ pub fn pin_row(
     ensures seen { wholes live.now map.new ≡ wholes live.now map.old }
     ensures extends { Extends map.old map.new }
     ensures elsewhere { StayOwnBut at (cell ∷ []) map.old map.new }
-    ensures current { OnOk result (HasDifference (layer_at map.new at).current cell) }
-    ensures saved { OnOk result (EachMarkPins (layer_at map.new at).marks cell) }
+    ensures current { OnOk result (HasDifference (delta_at map.new at).current cell) }
+    ensures saved { OnOk result (EachMarkPins (delta_at map.new at).marks cell) }
 {
     pin_current(live, map, at, cell)?;
     pin_saved(live, map, at, cell)

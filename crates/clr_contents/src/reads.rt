@@ -4,12 +4,12 @@ ghost use Rattle.std.specs.Prelude.{◌≡◌, ◌<◌, length, true, Some};
 ghost use Rattle.std.specs.FinMap as finite;
 ghost use Rattle.std.specs.Option.{option_copied};
 ghost use Rattle.clr_rows.specs.Contents.{row_at};
-ghost use Rattle.clr_layers.specs.Layers.{layer_at, saved_differences, stored_at, wholes};
+ghost use Rattle.clr_deltas.specs.Deltas.{delta_at, saved_differences, stored_at, wholes};
 ghost use Rattle.clr_workspaces.specs.Marks.{is_saved, mark_at, saved_content};
 ghost use Rattle.clr_workspaces.specs.Workspaces.{workspace_at, parent_of as position_of_parent, depth_of};
 ghost use Rattle.clr_workspaces.specs.Roots.{IsRooted};
 
-use clr_layers::{StoredMark, WorkspaceMap};
+use clr_deltas::{StoredMark, WorkspaceMap};
 use clr_rows::{CellId, Row, Sheet};
 
 /// Returns the position of the parent of a workspace other than LIVE.
@@ -78,8 +78,8 @@ fn saved_entry(mark: &StoredMark, cell: CellId) -> Option<&Option<Row>>
 /// Returns the entry at a cell of the mark at a position, or none.
 fn entry_at(map: &WorkspaceMap, at: usize, mark: usize, cell: CellId) -> Option<&Option<Row>>
     requires within { at < length map.now }
-    requires marked { mark < length (layer_at map.now at).marks }
-    ensures { option_copied result ≡ finite.get (saved_differences (stored_at (layer_at map.now at).marks mark)) cell }
+    requires marked { mark < length (delta_at map.now at).marks }
+    ensures { option_copied result ≡ finite.get (saved_differences (stored_at (delta_at map.now at).marks mark)) cell }
 {
     saved_entry(&map.marks(at)[mark], cell)
 }

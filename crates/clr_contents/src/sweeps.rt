@@ -2,7 +2,7 @@
 
 ghost use Rattle.std.specs.Prelude.{◌≡◌, ◌<◌, ◌||◌, length, nat_eq};
 ghost use Rattle.std.specs.Str.{bytes_eq};
-ghost use Rattle.clr_layers.specs.Layers.{layer_at, layer_changed, wholes};
+ghost use Rattle.clr_deltas.specs.Deltas.{delta_at, delta_changed, wholes};
 ghost use Rattle.clr_workspaces.specs.Workspaces.{workspace_at};
 ghost use Rattle.clr_differences.specs.Differences.{without_neutral, swept_at};
 ghost use Rattle.clr_workspaces.specs.Roots.{IsRooted};
@@ -11,7 +11,7 @@ ghost use Rattle.clr_contents.specs.Lean.{content_of_parent, swept_marks, swept_
 use crate::reads::parent_of;
 use crate::views::{BaseView, View};
 use clr_differences::Differences;
-use clr_layers::{WorkspaceMap, sweep_each, sweep_each_at};
+use clr_deltas::{WorkspaceMap, sweep_each, sweep_each_at};
 use clr_rows::{CellId, Sheet};
 
 // No function here changes a content or takes memory.
@@ -22,7 +22,7 @@ fn sweep_base(live: &Sheet, map: &mut WorkspaceMap, at: usize)
     requires child { 0 < at }
     requires within { at < length map.old }
     requires rooted { IsRooted (wholes live.now map.old) }
-    ensures { map.new ≡ layer_changed map.old at (λ l. record l { base = without_neutral (content_of_parent (wholes live.now map.old) at) l.base }) }
+    ensures { map.new ≡ delta_changed map.old at (λ l. record l { base = without_neutral (content_of_parent (wholes live.now map.old) at) l.base }) }
 {
     let above = parent_of(live, map, at);
     let none = Differences::new(map.allocator());
@@ -37,7 +37,7 @@ fn sweep_current(live: &Sheet, map: &mut WorkspaceMap, at: usize)
     requires child { 0 < at }
     requires within { at < length map.old }
     requires rooted { IsRooted (wholes live.now map.old) }
-    ensures { map.new ≡ layer_changed map.old at (λ l. record l { current = without_neutral (workspace_at (wholes live.now map.old) at).base l.current }) }
+    ensures { map.new ≡ delta_changed map.old at (λ l. record l { current = without_neutral (workspace_at (wholes live.now map.old) at).base l.current }) }
 {
     let none = Differences::new(map.allocator());
     let mut current = map.replace_current(at, none);
@@ -51,7 +51,7 @@ fn sweep_saved(live: &Sheet, map: &mut WorkspaceMap, at: usize)
     requires child { 0 < at }
     requires within { at < length map.old }
     requires rooted { IsRooted (wholes live.now map.old) }
-    ensures { map.new ≡ layer_changed map.old at (λ l. record l { marks = swept_marks (workspace_at (wholes live.now map.old) at).base l.marks }) }
+    ensures { map.new ≡ delta_changed map.old at (λ l. record l { marks = swept_marks (workspace_at (wholes live.now map.old) at).base l.marks }) }
 {
     let none = Vec::new(map.allocator());
     let mut marks = map.replace_marks(at, none);
@@ -65,8 +65,8 @@ fn sweep_one(live: &Sheet, map: &mut WorkspaceMap, at: usize)
     requires within { at < length map.old }
     requires rooted { IsRooted (wholes live.now map.old) }
     ensures seen { wholes live.now map.new ≡ wholes live.now map.old }
-    ensures lean { IsLeanOver (wholes live.now map.old) at (layer_at map.new at) }
-    ensures others { map.new ≡ layer_changed map.old at (λ _. layer_at map.new at) }
+    ensures lean { IsLeanOver (wholes live.now map.old) at (delta_at map.new at) }
+    ensures others { map.new ≡ delta_changed map.old at (λ _. delta_at map.new at) }
 {
     sweep_base(live, map, at);
     sweep_current(live, map, at);
@@ -89,7 +89,7 @@ fn sweep_base_at(live: &Sheet, map: &mut WorkspaceMap, at: usize, cells: &[CellI
     requires child { 0 < at }
     requires within { at < length map.old }
     requires rooted { IsRooted (wholes live.now map.old) }
-    ensures { map.new ≡ layer_changed map.old at (λ l. record l { base = swept_at (content_of_parent (wholes live.now map.old) at) cells.now l.base }) }
+    ensures { map.new ≡ delta_changed map.old at (λ l. record l { base = swept_at (content_of_parent (wholes live.now map.old) at) cells.now l.base }) }
 {
     let above = parent_of(live, map, at);
     let none = Differences::new(map.allocator());
@@ -103,7 +103,7 @@ fn sweep_current_at(live: &Sheet, map: &mut WorkspaceMap, at: usize, cells: &[Ce
     requires child { 0 < at }
     requires within { at < length map.old }
     requires rooted { IsRooted (wholes live.now map.old) }
-    ensures { map.new ≡ layer_changed map.old at (λ l. record l { current = swept_at (workspace_at (wholes live.now map.old) at).base cells.now l.current }) }
+    ensures { map.new ≡ delta_changed map.old at (λ l. record l { current = swept_at (workspace_at (wholes live.now map.old) at).base cells.now l.current }) }
 {
     let none = Differences::new(map.allocator());
     let mut current = map.replace_current(at, none);
@@ -116,7 +116,7 @@ fn sweep_saved_at(live: &Sheet, map: &mut WorkspaceMap, at: usize, cells: &[Cell
     requires child { 0 < at }
     requires within { at < length map.old }
     requires rooted { IsRooted (wholes live.now map.old) }
-    ensures { map.new ≡ layer_changed map.old at (λ l. record l { marks = swept_marks_at (workspace_at (wholes live.now map.old) at).base cells.now l.marks }) }
+    ensures { map.new ≡ delta_changed map.old at (λ l. record l { marks = swept_marks_at (workspace_at (wholes live.now map.old) at).base cells.now l.marks }) }
 {
     let none = Vec::new(map.allocator());
     let mut marks = map.replace_marks(at, none);
@@ -130,12 +130,12 @@ fn sweep_one_at(live: &Sheet, map: &mut WorkspaceMap, at: usize, cells: &[CellId
     requires within { at < length map.old }
     requires rooted { IsRooted (wholes live.now map.old) }
     ensures seen { wholes live.now map.new ≡ wholes live.now map.old }
-    ensures here { layer_at map.new at ≡ (let ws = wholes live.now map.old in let l = layer_at map.old at in record l {
+    ensures here { delta_at map.new at ≡ (let ws = wholes live.now map.old in let l = delta_at map.old at in record l {
       base = swept_at (content_of_parent ws at) cells.now l.base;
       current = swept_at (workspace_at ws at).base cells.now l.current;
       marks = swept_marks_at (workspace_at ws at).base cells.now l.marks;
     }) }
-    ensures others { map.new ≡ layer_changed map.old at (λ _. layer_at map.new at) }
+    ensures others { map.new ≡ delta_changed map.old at (λ _. delta_at map.new at) }
 {
     sweep_base_at(live, map, at, cells);
     sweep_current_at(live, map, at, cells);
@@ -146,7 +146,7 @@ fn sweep_one_at(live: &Sheet, map: &mut WorkspaceMap, at: usize, cells: &[CellId
 fn is_near(map: &WorkspaceMap, one: usize, at: usize) -> bool
     requires one { one < length map.now }
     requires within { at < length map.now }
-    ensures { result ≡ nat_eq one at || bytes_eq (layer_at map.now at).name (layer_at map.now one).parent }
+    ensures { result ≡ nat_eq one at || bytes_eq (delta_at map.now at).name (delta_at map.now one).parent }
 {
     one == at || map.name_at(at) == map.parent_name(one)
 }
@@ -159,9 +159,9 @@ fn sweep_near(live: &Sheet, map: &mut WorkspaceMap, one: usize, at: usize, cells
     requires within { at < length map.old }
     requires rooted { IsRooted (wholes live.now map.old) }
     ensures seen { wholes live.now map.new ≡ wholes live.now map.old }
-    ensures lean { IsLeanBeside (wholes live.now map.old) at cells.now one (layer_at map.old one)
-        → IsLeanOver (wholes live.now map.old) one (layer_at map.new one) }
-    ensures others { map.new ≡ layer_changed map.old one (λ _. layer_at map.new one) }
+    ensures lean { IsLeanBeside (wholes live.now map.old) at cells.now one (delta_at map.old one)
+        → IsLeanOver (wholes live.now map.old) one (delta_at map.new one) }
+    ensures others { map.new ≡ delta_changed map.old one (λ _. delta_at map.new one) }
 {
     if !is_near(map, one, at) {
         return;

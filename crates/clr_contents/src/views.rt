@@ -1,7 +1,7 @@
 //! Current contents, bases and savepoints of workspaces, and contents with changes over them, seen by cell.
 
 ghost use Rattle.std.specs.Prelude.{◌≡◌, ◌<◌, length, true};
-ghost use Rattle.clr_layers.specs.Layers.{wholes};
+ghost use Rattle.clr_deltas.specs.Deltas.{wholes};
 ghost use Rattle.clr_rows.specs.Contents.{taken_over};
 ghost use Rattle.clr_workspaces.specs.Marks.{is_saved, mark_at, saved_content};
 ghost use Rattle.clr_workspaces.specs.Workspaces.{workspace_at};
@@ -9,7 +9,7 @@ ghost use Rattle.clr_workspaces.specs.Roots.{IsRooted};
 
 use crate::reads::{base_row_of, row_of, saved_row_of};
 use clr_change::ChangeSet;
-use clr_layers::WorkspaceMap;
+use clr_deltas::WorkspaceMap;
 use clr_rows::{CellId, Row, RowView, Sheet};
 use std::marker::Model;
 
@@ -24,7 +24,7 @@ pub struct View<'a> {
 impl<'a> Model for View<'a> {
     ghost use Rattle.std.specs.Prelude.{◌<◌, length};
     ghost use Rattle.clr_rows.specs.Contents.{Content, coded_content};
-    ghost use Rattle.clr_layers.specs.Layers.{wholes};
+    ghost use Rattle.clr_deltas.specs.Deltas.{wholes};
     ghost use Rattle.clr_workspaces.specs.Workspaces.{workspace_at};
     ghost use Rattle.clr_workspaces.specs.Roots.{IsRooted};
 
@@ -67,7 +67,7 @@ pub struct BaseView<'a> {
 impl<'a> Model for BaseView<'a> {
     ghost use Rattle.std.specs.Prelude.{◌<◌, length};
     ghost use Rattle.clr_rows.specs.Contents.{Content, coded_content};
-    ghost use Rattle.clr_layers.specs.Layers.{wholes};
+    ghost use Rattle.clr_deltas.specs.Deltas.{wholes};
     ghost use Rattle.clr_workspaces.specs.Workspaces.{workspace_at};
     ghost use Rattle.clr_workspaces.specs.Roots.{IsRooted};
 
@@ -112,7 +112,7 @@ pub struct SavedView<'a> {
 impl<'a> Model for SavedView<'a> {
     ghost use Rattle.std.specs.Prelude.{◌≡◌, ◌<◌, length, true};
     ghost use Rattle.clr_rows.specs.Contents.{Content, coded_content};
-    ghost use Rattle.clr_layers.specs.Layers.{wholes};
+    ghost use Rattle.clr_deltas.specs.Deltas.{wholes};
     ghost use Rattle.clr_workspaces.specs.Marks.{is_saved, mark_at, saved_content};
     ghost use Rattle.clr_workspaces.specs.Workspaces.{workspace_at};
     ghost use Rattle.clr_workspaces.specs.Roots.{IsRooted};

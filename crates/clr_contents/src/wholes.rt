@@ -3,7 +3,7 @@
 ghost use Rattle.std.specs.Prelude.{◌≡◌, ◌<◌, true, length, IfOk};
 ghost use Rattle.clr_rows.specs.Contents.{changes, no_changes};
 ghost use Rattle.clr_differences.specs.Differences.{cells_in};
-ghost use Rattle.clr_layers.specs.Layers.{layer_at, stored_at, saved_differences, wholes};
+ghost use Rattle.clr_deltas.specs.Deltas.{delta_at, stored_at, saved_differences, wholes};
 ghost use Rattle.clr_workspaces.specs.Marks.{is_saved, mark_at, saved_content};
 ghost use Rattle.clr_workspaces.specs.Workspaces.{workspace_at};
 ghost use Rattle.clr_contents.specs.Pinning.{set_each};
@@ -12,7 +12,7 @@ ghost use Rattle.clr_workspaces.specs.Roots.{IsRooted};
 use crate::reads::{base_row_of, parent_of};
 use clr_change::ChangeSet;
 use clr_differences::Differences;
-use clr_layers::{StoredMark, WorkspaceMap};
+use clr_deltas::{StoredMark, WorkspaceMap};
 use clr_rows::{CellId, Row, Sheet};
 use std::alloc::{AllocError, Global};
 
@@ -102,8 +102,8 @@ fn differences_of(alloc: Global, mark: &StoredMark) -> Result<Differences, Alloc
 /// Returns the differences of a savepoint from the base.
 pub fn saved_at(map: &WorkspaceMap, at: usize, mark: usize) -> Result<Differences, AllocError>
     requires within { at < length map.now }
-    requires marked { mark < length (layer_at map.now at).marks }
-    ensures { IfOk result (λ differences. differences ≡ saved_differences (stored_at (layer_at map.now at).marks mark)) }
+    requires marked { mark < length (delta_at map.now at).marks }
+    ensures { IfOk result (λ differences. differences ≡ saved_differences (stored_at (delta_at map.now at).marks mark)) }
 {
     differences_of(map.allocator(), &map.marks(at)[mark])
 }

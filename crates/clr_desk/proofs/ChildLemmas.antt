@@ -7,8 +7,8 @@ use Rattle.clr_workspaces.specs.Marks.{Name}
 use Rattle.clr_workspaces.specs.Workspaces.{Workspace}
 use Rattle.clr_steps.specs.Offices.{Office}
 use Rattle.clr_steps.specs.Readings.{name_at}
-use Rattle.clr_clearance.specs.Sites.{is_child}
-use Rattle.clr_sites.specs.SiteNames.{site}
+use Rattle.clr_clearance.specs.MergeSets.{is_child}
+use Rattle.clr_merge_sets.specs.MergeSetNames.{merge_set}
 use Rattle.clr_desk.specs.Choices.{child_in, children_of_root}
 
 module _ (o : Office) (root : Name) where
@@ -16,7 +16,7 @@ module _ (o : Office) (root : Name) where
   names = map (λ (w : Workspace). w.name) o.workspaces
 
   abbrev children_to : ℕ → List Name
-  children_to k = filter (is_child o (site root [])) (take k names)
+  children_to k = filter (is_child o (merge_set root [])) (take k names)
 
   -- the name at a position below LIVE's
   named : (k : ℕ) → k < length o.workspaces → name_at o (k + 1) ≡ Some (get_or names k [])
@@ -32,17 +32,17 @@ module _ (o : Office) (root : Name) where
   more k less =
       let count = length-map o.workspaces (λ (w : Workspace). w.name) in
       let inside : k < length names = omega (arith, less, count) in
-      filter_more (is_child o (site root [])) names k [] inside ∙ ap (λ (r : Option Name). children_to k ++ child_in o root r) (sym (named k less))
+      filter_more (is_child o (merge_set root [])) names k [] inside ∙ ap (λ (r : Option Name). children_to k ++ child_in o root r) (sym (named k less))
 
   -- all workspaces
   pub all : (k : ℕ) → length o.workspaces ≤ k → children_to k ≡ children_of_root o root
-  all k past = ap (filter (is_child o (site root []))) (take_all k names
+  all k past = ap (filter (is_child o (merge_set root []))) (take_all k names
       (let count = length-map o.workspaces (λ (w : Workspace). w.name) in omega (arith, past, count)))
 
   -- none yet
   pub none : [] ≡ children_to 0
   none = nothing names
     where
-      nothing : (ns : List Name) → [] ≡ filter (is_child o (site root [])) (take 0 ns)
+      nothing : (ns : List Name) → [] ≡ filter (is_child o (merge_set root [])) (take 0 ns)
       nothing [] = refl
       nothing (n ∷ ns) = refl

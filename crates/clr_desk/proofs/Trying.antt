@@ -9,7 +9,7 @@ use Rattle.std.proofs.lemmas.List.Folds.{list_any-append}
 use Rattle.std.proofs.lemmas.Grind.{flat_map-append}
 use Rattle.clr_workspaces.specs.Marks.{Name}
 use Rattle.clr_steps.specs.Offices.{Office}
-use Rattle.clr_sites.specs.SiteNames.{site}
+use Rattle.clr_merge_sets.specs.MergeSetNames.{merge_set}
 use Rattle.clr_plan.specs.declared.plans.Plan.{Plan}
 use Rattle.clr_plan.specs.declared.plans.Plan.TheVariants as plan
 use Rattle.clr_plan.specs.Promises.{is_out_of_memory}
@@ -52,7 +52,7 @@ left_last ts t e =
 module _ (o : Office) (root : Name) where
   -- one more trial, of those taken so far and one more name
   trials_last : (names : List Name) (ts : List Trial) (name : Name) (p : Plan) → AreTrials o root names ts
-      → IsPlanned o (site root (taken_in ts ++ name ∷ [])) p
+      → IsPlanned o (merge_set root (taken_in ts ++ name ∷ [])) p
       → is_out_of_memory p ≡ false → AreTrials o root (names ++ name ∷ []) (ts ++ record { before = taken_in ts; name = name; plan = p } ∷ [])
   trials_last names ts name p are planned found =
       let t : Trial = record { before = taken_in ts; name = name; plan = p } in
@@ -68,13 +68,13 @@ module _ (o : Office) (root : Name) where
 
   -- nothing is tried yet
   pub none_tried : (choice : Choice) (names : List Name) → choice.taken.items ≡ [] → choice.left.items ≡ [] → choice.is_any_left ≡ false
-      → IsPlanned o (site root []) (plan.Cleared choice.certificate) → IsChosen o root (take 0 names) choice
+      → IsPlanned o (merge_set root []) (plan.Cleared choice.certificate) → IsChosen o root (take 0 names) choice
   none_tried choice names taken left any planned = (
     [],
     record { names = nothing names; each = λ at u e. absurd (cc) },
     record {
       taken = taken;
-      planned = subst (λ (ms : List Name). IsPlanned o (site root ms) (plan.Cleared choice.certificate)) (sym taken) planned;
+      planned = subst (λ (ms : List Name). IsPlanned o (merge_set root ms) (plan.Cleared choice.certificate)) (sym taken) planned;
       left = left;
       any_left = any;
     },
@@ -85,7 +85,7 @@ module _ (o : Office) (root : Name) where
       nothing (n ∷ ns) = refl
 
   module _ (names : List Name) (at : ℕ) (name : Name) (less : at < length names) (is : name ≡ get_or names at name) (old new : Choice) where
-    more : (ts : List Trial) → AreTrials o root (take at names) ts → (p : Plan) → IsPlanned o (site root (taken_in ts ++ name ∷ [])) p
+    more : (ts : List Trial) → AreTrials o root (take at names) ts → (p : Plan) → IsPlanned o (merge_set root (taken_in ts ++ name ∷ [])) p
         → is_out_of_memory p ≡ false
         → AreTrials o root (take (at + 1) names) (ts ++ record { before = taken_in ts; name = name; plan = p } ∷ [])
     more ts are p planned found =
@@ -97,15 +97,15 @@ module _ (o : Office) (root : Name) where
         → IsChosen o root (take (at + 1) names) new
     tried (answer.Taken c) planned (taken, certificate, left, any) (ts, are, made) =
         let t : Trial = record { before = taken_in ts; name = name; plan = plan.Cleared c } in
-        let here : IsPlanned o (site root (taken_in ts ++ name ∷ [])) (plan.Cleared c) = subst
-        (λ (ms : List Name). IsPlanned o (site root (ms ++ name ∷ [])) (plan.Cleared c)) made.taken planned in
+        let here : IsPlanned o (merge_set root (taken_in ts ++ name ∷ [])) (plan.Cleared c) = subst
+        (λ (ms : List Name). IsPlanned o (merge_set root (ms ++ name ∷ [])) (plan.Cleared c)) made.taken planned in
         let now : new.taken.items ≡ old.taken.items ++ name ∷ [] = taken in (
           ts ++ t ∷ [],
           more ts are (plan.Cleared c) here refl,
           record {
             taken = now ∙ ap (λ l. l ++ name ∷ []) made.taken ∙ sym (taken_last ts t refl);
-            planned = subst (λ d. IsPlanned o (site root new.taken.items) (plan.Cleared d)) (sym certificate)
-                (subst (λ (ms : List Name). IsPlanned o (site root ms) (plan.Cleared c)) (sym now) planned);
+            planned = subst (λ d. IsPlanned o (merge_set root new.taken.items) (plan.Cleared d)) (sym certificate)
+                (subst (λ (ms : List Name). IsPlanned o (merge_set root ms) (plan.Cleared c)) (sym now) planned);
             left = left ∙ made.left ∙ sym (flat_map-append (left_text o root) ts (t ∷ []) ∙ append-nil (flat_map (left_text o root) ts));
             any_left = any ∙ made.any_left ∙ sym (list_any-append (λ u. not (is_taken u)) ts (t ∷ []) ∙ or_nothing (list_any (λ u. not (is_taken u)) ts));
           },
@@ -116,16 +116,16 @@ module _ (o : Office) (root : Name) where
         or_nothing false = refl
     tried (answer.Left lines) (p, planned, uncleared, found, told) (taken, certificate, left, any) (ts, are, made) =
         let t : Trial = record { before = taken_in ts; name = name; plan = p } in
-        let here : IsPlanned o (site root (taken_in ts ++ name ∷ [])) p = subst
-        (λ (ms : List Name). IsPlanned o (site root (ms ++ name ∷ [])) p) made.taken planned in
+        let here : IsPlanned o (merge_set root (taken_in ts ++ name ∷ [])) p = subst
+        (λ (ms : List Name). IsPlanned o (merge_set root (ms ++ name ∷ [])) p) made.taken planned in
         let text : lines.items ≡ left_text o root t = told ∙ ap (λ (ms : List Name). refusal_text o.schema root (ms ++ name ∷ []) name p) made.taken ∙ sym
         (said t uncleared) in (
           ts ++ t ∷ [],
           more ts are p here found,
           record {
             taken = taken ∙ made.taken ∙ sym (left_last ts t uncleared);
-            planned = subst (λ d. IsPlanned o (site root new.taken.items) (plan.Cleared d)) (sym certificate)
-                (subst (λ (ms : List Name). IsPlanned o (site root ms) (plan.Cleared old.certificate)) (sym taken) made.planned);
+            planned = subst (λ d. IsPlanned o (merge_set root new.taken.items) (plan.Cleared d)) (sym certificate)
+                (subst (λ (ms : List Name). IsPlanned o (merge_set root ms) (plan.Cleared old.certificate)) (sym taken) made.planned);
             left = left ∙ ap₂ (λ (a b : List ℕ). a ++ b) made.left (text ∙ sym (append-nil (left_text o root t))) ∙ sym
                 (flat_map-append (left_text o root) ts (t ∷ []));
             any_left = any ∙ sym (list_any-append (λ u. not (is_taken u)) ts (t ∷ []) ∙ ap
@@ -152,6 +152,6 @@ pub choice_printed : {E : Type 0} (o : Office) (root : Name) (names : List Name)
     (names_line (codes "kept") choice.taken.items ++ choice.left.items) choice.is_any_left false)
     → IfOk result (λ p. IsChoicePrint root names o (printed p))
 choice_printed o root names choice (Ok p) (trials, are, made) is =
-    of_trials trials choice.certificate are (subst (λ (ms : List Name). IsPlanned o (site root ms) (plan.Cleared choice.certificate)) made.taken made.planned)
+    of_trials trials choice.certificate are (subst (λ (ms : List Name). IsPlanned o (merge_set root ms) (plan.Cleared choice.certificate)) made.taken made.planned)
     (rw (is, made.taken, made.left, made.any_left))
 choice_printed o root names choice (Err e) chosen is = tt

@@ -2,7 +2,7 @@
 use Rattle.std.specs.Prelude.{◌≡◌, true, false, []}
 use Rattle.clr_cert.specs.Texts.{certificate_text}
 use Rattle.clr_steps.specs.Offices.{Office}
-use Rattle.clr_steps.specs.Quiet.{Site}
+use Rattle.clr_steps.specs.Quiet.{MergeSet}
 use Rattle.clr_plan.specs.declared.plans.Plan.{Plan}
 use Rattle.clr_plan.specs.declared.plans.Plan.TheVariants as plan
 use Rattle.clr_plan.specs.Promises.{is_out_of_memory}
@@ -11,9 +11,9 @@ use Rattle.clr_office.specs.Outcomes.{IsPlanned}
 use Rattle.clr_prints.specs.Printing.{PrintoutOrFault, printout_of}
 
 -- the certificate of a cleared plan; of any other its lines, as notes, which counts as a refusal
-abbrev pub plan_print : Office → Site → Plan → PrintoutOrFault
+abbrev pub plan_print : Office → MergeSet → Plan → PrintoutOrFault
 plan_print o s (plan.Cleared c) = printout_of (certificate_text o.schema c) [] false false
 plan_print o s p = printout_of [] (plan_text o.schema s.members s.root p) true (is_out_of_memory p)
 
-abbrev pub IsCertificatePrint : Site → Office → PrintoutOrFault → Type 0
+abbrev pub IsCertificatePrint : MergeSet → Office → PrintoutOrFault → Type 0
 IsCertificatePrint s o print = (p : Plan) × IsPlanned o s p × (print ≡ plan_print o s p)

@@ -5,10 +5,10 @@ use Rattle.std.specs.List.{flat_map, list_any}
 use Rattle.clr_rows.specs.declared.tables.TableDef.{TableDef}
 use Rattle.clr_workspaces.specs.Marks.{Name}
 use Rattle.clr_steps.specs.Offices.{Office}
-use Rattle.clr_clearance.specs.Sites.{is_child}
+use Rattle.clr_clearance.specs.MergeSets.{is_child}
 use Rattle.clr_cert.specs.declared.certificates.Certificate.{Certificate}
 use Rattle.clr_cert.specs.Texts.{certificate_text}
-use Rattle.clr_sites.specs.SiteNames.{site}
+use Rattle.clr_merge_sets.specs.MergeSetNames.{merge_set}
 use Rattle.clr_plan.specs.declared.plans.Plan.{Plan}
 use Rattle.clr_plan.specs.declared.plans.Plan.TheVariants as plan
 use Rattle.clr_plan.specs.Promises.{is_cleared, is_out_of_memory}
@@ -19,12 +19,12 @@ use Rattle.clr_prints.specs.Printing.{PrintoutOrFault, printout_of}
 
 -- the children of a root, in order of creation
 abbrev pub children_of_root : Office → Name → List Name
-children_of_root o root = filter (is_child o (site root [])) (map (λ w. w.name) o.workspaces)
+children_of_root o root = filter (is_child o (merge_set root [])) (map (λ w. w.name) o.workspaces)
 
 -- a name in a list, where it is that of a child of the root
 abbrev pub child_in : Office → Name → Option Name → List Name
 child_in o root None = []
-child_in o root (Some name) = if is_child o (site root []) name then name ∷ [] else []
+child_in o root (Some name) = if is_child o (merge_set root []) name then name ∷ [] else []
 
 -- the members that names ask for: these, or all children where there are none
 abbrev pub members_or_children : Office → Name → List Name → List Name
@@ -53,7 +53,7 @@ taken_in trials = map (λ t. t.name) (filter is_taken trials)
 -- the trial at a position: of those taken at earlier ones and its name there is this plan, with what it promises, and memory was found
 pub record IsTrialAt (o : Office) (root : Name) (trials : List Trial) (at : ℕ) (t : Trial) : Type 0 where
   pub before : t.before ≡ taken_in (take at trials)
-  pub planned : IsPlanned o (site root (members_tried t)) t.plan
+  pub planned : IsPlanned o (merge_set root (members_tried t)) t.plan
   pub found : is_out_of_memory t.plan ≡ false
 
 -- these names are tried in their order
@@ -84,6 +84,6 @@ choice_print o root trials c =
 -- names are tried in their order, and the plan of those taken is cleared by this certificate; or no plan of the root is cleared, not even that of nobody
 pub data IsChoicePrint (root : Name) (names : List Name) (o : Office) (print : PrintoutOrFault) : Type 0 where
   of_trials : (trials : List Trial) (c : Certificate) → AreTrials o root (members_or_children o root names) trials
-      → IsPlanned o (site root (taken_in trials)) (plan.Cleared c)
+      → IsPlanned o (merge_set root (taken_in trials)) (plan.Cleared c)
       → print ≡ choice_print o root trials c → IsChoicePrint root names o print
-  of_nobody : (p : Plan) → IsPlanned o (site root []) p → is_cleared p ≡ false → print ≡ plan_print o (site root []) p → IsChoicePrint root names o print
+  of_nobody : (p : Plan) → IsPlanned o (merge_set root []) p → is_cleared p ≡ false → print ≡ plan_print o (merge_set root []) p → IsChoicePrint root names o print

@@ -4,23 +4,23 @@ use Rattle.std.specs.List.{flat_map, list_any, range_with_len}
 use Rattle.clr_rows.specs.declared.tables.TableDef.{TableDef}
 use Rattle.clr_workspaces.specs.Marks.{Name}
 use Rattle.clr_steps.specs.Offices.{Office}
-use Rattle.clr_steps.specs.Quiet.{Site}
+use Rattle.clr_steps.specs.Quiet.{MergeSet}
 use Rattle.clr_clearance.specs.declared.verdicts.Verdict.{Verdict}
 use Rattle.clr_clearance.specs.Plans.{members_at}
 use Rattle.clr_clearance.specs.Verdicts.{names_fault}
-use Rattle.clr_sites.specs.SiteNames.{site}
+use Rattle.clr_merge_sets.specs.MergeSetNames.{merge_set}
 use Rattle.clr_lines.specs.Reports.{count_line}
 use Rattle.clr_verdict_lines.specs.Verdicts.{verdict_text}
 use Rattle.clr_plan.specs.declared.plans.Plan.TheVariants as plan
-use Rattle.clr_site_clashes.specs.SiteClashes.{FindsClashes}
-use Rattle.clr_site_clashes.specs.declared.site_sets.SiteClash.{SiteClash}
-use Rattle.clr_site_clashes.specs.declared.site_sets.SiteClashes.{SiteClashes}
+use Rattle.clr_merge_clashes.specs.MergeClashes.{FindsClashes}
+use Rattle.clr_merge_clashes.specs.declared.clash_sets.MergeClash.{MergeClash}
+use Rattle.clr_merge_clashes.specs.declared.clash_sets.MergeClashes.{MergeClashes}
 use Rattle.clr_desk.specs.Certificates.{plan_print}
 use Rattle.clr_desk.specs.Choices.{members_or_children, names_line}
 use Rattle.clr_prints.specs.Printing.{PrintoutOrFault, printout_of}
 
 -- the members of a set, and why they can't be merged together
-abbrev pub clash_text : List TableDef → Site → SiteClash → List ℕ
+abbrev pub clash_text : List TableDef → MergeSet → MergeClash → List ℕ
 clash_text tables s k =
     names_line (codes "clash") (members_at s k.members.items) ++ codes "cause " ++ verdict_text tables (members_at s k.members.items) s.root k.cause
 
@@ -32,15 +32,15 @@ abbrev pub is_beside : List ℕ → ℕ → Bool
 is_beside looked at = not (is_listed_position at looked)
 
 -- a position that is in none of some sets
-abbrev pub is_in_no_set : List SiteClash → ℕ → Bool
-is_in_no_set clashes at = not (list_any (λ (k : SiteClash). is_listed_position at k.members.items) clashes)
+abbrev pub is_in_no_set : List MergeClash → ℕ → Bool
+is_in_no_set clashes at = not (list_any (λ (k : MergeClash). is_listed_position at k.members.items) clashes)
 
 -- the members that weren't looked at with the others
-abbrev pub beside : Site → List ℕ → List Name
+abbrev pub beside : MergeSet → List ℕ → List Name
 beside s looked = members_at s (filter (is_beside looked) (range_with_len 0 (length s.members)))
 
 -- the members that are in no set
-abbrev pub in_no_set : Site → List SiteClash → List Name
+abbrev pub in_no_set : MergeSet → List MergeClash → List Name
 in_no_set s clashes = members_at s (filter (is_in_no_set clashes) (range_with_len 0 (length s.members)))
 
 -- a line of names, if there are any
@@ -49,20 +49,20 @@ line_of_some word [] = []
 line_of_some word (name ∷ names) = names_line word (name ∷ names)
 
 -- how many sets there are, each set, the members that weren't looked at with the others, and those that are in no set
-abbrev pub clashes_text : List TableDef → Site → List SiteClash → List ℕ → List ℕ
+abbrev pub clashes_text : List TableDef → MergeSet → List MergeClash → List ℕ → List ℕ
 clashes_text tables s clashes looked =
     count_line (codes "clashes") (length clashes) ++ flat_map (clash_text tables s) clashes
     ++ line_of_some (codes "beside") (beside s looked) ++ names_line (codes "free") (in_no_set s clashes)
 
 -- one such set counts as a refusal
-abbrev pub found_print : Office → Site → SiteClashes → PrintoutOrFault
+abbrev pub found_print : Office → MergeSet → MergeClashes → PrintoutOrFault
 found_print o s found = printout_of (clashes_text o.schema s found.clashes.items found.looked.items) [] (nat_lt 0 (length found.clashes.items)) false
 
 -- the smallest sets, or the test of names that fails, as the line of a plan that is unfit
-pub data IsSitePrint (s : Site) (o : Office) (print : PrintoutOrFault) : Type 0 where
-  of_found : (found : SiteClashes) → FindsClashes o s found → print ≡ found_print o s found → IsSitePrint s o print
-  of_names : (v : Verdict) → names_fault o s ≡ Some v → print ≡ plan_print o s (plan.Unfit v) → IsSitePrint s o print
+pub data IsMergeSetPrint (s : MergeSet) (o : Office) (print : PrintoutOrFault) : Type 0 where
+  of_found : (found : MergeClashes) → FindsClashes o s found → print ≡ found_print o s found → IsMergeSetPrint s o print
+  of_names : (v : Verdict) → names_fault o s ≡ Some v → print ≡ plan_print o s (plan.Unfit v) → IsMergeSetPrint s o print
 
 -- of the members that names ask for
 abbrev pub IsClashesPrint : Name → List Name → Office → PrintoutOrFault → Type 0
-IsClashesPrint root names o print = IsSitePrint (site root (members_or_children o root names)) o print
+IsClashesPrint root names o print = IsMergeSetPrint (merge_set root (members_or_children o root names)) o print

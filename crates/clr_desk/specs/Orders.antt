@@ -1,7 +1,7 @@
 -- What is printed of a plan as a work order.
 use Rattle.std.specs.Prelude.{◌≡◌, not, []}
 use Rattle.clr_steps.specs.Offices.{Office}
-use Rattle.clr_steps.specs.Quiet.{Site}
+use Rattle.clr_steps.specs.Quiet.{MergeSet}
 use Rattle.clr_words.specs.declared.work_orders.WorkOrder.{WorkOrder}
 use Rattle.clr_words.specs.WorkOrders.{IsWorkOrder}
 use Rattle.clr_prints.specs.Printing.{PrintoutOrFault, printout_of}
@@ -10,5 +10,5 @@ use Rattle.clr_prints.specs.Printing.{PrintoutOrFault, printout_of}
 abbrev pub order_print : WorkOrder → PrintoutOrFault
 order_print order = printout_of order.text.items [] (not order.is_cleared) order.is_lost
 
-abbrev pub IsOrderPrint : Site → Office → PrintoutOrFault → Type 0
+abbrev pub IsOrderPrint : MergeSet → Office → PrintoutOrFault → Type 0
 IsOrderPrint s o print = (order : WorkOrder) × IsWorkOrder o s order × (print ≡ order_print order)

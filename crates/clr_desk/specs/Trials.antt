@@ -3,7 +3,7 @@ use Rattle.std.specs.Prelude.{◌≡◌, true, false, not, List, [], ◌∷◌, 
 use Rattle.std.specs.List.{flat_map, list_any}
 use Rattle.clr_workspaces.specs.Marks.{Name}
 use Rattle.clr_steps.specs.Offices.{Office}
-use Rattle.clr_sites.specs.SiteNames.{site}
+use Rattle.clr_merge_sets.specs.MergeSetNames.{merge_set}
 use Rattle.clr_plan.specs.declared.plans.Plan.{Plan}
 use Rattle.clr_plan.specs.declared.plans.Plan.TheVariants as plan
 use Rattle.clr_plan.specs.Promises.{is_cleared, is_out_of_memory}
@@ -15,8 +15,8 @@ use Rattle.clr_desk.specs.declared.choices.Trial.TheVariants as answer
 
 -- a name beside those taken: the certificate of them all, or the lines of a plan that isn't cleared
 abbrev pub IsTried : Office → Name → List Name → Name → Answer → Type 0
-IsTried o root taken name (answer.Taken c) = IsPlanned o (site root (taken ++ name ∷ [])) (plan.Cleared c)
-IsTried o root taken name (answer.Left lines) = (p : Plan) × IsPlanned o (site root (taken ++ name ∷ [])) p × (is_cleared p ≡ false)
+IsTried o root taken name (answer.Taken c) = IsPlanned o (merge_set root (taken ++ name ∷ [])) (plan.Cleared c)
+IsTried o root taken name (answer.Left lines) = (p : Plan) × IsPlanned o (merge_set root (taken ++ name ∷ [])) p × (is_cleared p ≡ false)
     × (is_out_of_memory p ≡ false)
     × (lines.items ≡ refusal_text o.schema root (taken ++ name ∷ []) name p)
 
@@ -30,7 +30,7 @@ IsAdded old name (answer.Left lines) new =
 -- what trials of names make: those taken, their certificate, the lines of the others, and whether there are any
 pub record AreMade (o : Office) (root : Name) (trials : List Trial) (choice : Choice) : Type 0 where
   pub taken : choice.taken.items ≡ taken_in trials
-  pub planned : IsPlanned o (site root choice.taken.items) (plan.Cleared choice.certificate)
+  pub planned : IsPlanned o (merge_set root choice.taken.items) (plan.Cleared choice.certificate)
   pub left : choice.left.items ≡ flat_map (left_text o root) trials
   pub any_left : choice.is_any_left ≡ list_any (λ t. not (is_taken t)) trials
 

@@ -1,6 +1,6 @@
 //! Certificates alone.
 ghost use Rattle.std.specs.Prelude.{◌≡◌, ◌∷◌, false, map, IfOk};
-ghost use Rattle.clr_sites.specs.SiteNames.{site};
+ghost use Rattle.clr_merge_sets.specs.MergeSetNames.{merge_set};
 ghost use Rattle.clr_drafts.specs.Drafts.{draft_in};
 ghost use Rattle.clr_plan.specs.Promises.{is_cleared as is_cleared_plan};
 ghost use Rattle.clr_desk.specs.Certificates.{IsCertificatePrint, plan_print};
@@ -24,7 +24,7 @@ fn refusal_print(
 ) -> Result<Print, AllocError>
     requires { is_cleared_plan plan.now ≡ false }
     ensures { IfOk result (λ p. printed p
-        ≡ plan_print office.now (site root.now (map (λ name. name.now) members.now)) plan.now) }
+        ≡ plan_print office.now (merge_set root.now (map (λ name. name.now) members.now)) plan.now) }
 {
     let notes = plan_lines(alloc, office.schema(), members, root, plan)?;
     Ok(Print::new(Vec::new(alloc), notes, true, is_out_of_memory(plan)))
@@ -39,7 +39,7 @@ pub fn plan_print(
     plan: &Plan,
 ) -> Result<Print, AllocError>
     ensures { IfOk result (λ p. printed p
-        ≡ plan_print office.now (site root.now (map (λ name. name.now) members.now)) plan.now) }
+        ≡ plan_print office.now (merge_set root.now (map (λ name. name.now) members.now)) plan.now) }
 {
     match plan {
         Plan::Cleared(certificate) => {
@@ -57,7 +57,7 @@ fn print_of_members(
     root: &str,
     names: &[Words],
 ) -> Result<Print, AllocError>
-    ensures { IfOk result (λ p. IsCertificatePrint (site root.now names.now) office.now (printed p)) }
+    ensures { IfOk result (λ p. IsCertificatePrint (merge_set root.now names.now) office.now (printed p)) }
 {
     let members = texts(alloc, names)?;
     let plan = plan_members(alloc, office, root, members.as_slice());
@@ -71,7 +71,7 @@ pub fn answer_certificate(
     root: &str,
     names: &[Words],
 ) -> Result<Print, RunFault>
-    ensures { IsMadePrintout (IsPrintoutIn (IsHinted (IsCertificatePrint (site root.now names.now)) (root.now ∷ names.now)) (draft_in office.now)) result }
+    ensures { IsMadePrintout (IsPrintoutIn (IsHinted (IsCertificatePrint (merge_set root.now names.now)) (root.now ∷ names.now)) (draft_in office.now)) result }
 {
     match open_office(alloc, office) {
         Ok(office) => {

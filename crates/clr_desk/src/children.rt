@@ -1,8 +1,8 @@
 //! The members that names ask for.
 ghost use Rattle.std.specs.Prelude.{◌≡◌, ◌++◌, [], IfOk, OnOk};
 ghost use Rattle.clr_steps.specs.Readings.{name_at};
-ghost use Rattle.clr_sites.specs.SiteNames.{site};
-ghost use Rattle.clr_clearance.specs.Sites.{is_child};
+ghost use Rattle.clr_merge_sets.specs.MergeSetNames.{merge_set};
+ghost use Rattle.clr_clearance.specs.MergeSets.{is_child};
 ghost use Rattle.clr_desk.specs.Choices.{child_in, children_of_root, members_or_children};
 
 use clr_engine::Office;
@@ -11,7 +11,7 @@ use std::alloc::{AllocError, Global};
 
 /// Returns whether a name is that of a child of the root.
 fn is_child(office: &Office, root: &str, name: &str) -> bool
-    ensures { result ≡ is_child office.now (site root.now []) name.now }
+    ensures { result ≡ is_child office.now (merge_set root.now []) name.now }
 {
     if name == root {
         return false;

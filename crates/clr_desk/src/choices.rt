@@ -1,7 +1,7 @@
 //! Members that are taken in their order, as long as they are cleared together.
 ghost use Rattle.std.specs.Prelude.{◌≡◌, ◌∷◌, ◌++◌, [], codes, false, map, IfOk, OnOk};
 ghost use Rattle.clr_cert.specs.Texts.{certificate_text};
-ghost use Rattle.clr_sites.specs.SiteNames.{site};
+ghost use Rattle.clr_merge_sets.specs.MergeSetNames.{merge_set};
 ghost use Rattle.clr_drafts.specs.Drafts.{draft_in};
 ghost use Rattle.clr_plan.specs.declared.plans.Plan.TheVariants as plan;
 ghost use Rattle.clr_office.specs.Outcomes.{IsPlanned};
@@ -115,7 +115,7 @@ fn choice_of(
     names: &[Words],
     certificate: Certificate,
 ) -> Result<Choice, AllocError>
-    requires { IsPlanned office.now (site root.now []) (plan.Cleared certificate) }
+    requires { IsPlanned office.now (merge_set root.now []) (plan.Cleared certificate) }
     ensures { IfOk result (IsChosen office.now root.now names.now) }
 {
     let mut choice = Choice {
@@ -153,7 +153,7 @@ fn print_of_choice(
     names: &[Words],
     certificate: Certificate,
 ) -> Result<Print, AllocError>
-    requires { IsPlanned office.now (site root.now []) (plan.Cleared certificate) }
+    requires { IsPlanned office.now (merge_set root.now []) (plan.Cleared certificate) }
     ensures { IfOk result (λ p. IsChoicePrint root.now names.now office.now (printed p)) }
 {
     let members = members_asked(alloc, office, root, names)?;

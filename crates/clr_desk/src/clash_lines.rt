@@ -1,14 +1,14 @@
 //! The lines of sets of members that can't be merged together.
 ghost use Rattle.std.specs.Prelude.{◌≡◌, ◌++◌, [], map, IfOk, OnOk};
 ghost use Rattle.std.specs.List.{flat_map};
-ghost use Rattle.clr_sites.specs.SiteNames.{site};
+ghost use Rattle.clr_merge_sets.specs.MergeSetNames.{merge_set};
 ghost use Rattle.clr_desk.specs.Clashes.{clash_text, clashes_text, line_of_some};
 
 use crate::clash_members::{beside, in_no_set};
 use crate::names_lines::names_line;
 use clr_lines::count_line;
 use clr_rows::Schema;
-use clr_site_clashes::{SiteClash, SiteClashes, names_at};
+use clr_merge_clashes::{MergeClash, MergeClashes, names_at};
 use clr_verdict_lines::verdict_line;
 use std::alloc::{AllocError, Global};
 
@@ -19,9 +19,9 @@ fn add_clash(
     schema: &Schema,
     root: &str,
     members: &[&str],
-    clash: &SiteClash,
+    clash: &MergeClash,
 ) -> Result<(), AllocError>
-    ensures { OnOk result (lines.new.items ≡ lines.old.items ++ clash_text schema.now (site root.now (map (λ name. name.now) members.now)) clash.now) }
+    ensures { OnOk result (lines.new.items ≡ lines.old.items ++ clash_text schema.now (merge_set root.now (map (λ name. name.now) members.now)) clash.now) }
 {
     let names = names_at(alloc, members, clash.members.as_slice())?;
     let line = names_line(alloc, "clash", names.as_slice())?;
@@ -37,10 +37,10 @@ fn sets_lines(
     schema: &Schema,
     root: &str,
     members: &[&str],
-    clashes: &[SiteClash],
+    clashes: &[MergeClash],
 ) -> Result<Vec<u8>, AllocError>
     ensures { IfOk result (λ lines. lines.items
-        ≡ flat_map (clash_text schema.now (site root.now (map (λ name. name.now) members.now))) clashes.now) }
+        ≡ flat_map (clash_text schema.now (merge_set root.now (map (λ name. name.now) members.now))) clashes.now) }
 {
     let mut lines = Vec::new(alloc);
     for clash in clashes {
@@ -65,9 +65,9 @@ pub(crate) fn clashes_lines(
     schema: &Schema,
     root: &str,
     members: &[&str],
-    found: &SiteClashes,
+    found: &MergeClashes,
 ) -> Result<Vec<u8>, AllocError>
-    ensures { IfOk result (λ lines. lines.items ≡ clashes_text schema.now (site root.now (map (λ name. name.now) members.now))
+    ensures { IfOk result (λ lines. lines.items ≡ clashes_text schema.now (merge_set root.now (map (λ name. name.now) members.now))
         found.now.clashes.items found.now.looked.items) }
 {
     let clashes = found.clashes.as_slice();

@@ -1,10 +1,10 @@
 //! The members that are in no set, and those that weren't looked at with the others.
 ghost use Rattle.std.specs.Prelude.{◌≡◌, ◌++◌, ◌∷◌, [], filter, map, IfOk, OnOk};
 ghost use Rattle.std.specs.List.{list_any, range_with_len};
-ghost use Rattle.clr_sites.specs.SiteNames.{site};
+ghost use Rattle.clr_merge_sets.specs.MergeSetNames.{merge_set};
 ghost use Rattle.clr_desk.specs.Clashes.{beside, in_no_set, is_beside, is_in_no_set, is_listed_position};
 
-use clr_site_clashes::{SiteClash, names_at};
+use clr_merge_clashes::{MergeClash, names_at};
 use std::alloc::{AllocError, Global};
 
 /// Returns whether a position is among some.
@@ -15,7 +15,7 @@ fn is_among(positions: &[usize], at: usize) -> bool
 }
 
 /// Returns whether a position is in one of some sets.
-fn is_in_a_set(clashes: &[SiteClash], at: usize) -> bool
+fn is_in_a_set(clashes: &[MergeClash], at: usize) -> bool
     ensures { result ≡ list_any (λ k. is_listed_position at k.members.items) clashes.now }
 {
     clashes
@@ -24,7 +24,7 @@ fn is_in_a_set(clashes: &[SiteClash], at: usize) -> bool
 }
 
 /// Returns whether a position is in none of some sets.
-fn is_in_no_set(clashes: &[SiteClash], at: usize) -> bool
+fn is_in_no_set(clashes: &[MergeClash], at: usize) -> bool
     ensures { result ≡ is_in_no_set clashes.now at }
 {
     !is_in_a_set(clashes, at)
@@ -41,7 +41,7 @@ fn add_beside(looked: &[usize], at: usize, list: &mut Vec<usize>) -> Result<(), 
 }
 
 /// Adds a position that is in none of some sets.
-fn add_free(clashes: &[SiteClash], at: usize, list: &mut Vec<usize>) -> Result<(), AllocError>
+fn add_free(clashes: &[MergeClash], at: usize, list: &mut Vec<usize>) -> Result<(), AllocError>
     ensures { OnOk result (list.new.items ≡ list.old.items ++ filter (is_in_no_set clashes.now) (at ∷ [])) }
 {
     if is_in_no_set(clashes, at) {
@@ -65,7 +65,7 @@ fn positions_beside(alloc: Global, count: usize, looked: &[usize]) -> Result<Vec
 fn free_positions(
     alloc: Global,
     count: usize,
-    clashes: &[SiteClash],
+    clashes: &[MergeClash],
 ) -> Result<Vec<usize>, AllocError>
     ensures { IfOk result (λ list. list.items ≡ filter (is_in_no_set clashes.now) (range_with_len 0 count)) }
 {
@@ -82,7 +82,7 @@ pub(crate) fn beside<'a>(
     members: &[&'a str],
     looked: &[usize],
 ) -> Result<Vec<&'a str>, AllocError>
-    ensures { IfOk result (λ list. map (λ name. name.now) list.items ≡ beside (site [] (map (λ name. name.now) members.now)) looked.now) }
+    ensures { IfOk result (λ list. map (λ name. name.now) list.items ≡ beside (merge_set [] (map (λ name. name.now) members.now)) looked.now) }
 {
     let positions = positions_beside(alloc, members.len(), looked)?;
     names_at(alloc, members, positions.as_slice())
@@ -92,9 +92,9 @@ pub(crate) fn beside<'a>(
 pub(crate) fn in_no_set<'a>(
     alloc: Global,
     members: &[&'a str],
-    clashes: &[SiteClash],
+    clashes: &[MergeClash],
 ) -> Result<Vec<&'a str>, AllocError>
-    ensures { IfOk result (λ list. map (λ name. name.now) list.items ≡ in_no_set (site [] (map (λ name. name.now) members.now)) clashes.now) }
+    ensures { IfOk result (λ list. map (λ name. name.now) list.items ≡ in_no_set (merge_set [] (map (λ name. name.now) members.now)) clashes.now) }
 {
     let positions = free_positions(alloc, members.len(), clashes)?;
     names_at(alloc, members, positions.as_slice())

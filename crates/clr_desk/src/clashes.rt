@@ -1,9 +1,9 @@
 //! The smallest sets of members that can't be merged together.
 ghost use Rattle.std.specs.Prelude.{◌≡◌, ◌∷◌, map, IfOk};
-ghost use Rattle.clr_sites.specs.SiteNames.{site};
+ghost use Rattle.clr_merge_sets.specs.MergeSetNames.{merge_set};
 ghost use Rattle.clr_drafts.specs.Drafts.{draft_in};
-ghost use Rattle.clr_site_clashes.specs.SiteClashes.{IsFaultOfNames};
-ghost use Rattle.clr_desk.specs.Clashes.{IsClashesPrint, IsSitePrint, found_print};
+ghost use Rattle.clr_merge_clashes.specs.MergeClashes.{IsFaultOfNames};
+ghost use Rattle.clr_desk.specs.Clashes.{IsClashesPrint, IsMergeSetPrint, found_print};
 ghost use Rattle.clr_prints.specs.NameHints.{IsHinted};
 ghost use Rattle.clr_prints.specs.Printing.{IsMadePrintout, IsPrintoutIn, printed};
 
@@ -14,7 +14,7 @@ use clr_clearance::Verdict;
 use clr_engine::Office;
 use clr_office::{Plan, RunFault, Words, open_office, texts};
 use clr_prints::{Print, notes_of, with_hints};
-use clr_site_clashes::{SiteClashes, site_clashes};
+use clr_merge_clashes::{MergeClashes, merge_clashes};
 use std::alloc::{AllocError, Global};
 
 /// Returns all sets, as a text.
@@ -23,9 +23,9 @@ fn found_print(
     office: &Office,
     root: &str,
     members: &[&str],
-    found: &SiteClashes,
+    found: &MergeClashes,
 ) -> Result<Print, AllocError>
-    ensures { IfOk result (λ p. printed p ≡ found_print office.now (site root.now (map (λ name. name.now) members.now)) found.now) }
+    ensures { IfOk result (λ p. printed p ≡ found_print office.now (merge_set root.now (map (λ name. name.now) members.now)) found.now) }
 {
     let text = clashes_lines(alloc, office.schema(), root, members, found)?;
     let is_any = found.clashes.as_slice().len() > 0;
@@ -40,8 +40,8 @@ fn fault_print(
     members: &[&str],
     fault: Verdict,
 ) -> Result<Print, AllocError>
-    requires { IsFaultOfNames office.now (site root.now (map (λ name. name.now) members.now)) fault }
-    ensures { IfOk result (λ p. IsSitePrint (site root.now (map (λ name. name.now) members.now)) office.now (printed p)) }
+    requires { IsFaultOfNames office.now (merge_set root.now (map (λ name. name.now) members.now)) fault }
+    ensures { IfOk result (λ p. IsMergeSetPrint (merge_set root.now (map (λ name. name.now) members.now)) office.now (printed p)) }
 {
     match fault {
         Verdict::OutOfMemory => Err(AllocError),
@@ -50,15 +50,15 @@ fn fault_print(
 }
 
 /// Returns the sets of members, as a text, or the test of names that fails.
-fn print_of_site(
+fn print_of_merge_set(
     alloc: Global,
     office: &Office,
     root: &str,
     members: &[&str],
 ) -> Result<Print, AllocError>
-    ensures { IfOk result (λ p. IsSitePrint (site root.now (map (λ name. name.now) members.now)) office.now (printed p)) }
+    ensures { IfOk result (λ p. IsMergeSetPrint (merge_set root.now (map (λ name. name.now) members.now)) office.now (printed p)) }
 {
-    match site_clashes(alloc, office, root, members) {
+    match merge_clashes(alloc, office, root, members) {
         Ok(found) => found_print(alloc, office, root, members, &found),
         Err(fault) => fault_print(alloc, office, root, members, fault),
     }
@@ -75,7 +75,7 @@ fn print_of_names(
 {
     let asked = members_asked(alloc, office, root, names)?;
     let members = texts(alloc, asked.as_slice())?;
-    print_of_site(alloc, office, root, members.as_slice())
+    print_of_merge_set(alloc, office, root, members.as_slice())
 }
 
 /// Returns the smallest sets of members over the office of a text that can't be merged together.

@@ -1,6 +1,6 @@
 //! Plans as work orders.
 ghost use Rattle.std.specs.Prelude.{◌≡◌, ◌∷◌, map, IfOk};
-ghost use Rattle.clr_sites.specs.SiteNames.{site};
+ghost use Rattle.clr_merge_sets.specs.MergeSetNames.{merge_set};
 ghost use Rattle.clr_drafts.specs.Drafts.{draft_in};
 ghost use Rattle.clr_prints.specs.NameHints.{IsHinted};
 ghost use Rattle.clr_desk.specs.Orders.{IsOrderPrint, order_print};
@@ -31,7 +31,7 @@ fn print_of_members(
     root: &str,
     names: &[Words],
 ) -> Result<Print, AllocError>
-    ensures { IfOk result (λ p. IsOrderPrint (site root.now names.now) office.old (printed p)) }
+    ensures { IfOk result (λ p. IsOrderPrint (merge_set root.now names.now) office.old (printed p)) }
 {
     let members = texts(alloc, names)?;
     let order = work_order(alloc, office, root, members.as_slice())?;
@@ -48,7 +48,7 @@ pub fn answer_work_order(
     root: &str,
     names: &[Words],
 ) -> Result<Print, RunFault>
-    ensures { IsMadePrintout (IsPrintoutIn (IsHinted (IsOrderPrint (site root.now names.now)) (root.now ∷ names.now)) (draft_in office.now)) result }
+    ensures { IsMadePrintout (IsPrintoutIn (IsHinted (IsOrderPrint (merge_set root.now names.now)) (root.now ∷ names.now)) (draft_in office.now)) result }
 {
     match open_office(alloc, office) {
         Ok(mut office) => {

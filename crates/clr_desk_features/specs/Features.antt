@@ -2,7 +2,7 @@
 use Rattle.std.specs.Prelude.{◌≡◌, ◌≢◌, ℕ, ◌<◌, ◌^◌, List, [], ◌++◌, codes, decimal, not, Option, Some, None, Result, Ok}
 use Rattle.clr_workspaces.specs.Marks.{Name}
 use Rattle.clr_steps.specs.Offices.{Office}
-use Rattle.clr_steps.specs.Quiet.{Site}
+use Rattle.clr_steps.specs.Quiet.{MergeSet}
 use Rattle.clr_plan.specs.declared.plans.Plan.{Plan}
 use Rattle.clr_plan.specs.Promises.{is_cleared, is_out_of_memory}
 use Rattle.clr_plan_features.specs.PlanFeatures.{AreFeatures}
@@ -23,8 +23,8 @@ IsNoSystem text = (code : ℕ) → code < 2 ^ 32 → text ≢ system_name code
 abbrev pub features_print : List ℕ → Plan → PrintoutOrFault
 features_print text p = printout_of text [] (not (is_cleared p)) (is_out_of_memory p)
 
--- the features of a plan of the site, in a system of coordinates if one is given
-abbrev pub IsFeaturesPrint : Site → Option ℕ → Office → PrintoutOrFault → Type 0
+-- the features of a plan of the merge set, in a system of coordinates if one is given
+abbrev pub IsFeaturesPrint : MergeSet → Option ℕ → Office → PrintoutOrFault → Type 0
 IsFeaturesPrint s system o print =
     (p : Plan) × (text : List ℕ) × IsPlanned o s p × AreFeatures o s p system text × (print ≡ features_print text p)
 
@@ -37,7 +37,7 @@ no_system_print text = Ok (record {
 })
 
 -- what is printed of an office text and the text of a system, if one is given; the names are those at which hints are given
-pub data IsFeaturesAnswer (s : Site) (names : List Name) (system : Option (List ℕ)) (given : Result Office TextFault) (print : PrintoutOrFault) : Type 0 where
+pub data IsFeaturesAnswer (s : MergeSet) (names : List Name) (system : Option (List ℕ)) (given : Result Office TextFault) (print : PrintoutOrFault) : Type 0 where
   without_system : system ≡ None → IsPrintoutIn (IsHinted (IsFeaturesPrint s None) names) given print → IsFeaturesAnswer s names system given print
   in_system : (code : ℕ) → system ≡ Some (system_name code) → IsPrintoutIn (IsHinted (IsFeaturesPrint s (Some code)) names) given print
       → IsFeaturesAnswer s names system given print

@@ -2,7 +2,7 @@
 
 ghost use Rattle.std.specs.Prelude.{◌≡◌, ◌∷◌, IfOk};
 ghost use Rattle.std.specs.Option.{option_copied};
-ghost use Rattle.clr_sites.specs.SiteNames.{site};
+ghost use Rattle.clr_merge_sets.specs.MergeSetNames.{merge_set};
 ghost use Rattle.clr_drafts.specs.Drafts.{draft_in};
 ghost use Rattle.clr_desk_features.specs.Features.{IsFeaturesAnswer, IsFeaturesPrint, features_print};
 ghost use Rattle.clr_prints.specs.NameHints.{IsHinted};
@@ -35,7 +35,7 @@ fn print_of_members(
     names: &[Words],
     system: Option<u32>,
 ) -> Result<Print, AllocError>
-    ensures { IfOk result (λ p. IsFeaturesPrint (site root.now names.now) system office.now (printed p)) }
+    ensures { IfOk result (λ p. IsFeaturesPrint (merge_set root.now names.now) system office.now (printed p)) }
 {
     let members = texts(alloc, names)?;
     let plan = plan_members(alloc, office, root, members.as_slice());
@@ -52,7 +52,7 @@ fn answer_in(
     names: &[Words],
     system: Option<u32>,
 ) -> Result<Print, RunFault>
-    ensures { IsMadePrintout (IsPrintoutIn (IsHinted (IsFeaturesPrint (site root.now names.now) system) (root.now ∷ names.now)) (draft_in office.now)) result }
+    ensures { IsMadePrintout (IsPrintoutIn (IsHinted (IsFeaturesPrint (merge_set root.now names.now) system) (root.now ∷ names.now)) (draft_in office.now)) result }
 {
     match open_office(alloc, office) {
         Ok(office) => {
@@ -74,7 +74,7 @@ pub fn answer_geojson(
     names: &[Words],
     system: Option<&Words>,
 ) -> Result<Print, RunFault>
-    ensures { IsMadePrintout (IsFeaturesAnswer (site root.now names.now) (root.now ∷ names.now) (option_copied system.entry) (draft_in office.now)) result }
+    ensures { IsMadePrintout (IsFeaturesAnswer (merge_set root.now names.now) (root.now ∷ names.now) (option_copied system.entry) (draft_in office.now)) result }
 {
     let Some(text) = system else {
         return answer_in(alloc, office, root, names, None);

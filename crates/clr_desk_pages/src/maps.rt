@@ -1,6 +1,6 @@
 //! The maps of plans.
 ghost use Rattle.std.specs.Prelude.{◌≡◌, ◌∷◌, IfOk};
-ghost use Rattle.clr_sites.specs.SiteNames.{site};
+ghost use Rattle.clr_merge_sets.specs.MergeSetNames.{merge_set};
 ghost use Rattle.clr_drafts.specs.Drafts.{draft_in};
 ghost use Rattle.clr_desk_pages.specs.Maps.{IsMapPrint, map_print};
 ghost use Rattle.clr_prints.specs.NameHints.{IsHinted};
@@ -31,7 +31,7 @@ fn print_of_members(
     root: &str,
     names: &[Words],
 ) -> Result<Print, AllocError>
-    ensures { IfOk result (λ p. IsMapPrint (site root.now names.now) office.now (printed p)) }
+    ensures { IfOk result (λ p. IsMapPrint (merge_set root.now names.now) office.now (printed p)) }
 {
     let members = texts(alloc, names)?;
     let plan = plan_members(alloc, office, root, members.as_slice());
@@ -49,7 +49,7 @@ pub fn answer_map(
     root: &str,
     names: &[Words],
 ) -> Result<Print, RunFault>
-    ensures { IsMadePrintout (IsPrintoutIn (IsHinted (IsMapPrint (site root.now names.now)) (root.now ∷ names.now)) (draft_in office.now)) result }
+    ensures { IsMadePrintout (IsPrintoutIn (IsHinted (IsMapPrint (merge_set root.now names.now)) (root.now ∷ names.now)) (draft_in office.now)) result }
 {
     match open_office(alloc, office) {
         Ok(office) => {

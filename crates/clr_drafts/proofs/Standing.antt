@@ -4,9 +4,9 @@ use Rattle.std.specs.Option.{option_or}
 use Rattle.std.proofs.lemmas.List.{length-take-le}
 use Rattle.std.proofs.lemmas.Option.{none-some}
 use Rattle.clr_rows.specs.Contents.{Content}
-use Rattle.clr_layers.specs.Layers.{Layer, workspaces_over}
+use Rattle.clr_deltas.specs.Deltas.{Delta, workspaces_over}
 use Rattle.clr_workspaces.specs.Workspaces.{Workspace, live_workspace, workspace_at}
-use Rattle.clr_layers.proofs.Meaning.{length-grow}
+use Rattle.clr_deltas.proofs.Meaning.{length-grow}
 use Rattle.clr_parts.specs.Parts.{IsFirstPartFault, first_below, name_fault_at, workspaces_fault}
 use Rattle.clr_workspaces.specs.declared.limits.TheConstants.{MOST_WORKSPACES}
 use Rattle.clr_parts.specs.declared.parts.PartFault.{PartFault}
@@ -50,7 +50,7 @@ not_many live ws many e =
     omega (arith, before, few)
 
 -- workspaces that are as many as there can be with LIVE
-pub too_many : (o : Office) (live : Content) (ls : List Layer) → o.live ≡ live → o.workspaces ≡ workspaces_over live ls → MOST_WORKSPACES ≤ length ls
+pub too_many : (o : Office) (live : Content) (ls : List Delta) → o.live ≡ live → o.workspaces ≡ workspaces_over live ls → MOST_WORKSPACES ≤ length ls
     → if_standing o ≡ Err text.BadPart
 too_many o live ls is over many = by (workspaces_fault o.live o.workspaces) refl
   where

@@ -12,13 +12,13 @@ use Rattle.clr_rows.specs.Schemas.{FitsSchema, row_fault}
 use Rattle.clr_rows.proofs.FitLemmas.{none_fit}
 use Rattle.clr_differences.specs.Differences.{Differences, seen_over}
 use Rattle.clr_differences.proofs.DifferenceLemmas.{row-seen_over}
-use Rattle.clr_layers.specs.Layers.{Layer, grow, content_by_name, whole_mark, whole_of, workspaces_over}
+use Rattle.clr_deltas.specs.Deltas.{Delta, grow, content_by_name, whole_mark, whole_of, workspaces_over}
 use Rattle.clr_workspaces.specs.Marks.{Name, mark_at, saved_content}
 use Rattle.clr_workspaces.specs.Workspaces.{Workspace, live_workspace, workspace_at}
-use Rattle.clr_layers.specs.declared.stored_marks.StoredMark.{StoredMark}
-use Rattle.clr_layers.specs.declared.stored_marks.StoredMark.TheVariants as stored
+use Rattle.clr_deltas.specs.declared.stored_marks.StoredMark.{StoredMark}
+use Rattle.clr_deltas.specs.declared.stored_marks.StoredMark.TheVariants as stored
 use Rattle.clr_steps.specs.Invariants.{WorkspaceFits}
-use Rattle.clr_office_text.specs.Fits.{FitsDifferences, FitsLayer, FitsMark}
+use Rattle.clr_office_text.specs.Fits.{FitsDifferences, FitsDelta, FitsMark}
 use Rattle.clr_office_text.specs.Patches.{put_fault}
 
 module _ (tables : List TableDef) where
@@ -42,7 +42,7 @@ module _ (tables : List TableDef) where
   marks_fit base (mark ∷ marks) rows all zero = mark_fits base mark rows all.0
   marks_fit base (mark ∷ marks) rows all (suc i) = marks_fit base marks rows all.1 i
 
-  whole_fits : (above : Content) (l : Layer) → FitsSchema tables above → FitsLayer tables l → WorkspaceFits tables (whole_of above l)
+  whole_fits : (above : Content) (l : Delta) → FitsSchema tables above → FitsDelta tables l → WorkspaceFits tables (whole_of above l)
   unfolding whole_of
   whole_fits above l rows fits =
       let base = seen_fits above l.base rows fits.base in
@@ -53,7 +53,7 @@ module _ (tables : List TableDef) where
             fits.marks;
       }
 
-  -- what the workspaces before a layer see
+  -- what the workspaces before a delta see
   abbrev CurrentsFit : List Workspace → Type 0
   CurrentsFit ws = AllByRecursion (λ (w : Workspace). FitsSchema tables w.current) ws
 
@@ -80,7 +80,7 @@ module _ (tables : List TableDef) where
   first_fits w ws one all zero = one
   first_fits w ws one all (suc i) = all i
 
-  grow_fits : (ws : List Workspace) (ls : List Layer) → CurrentsFit ws → AllByRecursion (FitsLayer tables) ls → (i : ℕ)
+  grow_fits : (ws : List Workspace) (ls : List Delta) → CurrentsFit ws → AllByRecursion (FitsDelta tables) ls → (i : ℕ)
       → WorkspaceFits tables (workspace_at (grow ws ls) i)
   unfolding grow
   grow_fits ws [] currents all = none_fits
@@ -89,6 +89,6 @@ module _ (tables : List TableDef) where
       let one = whole_fits (unwrap_or (content_by_name ws l.parent) no_rows) l (named_fits ws l.parent currents) all.0 in
       first_fits w (grow (ws ++ w ∷ []) ls) one (grow_fits (ws ++ w ∷ []) ls (one_more ws w currents one.current) all.1)
 
-  pub all_fit : (live : Content) (ls : List Layer) → FitsSchema tables live → AllByRecursion (FitsLayer tables) ls → (i : ℕ)
+  pub all_fit : (live : Content) (ls : List Delta) → FitsSchema tables live → AllByRecursion (FitsDelta tables) ls → (i : ℕ)
       → WorkspaceFits tables (workspace_at (workspaces_over live ls) i)
   all_fit live ls rows all = grow_fits (live_workspace live ∷ []) ls (rows, tt) all

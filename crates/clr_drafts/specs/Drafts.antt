@@ -1,6 +1,6 @@
 -- The draft that an office text is: its workspaces with whole contents, which must stand under LIVE.
 use Rattle.std.specs.Prelude.{ℕ, List, Result, Ok}
-use Rattle.clr_layers.specs.Layers.{workspaces_over}
+use Rattle.clr_deltas.specs.Deltas.{workspaces_over}
 use Rattle.clr_parts.specs.Parts.{workspaces_fault}
 use Rattle.clr_parts.specs.declared.parts.PartFault.{PartFault}
 use Rattle.clr_parts.specs.declared.parts.PartFault.TheVariants as part
@@ -22,7 +22,7 @@ if_standing o = none_or_fault text.BadPart (workspaces_fault o.live o.workspaces
 
 -- the office that is written by its differences
 abbrev pub whole_office : OfficeText → Office
-whole_office read = record { schema = read.schema; book = read.book; live = read.live; workspaces = workspaces_over read.live read.layers }
+whole_office read = record { schema = read.schema; book = read.book; live = read.live; workspaces = workspaces_over read.live read.deltas }
 
 -- the draft of a text: its parts are tested one after another, and then the workspaces as a whole
 unfoldable pub draft_in : List ℕ → Result Office TextFault

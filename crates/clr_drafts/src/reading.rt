@@ -28,7 +28,7 @@ fn text_fault(fault: PartFault) -> TextFault
     }
 }
 
-fn draft_of_layers(
+fn draft_of_deltas(
     alloc: Global,
     schema: Schema,
     book: RuleBook,
@@ -38,7 +38,7 @@ fn draft_of_layers(
     requires { IsFitting (office_of schema book (live_workspace live ∷ spaces_of live parts.items)) }
     ensures { Gives text_lacks_memory (λ draft. draft) result (if_standing (office_of schema book (live_workspace live ∷ spaces_of live parts.items))) }
 {
-    match Tree::of_layers(alloc, live, parts) {
+    match Tree::of_deltas(alloc, live, parts) {
         Ok(tree) => Ok(Draft::of_tree(alloc, schema, book, tree)),
         Err(refused) => Err(text_fault(refused.1)),
     }
@@ -59,7 +59,7 @@ fn draft_of(alloc: Global, read: OfficeParts) -> Result<Draft, TextFault>
     if workspaces.len() >= MOST_WORKSPACES {
         return Err(TextFault::BadPart);
     }
-    draft_of_layers(alloc, schema, book, live, workspaces)
+    draft_of_deltas(alloc, schema, book, live, workspaces)
 }
 
 /// Reads an office text of format 1, 2 or 3 as a draft: its schema, its rules, LIVE and the

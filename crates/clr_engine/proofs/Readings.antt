@@ -11,18 +11,18 @@ use Rattle.clr_rows.specs.Cells.{cell_cmp}
 use Rattle.clr_rows.specs.Contents.{Content, changes, conflicts, no_changes, row_at}
 use Rattle.clr_rules.specs.declared.rules.Rule.{Rule}
 use Rattle.clr_workspaces.proofs.FindLemmas.{find_named}
-use Rattle.clr_layers.specs.Differing.{layer_from}
+use Rattle.clr_deltas.specs.Differing.{delta_from}
 use Rattle.clr_workspaces.specs.Marks.{Name}
 use Rattle.clr_workspaces.specs.Workspaces.{Workspace, find, no_workspace, parent_of, workspace_at}
 use Rattle.clr_workspaces.specs.Operations.{own_changes}
 use Rattle.clr_workspaces.specs.Soundness.{IsSound}
-use Rattle.clr_tree.specs.Trees.{change_count, content_above, needed, needed_layer}
+use Rattle.clr_tree.specs.Trees.{change_count, content_above, needed, needed_delta}
 use Rattle.clr_steps.specs.Laws.{IsSeen}
 use Rattle.clr_steps.specs.Offices.{Office, content_of, is_kept, office_of, workspace}
 use Rattle.clr_steps.specs.Positions.{below_top, content_at, kept_at}
 use Rattle.clr_steps.specs.Readings.{changes_in, conflicts_in, if_stands, parent_in, stored_in}
 use Rattle.clr_steps.proofs.SeenLemmas.{name_law}
-use Rattle.clr_engine.specs.Drafts.{layer_in, part_at}
+use Rattle.clr_engine.specs.Drafts.{delta_in, part_at}
 
 pub seen_in : (schema : List TableDef) (book : List Rule) (ws : List Workspace) (o : Office) → IsSound ws → office_of schema book ws ≡ o → (name : Name)
     → IsSeen o ws name
@@ -101,14 +101,14 @@ module _ (o : Office) (ws : List Workspace) (name : Name) (s : IsSeen o ws name)
       (finite.keys (own_changes w))) r 0) e)
 
 -- what a workspace under LIVE differs in is told by position
-pub layer_is : (schema : List TableDef) (book : List Rule) (ws : List Workspace) (o : Office) → IsSound ws → office_of schema book ws ≡ o → (at : ℕ) → 0 < at
+pub delta_is : (schema : List TableDef) (book : List Rule) (ws : List Workspace) (o : Office) → IsSound ws → office_of schema book ws ≡ o → (at : ℕ) → 0 < at
     → at < length ws
-    → needed_layer ws at ≡ layer_in o (workspace_at ws at)
-layer_is schema book ws o sound is at some lt =
+    → needed_delta ws at ≡ delta_in o (workspace_at ws at)
+delta_is schema book ws o sound is at some lt =
     let w = workspace_at ws at in
     let above = sound.rooted.under at some lt in
     let parent = seen_in schema book ws o sound is w.parent in
-    ap (λ (r : Option ℕ). layer_from (content_above ws r) w) above.1 ∙ ap (λ (m : Content). layer_from m w) (sym (parent.content ∙ ap (content_at ws) above.1))
+    ap (λ (r : Option ℕ). delta_from (content_above ws r) w) above.1 ∙ ap (λ (m : Content). delta_from m w) (sym (parent.content ∙ ap (content_at ws) above.1))
 
 -- what stands under LIVE is that of the tree
 pub part_is : (schema : List TableDef) (book : List Rule) (ws : List Workspace) (o : Office) → office_of schema book ws ≡ o → (at : ℕ) → 0 < at → at < length ws

@@ -3,8 +3,8 @@ use Rattle.std.specs.Prelude.{◌≡◌, ℕ, zero, suc, List, map, Option, Some
 use Rattle.std.specs.Option.{option_or, option_map}
 use Rattle.clr_rows.specs.Contents.{Content}
 use Rattle.clr_rows.specs.declared.tables.TableDef.{TableDef}
-use Rattle.clr_layers.specs.Differing.{layer_from}
-use Rattle.clr_layers.specs.Layers.{Layer}
+use Rattle.clr_deltas.specs.Differing.{delta_from}
+use Rattle.clr_deltas.specs.Deltas.{Delta}
 use Rattle.clr_workspaces.specs.Workspaces.{Workspace}
 use Rattle.clr_parts.specs.Parts.{workspace_of}
 use Rattle.clr_parts.specs.declared.parts.Part.{Part}
@@ -26,8 +26,8 @@ part_at o zero = None
 part_at o (suc k) = slice_get o.workspaces k
 
 -- a workspace by what it differs in from the current content of its parent
-abbrev pub layer_in : Office → Workspace → Layer
-layer_in o w = layer_from (content_of o w.parent) w
+abbrev pub delta_in : Office → Workspace → Delta
+delta_in o w = delta_from (content_of o w.parent) w
 
 -- the first that breaks a rule of LIVE, with position 0, and of the workspaces that are kept, in order of creation, and its least broken need
 abbrev pub unheld_in : Office → Option (ℕ × Broken)

@@ -22,7 +22,7 @@
 //! - `find`, `view` and `finder`, without memory: a workspace's position, its current content by
 //!   cell, and the finder of exactly its rows, which there is exactly where it is kept. `stored`:
 //!   after every command there are, of each workspace, exactly as many entries as cells where its
-//!   base isn't as its parent's current content and cells that it changed. `layer` shows what is
+//!   base isn't as its parent's current content and cells that it changed. `delta` shows what is
 //!   stored of a workspace, without a copy: exactly what it differs in, its base from its parent's
 //!   current content, its current content and its savepoints from its base.
 #![tactic(auto)]
@@ -37,6 +37,6 @@ mod plain_commands;
 pub use clr_grid::SpotIndex;
 pub use clr_rules::{Broken, RuleBook};
 pub use clr_steps::{Command, Reply};
-pub use clr_tree::{LayerView, MarkPart, Part, PartFault, View};
+pub use clr_tree::{DeltaView, MarkPart, Part, PartFault, View};
 pub use drafts::{AdmitFault, Draft};
 pub use offices::Office;

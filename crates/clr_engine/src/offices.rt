@@ -10,7 +10,7 @@ ghost use Rattle.clr_steps.specs.Offices.{content_of, is_kept, office_of, stands
 ghost use Rattle.clr_steps.specs.Readings.{changes_in, conflicts_in, if_stands, name_at, parent_in, stored_in};
 ghost use Rattle.clr_steps.specs.Steps.{is_lost, lost_in, run, IsAnswer, TakesNoMemory};
 ghost use Rattle.clr_kept_finders.specs.Fitting.{IsAdmitted};
-ghost use Rattle.clr_engine.specs.Drafts.{layer_in, part_at};
+ghost use Rattle.clr_engine.specs.Drafts.{delta_in, part_at};
 ghost use Rattle.clr_kept_finders.specs.Finders.{AreFinders, IsFinderAt, IsPositionOf, current_at, kept_content_at, kept_contents};
 ghost use Rattle.clr_engine.specs.Trees.{IsSwept};
 
@@ -23,7 +23,7 @@ use clr_kept_finders::Finders;
 use clr_rows::{CellId, Row, Schema, Sheet};
 use clr_rules::RuleBook;
 use clr_steps::{Command, Reply};
-use clr_tree::{LayerView, Part, Tree, View};
+use clr_tree::{DeltaView, Part, Tree, View};
 use std::alloc::AllocError;
 use std::marker::Model;
 
@@ -243,13 +243,13 @@ impl Office {
     /// LIVE, which has position 0, and past the end. It is exactly what the workspace differs in:
     /// its base from its parent's current content, and its current content and savepoints from its
     /// base. Nothing is copied.
-    pub fn layer(&self, position: usize) -> Option<LayerView<'_>>
-        ensures { result ≡ option_map (layer_in self.now) (part_at self.now position) }
+    pub fn delta(&self, position: usize) -> Option<DeltaView<'_>>
+        ensures { result ≡ option_map (delta_in self.now) (part_at self.now position) }
     {
         if position >= self.tree.len() || position == 0 {
             return None;
         }
-        Some(self.tree.layer(position))
+        Some(self.tree.delta(position))
     }
 
     /// Performs one command, whole or not at all. The reply is the first refusal that applies, or

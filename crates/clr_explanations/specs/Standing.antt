@@ -1,6 +1,6 @@
 -- What is said of an office text whose workspaces can't stand as a whole.
 use Rattle.std.specs.Prelude.{◌≡◌, ◌≤◌, ℕ, List, length, string_bytes, Option, Some, None, Ok}
-use Rattle.clr_layers.specs.Layers.{workspaces_over}
+use Rattle.clr_deltas.specs.Deltas.{workspaces_over}
 use Rattle.clr_parts.specs.Parts.{workspaces_fault}
 use Rattle.clr_parts.specs.declared.parts.PartFault.{PartFault}
 use Rattle.clr_office_text.specs.Offices.{OfficeText, office_in}
@@ -11,7 +11,7 @@ use Rattle.clr_explanations.specs.Places.{BeginsWithPath}
 
 -- the first workspace of an office that can't stand among all of them, and why
 abbrev pub standing_fault : OfficeText → Option (ℕ × PartFault)
-standing_fault o = workspaces_fault o.live (workspaces_over o.live o.layers)
+standing_fault o = workspaces_fault o.live (workspaces_over o.live o.deltas)
 
 -- what is found is that of a text that can be read
 abbrev pub IsStandingFault : List ℕ → Option (ℕ × PartFault) → Type 0

@@ -45,7 +45,7 @@ fn standing_fault(alloc: Global, text: &[u8]) -> Result<Option<(usize, PartFault
         Ok(parts) => parts,
         Err(fault) => return unless_lost(fault, None),
     };
-    match Tree::of_layers(alloc, parts.live, parts.workspaces) {
+    match Tree::of_deltas(alloc, parts.live, parts.workspaces) {
         Ok(_) => Ok(None),
         Err(refused) => Ok(Some(known_refusal(refused)?)),
     }

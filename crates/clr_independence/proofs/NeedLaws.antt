@@ -10,8 +10,8 @@ use Rattle.clr_needs.specs.Needs.{Lists}
 use Rattle.clr_needs.specs.Orders.{need_cmp}
 use Rattle.clr_needs.specs.Settings.{Setting}
 use Rattle.clr_needs.proofs.Reading.{all_taken, one_more, read_in}
-use Rattle.clr_sites.specs.Told.{IsTold}
-use Rattle.clr_sites.proofs.SearchLemmas.{it_is, it_is_not}
+use Rattle.clr_merge_sets.specs.Told.{IsTold}
+use Rattle.clr_merge_sets.proofs.SearchLemmas.{it_is, it_is_not}
 use Rattle.clr_foot.proofs.InvolvedLaws.{both_depend}
 use Rattle.clr_groups.proofs.LabelledGroups.{PutAt, earlier, last, put_at}
 use Rattle.clr_independence.specs.declared.member_pairs.Pair.{Pair}

@@ -4,7 +4,7 @@ use Rattle.std.specs.List.{flat_map}
 use Rattle.clr_rows.specs.declared.tables.TableDef.{TableDef}
 use Rattle.clr_workspaces.specs.Marks.{Name}
 use Rattle.clr_steps.specs.Offices.{Office}
-use Rattle.clr_steps.specs.Quiet.{Site}
+use Rattle.clr_steps.specs.Quiet.{MergeSet}
 use Rattle.clr_verdict_lines.specs.Verdicts.{member_name, verdict_text}
 use Rattle.clr_independence.specs.declared.independences.Independence.{Independence}
 use Rattle.clr_independence.specs.declared.independences.Independence.TheVariants as said
@@ -24,6 +24,6 @@ unfoldable pub independence_text : List TableDef → List Name → Name → Inde
 independence_text tables members root (said.Unfit v) = codes "unfit " ++ verdict_text tables members root v
 independence_text tables members root (said.Pairs pairs) = flat_map (independence_line members) pairs.items
 
--- the lines of the members of a site in an office
-abbrev pub AreIndependenceLines : Office → Site → List ℕ → Type 0
+-- the lines of the members of a merge set in an office
+abbrev pub AreIndependenceLines : Office → MergeSet → List ℕ → Type 0
 AreIndependenceLines o s lines = (value : Independence) × IsIndependenceOf o s value × (lines ≡ independence_text o.schema s.members s.root value)

@@ -1,21 +1,21 @@
-//! Which members of a site are independent.
+//! Which members of a merge set are independent.
 
 ghost use Rattle.std.specs.Prelude.{◌≡◌, None, map, IfOk};
 ghost use Rattle.clr_needs.specs.Members.{IsSceneFault};
 ghost use Rattle.clr_steps.specs.Offices.{Office};
-ghost use Rattle.clr_steps.specs.Quiet.{Site};
-ghost use Rattle.clr_clearance.specs.Sites.{change_sets};
+ghost use Rattle.clr_steps.specs.Quiet.{MergeSet};
+ghost use Rattle.clr_clearance.specs.MergeSets.{change_sets};
 ghost use Rattle.clr_clearance.specs.Verdicts.{member_fault};
-ghost use Rattle.clr_sites.specs.Faults.{IsSiteFault};
-ghost use Rattle.clr_sites.specs.SiteNames.{site};
-ghost use Rattle.clr_sites.specs.Sites.{AreParts};
+ghost use Rattle.clr_merge_sets.specs.Faults.{IsMergeSetFault};
+ghost use Rattle.clr_merge_sets.specs.MergeSetNames.{merge_set};
+ghost use Rattle.clr_merge_sets.specs.MergeSets.{AreParts};
 ghost use Rattle.clr_independence.specs.Independences.{IsIndependenceOf};
 
 use crate::member_pairs::{Pair, pairs};
 use clr_clearance::Verdict;
 use clr_engine::Office;
 use clr_needs::SceneFault;
-use clr_sites::{SiteParts, read_site};
+use clr_merge_sets::{MergeSetParts, read_merge_set};
 use std::alloc::{AllocError, Global};
 
 /// Which members of a root are independent, or why it can't be said.
@@ -29,7 +29,7 @@ pub enum Independence {
 
 /// Returns the answer where a test of members fails.
 fn of_fault(fault: Verdict) -> Result<Independence, AllocError>
-    ensures { IfOk result (λ said. (o : Office) (s : Site) → IsSiteFault o s fault → IsIndependenceOf o s said) }
+    ensures { IfOk result (λ said. (o : Office) (s : MergeSet) → IsMergeSetFault o s fault → IsIndependenceOf o s said) }
 {
     match fault {
         Verdict::OutOfMemory => Err(AllocError),
@@ -39,7 +39,7 @@ fn of_fault(fault: Verdict) -> Result<Independence, AllocError>
 
 /// Returns the answer where two members change a cell.
 fn of_shared(fault: SceneFault) -> Result<Independence, AllocError>
-    ensures { IfOk result (λ said. (o : Office) (s : Site) → member_fault o s ≡ None → IsSceneFault (change_sets o s) fault
+    ensures { IfOk result (λ said. (o : Office) (s : MergeSet) → member_fault o s ≡ None → IsSceneFault (change_sets o s) fault
         → IsIndependenceOf o s said) }
 {
     match fault {
@@ -59,16 +59,16 @@ fn of_shared(fault: SceneFault) -> Result<Independence, AllocError>
     }
 }
 
-/// Returns the answer that the parts of a site give.
+/// Returns the answer that the parts of a merge set give.
 fn of_parts(
     alloc: Global,
     office: &Office,
-    parts: &SiteParts<'_>,
+    parts: &MergeSetParts<'_>,
     root: &str,
     members: &[&str],
 ) -> Result<Independence, AllocError>
-    requires { AreParts office.now (site root.now (map (λ name. name.now) members.now)) parts.now }
-    ensures { IfOk result (IsIndependenceOf office.now (site root.now (map (λ name. name.now) members.now))) }
+    requires { AreParts office.now (merge_set root.now (map (λ name. name.now) members.now)) parts.now }
+    ensures { IfOk result (IsIndependenceOf office.now (merge_set root.now (map (λ name. name.now) members.now))) }
 {
     let _root = root;
     let _members = members;
@@ -92,9 +92,9 @@ pub fn independence_of(
     root: &str,
     members: &[&str],
 ) -> Result<Independence, AllocError>
-    ensures { IfOk result (IsIndependenceOf office.now (site root.now (map (λ name. name.now) members.now))) }
+    ensures { IfOk result (IsIndependenceOf office.now (merge_set root.now (map (λ name. name.now) members.now))) }
 {
-    match read_site(alloc, office, root, &members) {
+    match read_merge_set(alloc, office, root, &members) {
         Ok(parts) => of_parts(alloc, office, &parts, root, members),
         Err(fault) => of_fault(fault),
     }

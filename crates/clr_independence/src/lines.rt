@@ -2,7 +2,7 @@
 
 ghost use Rattle.std.specs.Prelude.{◌≡◌, ◌++◌, codes, map, IfOk, OnOk};
 ghost use Rattle.std.specs.List.{flat_map};
-ghost use Rattle.clr_sites.specs.SiteNames.{site};
+ghost use Rattle.clr_merge_sets.specs.MergeSetNames.{merge_set};
 ghost use Rattle.clr_verdict_lines.specs.Verdicts.{verdict_text};
 ghost use Rattle.clr_independence.specs.Lines.{AreIndependenceLines, independence_line, independence_text};
 
@@ -83,7 +83,7 @@ pub fn independence_lines(
     root: &str,
     members: &[&str],
 ) -> Result<Vec<u8>, AllocError>
-    ensures { IfOk result (λ lines. AreIndependenceLines office.now (site root.now (map (λ name. name.now) members.now)) lines.items) }
+    ensures { IfOk result (λ lines. AreIndependenceLines office.now (merge_set root.now (map (λ name. name.now) members.now)) lines.items) }
 {
     let said = independence_of(alloc, office, root, members)?;
     let lines = lines_of_independence(alloc, office.schema(), members, root, &said)?;

@@ -4,7 +4,7 @@ ghost use Rattle.std.specs.Prelude.{◌≡◌, ◌<◌, ◌≤◌, length, map, 
 ghost use Rattle.std.specs.List.Sorted.{IsStrictlySortedBy};
 ghost use Rattle.clr_needs.specs.Orders.{need_cmp};
 ghost use Rattle.clr_foot.specs.Scenes.{IsReady, model_of, setting_of};
-ghost use Rattle.clr_sites.specs.Told.{IsTold};
+ghost use Rattle.clr_merge_sets.specs.Told.{IsTold};
 ghost use Rattle.clr_independence.specs.Pairs.{AreNeedsOf, ShareOne};
 
 use clr_finders::RowFinder;

@@ -9,18 +9,18 @@ use Rattle.serde_json.specs.Data.{Data}
 use Rattle.serde_json.specs.View.{view, items_view}
 use Rattle.serde_json.specs.declared.value.Value.{Value as Json}
 use Rattle.clr_rows.specs.declared.tables.TableDef.{TableDef}
-use Rattle.clr_layers.specs.Entries.{stored_layer}
-use Rattle.clr_layers.specs.Layers.{Layer}
-use Rattle.clr_layers.specs.declared.stored_parts.StoredPart.{StoredPart}
+use Rattle.clr_deltas.specs.Entries.{stored_delta}
+use Rattle.clr_deltas.specs.Deltas.{Delta}
+use Rattle.clr_deltas.specs.declared.stored_parts.StoredPart.{StoredPart}
 use Rattle.clr_rule_text.specs.declared.faults.TextFault.{TextFault}
 use Rattle.clr_rule_text.specs.declared.faults.TextFault.TheVariants as fault
 use Rattle.clr_office_text.specs.declared.formats.Format.{Format}
 use Rattle.clr_readings.specs.Readings.{Fails}
 use Rattle.clr_rule_text.specs.Fields.{text_lacks_memory}
-use Rattle.clr_office_text.specs.Workspaces.{layer_of}
+use Rattle.clr_office_text.specs.Workspaces.{delta_of}
 use Rattle.clr_readings.proofs.FaultTurns.{fails_with}
 use Rattle.clr_item_faults.specs.FirstFaults.{fault_or, first_fault_from}
-use Rattle.clr_item_faults.specs.Readings.{layers_with}
+use Rattle.clr_item_faults.specs.Readings.{deltas_with}
 use Rattle.clr_item_faults.proofs.Lost.{fails_exactly}
 
 -- the item at i is read next
@@ -48,13 +48,13 @@ is_done f s vs i whole le so_far = sym (rw (drop_all i vs le) refl) ∙ so_far
 
 -- workspaces --------------------------------------------------------------------------------------
 
-pub layered : (format : Format) (tables : List TableDef) (parts : List StoredPart) (d : Data) (one : StoredPart)
-    → layer_of format tables (map stored_layer parts) d ≡ Ok (stored_layer one)
-    → layers_with format tables (map stored_layer parts) d ≡ Ok (map stored_layer (parts ++ one ∷ []))
-unfolding layers_with
-layered format tables parts d one was = rw (was, map-append stored_layer parts (one ∷ [])) refl
+pub deltas : (format : Format) (tables : List TableDef) (parts : List StoredPart) (d : Data) (one : StoredPart)
+    → delta_of format tables (map stored_delta parts) d ≡ Ok (stored_delta one)
+    → deltas_with format tables (map stored_delta parts) d ≡ Ok (map stored_delta (parts ++ one ∷ []))
+unfolding deltas_with
+deltas format tables parts d one was = rw (was, map-append stored_delta parts (one ∷ [])) refl
 
-pub layered_fails : (format : Format) (tables : List TableDef) (earlier : List Layer) (d : Data) (e : TextFault)
-    → Fails text_lacks_memory e (layer_of format tables earlier d) → Fails text_lacks_memory e (layers_with format tables earlier d)
-unfolding layers_with
-layered_fails format tables earlier d e failed = fails_with text_lacks_memory e (layer_of format tables earlier d) (λ l. Ok (earlier ++ l ∷ [])) _ failed refl
+pub deltas_fail : (format : Format) (tables : List TableDef) (earlier : List Delta) (d : Data) (e : TextFault)
+    → Fails text_lacks_memory e (delta_of format tables earlier d) → Fails text_lacks_memory e (deltas_with format tables earlier d)
+unfolding deltas_with
+deltas_fail format tables earlier d e failed = fails_with text_lacks_memory e (delta_of format tables earlier d) (λ l. Ok (earlier ++ l ∷ [])) _ failed refl

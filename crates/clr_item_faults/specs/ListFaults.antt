@@ -11,7 +11,7 @@ use Rattle.clr_office_text.specs.Patches.{named_cell_of}
 use Rattle.clr_rule_text.specs.Rules.{named_rule_of}
 use Rattle.clr_office_text.specs.Workspaces.{named_mark_of}
 use Rattle.clr_item_faults.specs.FirstFaults.{alone, first_fault_from}
-use Rattle.clr_item_faults.specs.Readings.{layers_with, mark_reading, put_cell_of, put_row_of, readable, rule_reading}
+use Rattle.clr_item_faults.specs.Readings.{deltas_with, mark_reading, put_cell_of, put_row_of, readable, rule_reading}
 
 -- the first fault of a list whose items are read by their names first, and then so
 abbrev pub fault_else : Option (ℕ × TextFault) → Option (ℕ × TextFault) → Option (ℕ × TextFault)
@@ -35,4 +35,4 @@ mark_fault_in tables items =
     fault_else (first_fault_from (alone (λ d. readable (named_mark_of tables d))) tt 0 items) (first_fault_from (alone (mark_reading tables)) tt 0 items)
 
 abbrev pub workspace_fault_in : Format → List TableDef → Items → Option (ℕ × TextFault)
-workspace_fault_in format tables items = first_fault_from (layers_with format tables) [] 0 items
+workspace_fault_in format tables items = first_fault_from (deltas_with format tables) [] 0 items

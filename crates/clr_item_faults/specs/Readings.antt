@@ -4,14 +4,14 @@ use Rattle.serde_json.specs.Data.{Data}
 use Rattle.clr_rows.specs.declared.tables.TableDef.{TableDef}
 use Rattle.clr_rows.specs.Contents.{Content}
 use Rattle.clr_differences.specs.Differences.{Differences}
-use Rattle.clr_layers.specs.Layers.{Layer}
+use Rattle.clr_deltas.specs.Deltas.{Delta}
 use Rattle.clr_rule_text.specs.declared.faults.TextFault.{TextFault}
 use Rattle.clr_office_text.specs.declared.formats.Format.{Format}
 use Rattle.clr_office_text.specs.Cells.{named_row_of, with_named_row}
 use Rattle.clr_readings.specs.Readings.{◌>>=◌}
 use Rattle.clr_office_text.specs.Patches.{named_cell_of, with_cell}
 use Rattle.clr_rule_text.specs.Rules.{named_rule_of, rule_over}
-use Rattle.clr_office_text.specs.Workspaces.{layer_of, mark_over, named_mark_of}
+use Rattle.clr_office_text.specs.Workspaces.{delta_of, mark_over, named_mark_of}
 
 -- whether a value can be read, whatever it means
 abbrev pub readable : {A : Type 0} → Result A TextFault → Result Unit TextFault
@@ -35,5 +35,5 @@ unfoldable pub put_cell_of : List TableDef → Differences → Data → Result D
 put_cell_of tables differences d = named_cell_of tables d >>= with_cell tables differences
 
 -- one more workspace behind earlier ones
-unfoldable pub layers_with : Format → List TableDef → List Layer → Data → Result (List Layer) TextFault
-layers_with format tables earlier d = layer_of format tables earlier d >>= λ l. Ok (earlier ++ l ∷ [])
+unfoldable pub deltas_with : Format → List TableDef → List Delta → Data → Result (List Delta) TextFault
+deltas_with format tables earlier d = delta_of format tables earlier d >>= λ l. Ok (earlier ++ l ∷ [])

@@ -3,7 +3,7 @@
 ghost use Rattle.std.specs.Prelude.{List};
 ghost use Rattle.clr_rows.specs.Contents.{Content};
 ghost use Rattle.clr_differences.specs.Differences.{Differences};
-ghost use Rattle.clr_layers.specs.Layers.{Layer};
+ghost use Rattle.clr_deltas.specs.Deltas.{Delta};
 ghost use Rattle.clr_item_faults.specs.FirstFaults.{AloneLaw, LeftLaw};
 
 /// Where a list has a first fault, all items before it can be read, and the item at its place answers
@@ -12,5 +12,5 @@ pub fn first_faults_are_first()
     ensures alone { AloneLaw }
     ensures rows { LeftLaw Content }
     ensures cells { LeftLaw Differences }
-    ensures workspaces { LeftLaw (List Layer) }
+    ensures workspaces { LeftLaw (List Delta) }
 {}

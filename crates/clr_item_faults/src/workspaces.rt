@@ -6,7 +6,7 @@ ghost use Rattle.clr_item_faults.specs.ListFaults.{workspace_fault_in};
 
 use crate::first_faults::FirstFault;
 use crate::memory::unless_lost;
-use clr_layers::StoredPart;
+use clr_deltas::StoredPart;
 use clr_office_text::earlier_names::note_name;
 use clr_office_text::formats::Format;
 use clr_office_text::workspaces::workspace;

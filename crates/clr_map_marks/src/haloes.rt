@@ -62,10 +62,10 @@ fn marked_between(scene: &Scene<'_>, cause: &Cause, radius: Pixels) -> Option<Ma
 /// Returns where the place of a cause is marked, if it is.
 pub fn marked_spot(scene: &Scene<'_>, cause: &Cause) -> Option<Marked> {
     match cause.mark {
-        Mark::Ring(site) => {
-            let beside = i64::from(marks_at(scene, site.place).saturating_sub(1));
+        Mark::Ring(ring) => {
+            let beside = i64::from(marks_at(scene, ring.place).saturating_sub(1));
             Some(Marked {
-                spot: scene.view.spot(site.place),
+                spot: scene.view.spot(ring.place),
                 radius: Pixels::whole(15) + mark_radius(scene) * beside,
             })
         }

@@ -13,7 +13,7 @@ use Rattle.clr_clearance.specs.Plans.{merges}
 use Rattle.clr_clearance.specs.Verdicts.{IsVerdict}
 use Rattle.clr_cert.specs.declared.certificates.Certificate.{Certificate}
 use Rattle.clr_check.specs.Answers.{IsRefusingVerdict}
-use Rattle.clr_sites.specs.Certificates.{entries_in, site_of}
+use Rattle.clr_merge_sets.specs.Certificates.{entries_in, merge_set_of}
 use Rattle.clr_check_texts.specs.Cases.{Case, IsCaseFault}
 use Rattle.clr_check_texts.specs.Checks.{IsCheckedVerdict}
 use Rattle.clr_check_texts.specs.declared.cases.CaseFault.{CaseFault}
@@ -71,20 +71,20 @@ module _ (o : Office) (c : Certificate) (v : Verdict) (output : Output)
   checked judged = (v, judged, of_verdict)
 
   -- no merge is performed
-  pub not_merged : (names : List Name) → IsRefusingVerdict o (site_of c) (entries_in c.entries) v → IsMergeOutcome o c names (outcome_of output o)
+  pub not_merged : (names : List Name) → IsRefusingVerdict o (merge_set_of c) (entries_in c.entries) v → IsMergeOutcome o c names (outcome_of output o)
   not_merged names refusal = of_verdict_alone v refusal of_verdict
 
 module _ (o left : Office) (c : Certificate) (names : List Name) (commands : List Command) (replies : List Reply) (stopped : Option ℕ) (output : Output) where
   -- merges are performed
-  pub merged : commands ≡ merges names → IsVerdict o (site_of c) (entries_in c.entries) verdict.Clear → IsQuietStart o (site_of c) commands replies left stopped
-      → IsClearedRun o (site_of c) (take (length replies) commands) replies left
+  pub merged : commands ≡ merges names → IsVerdict o (merge_set_of c) (entries_in c.entries) verdict.Clear → IsQuietStart o (merge_set_of c) commands replies left stopped
+      → IsClearedRun o (merge_set_of c) (take (length replies) commands) replies left
       → output.lines.items ≡ merge_text replies stopped left → output.refused ≡ (list_any is_refused replies || is_some stopped) → output.lost
       ≡ list_any is_lost replies
       → IsMergeOutcome o c names (outcome_of output left)
   merged are clear start ran lines refused lost =
       let all : AreMerged o c names replies stopped left = record {
         clear = clear;
-        start = subst (λ cs. IsQuietStart o (site_of c) cs replies left stopped) are start;
-        run = subst (λ cs. IsClearedRun o (site_of c) (take (length replies) cs) replies left) are ran;
+        start = subst (λ cs. IsQuietStart o (merge_set_of c) cs replies left stopped) are start;
+        run = subst (λ cs. IsClearedRun o (merge_set_of c) (take (length replies) cs) replies left) are ran;
       } in
       of_merges replies stopped left all (parts_are left _ _ _ _ _ _ lines refused lost)

@@ -5,7 +5,7 @@ use Rattle.clr_rules.specs.declared.needs.Broken.{Broken}
 use Rattle.clr_steps.specs.Offices.{Office}
 use Rattle.clr_engine.specs.Drafts.{unheld_in}
 use Rattle.clr_cert.specs.declared.certificates.Certificate.{Certificate}
-use Rattle.clr_sites.specs.SiteNames.{site}
+use Rattle.clr_merge_sets.specs.MergeSetNames.{merge_set}
 use Rattle.clr_check_texts.specs.Cases.{Case, case_of}
 use Rattle.clr_drafts.specs.Drafts.{draft_in}
 use Rattle.clr_rule_text.specs.declared.faults.TextFault.{TextFault}
@@ -68,9 +68,9 @@ one_within : (asked : Ask) (office second : List ℕ) → IsOnePrint (IsAnswerWi
 one_within ask.Audit office second = one_equal _
 one_within ask.Run office script = one_in (IsScriptPrint script) (λ o. one_printed o (script_in_text o.schema script)) (draft_in office)
 one_within (ask.Plan names) office second =
-    one_in (IsPlanPrint (site live_name names)) (λ o. one_print _ (one_planned o (site live_name names))) (draft_in office)
+    one_in (IsPlanPrint (merge_set live_name names)) (λ o. one_print _ (one_planned o (merge_set live_name names))) (draft_in office)
 one_within (ask.PlanUnder root names) office second =
-    one_in (IsPlanPrint (site root names)) (λ o. one_print _ (one_planned o (site root names))) (draft_in office)
+    one_in (IsPlanPrint (merge_set root names)) (λ o. one_print _ (one_planned o (merge_set root names))) (draft_in office)
 one_within ask.Check office certificate = one_of_case IsVerdictOutcome one_check (case_of office certificate)
 one_within (ask.Merge names) office certificate =
     one_of_case (λ (o : Office) (c : Certificate) (all : Outcome). IsMergeOutcome o c names all) (λ o c. one_merge o c names) (case_of office certificate)

@@ -4,8 +4,8 @@ use Rattle.std.specs.Io.KnownBytes.{Appends}
 use Rattle.clr_rows.specs.Names.{live_name}
 use Rattle.clr_rules.specs.Needs.{broken_needs}
 use Rattle.clr_steps.specs.Offices.{Office}
-use Rattle.clr_steps.specs.Quiet.{Site}
-use Rattle.clr_sites.specs.SiteNames.{site}
+use Rattle.clr_steps.specs.Quiet.{MergeSet}
+use Rattle.clr_merge_sets.specs.MergeSetNames.{merge_set}
 use Rattle.clr_lines.specs.Reports.{audit_text}
 use Rattle.clr_check_texts.specs.Cases.{case_of}
 use Rattle.clr_drafts.specs.Drafts.{draft_in}
@@ -28,15 +28,15 @@ unfoldable pub audit_of : Result Office TextFault → Printed
 audit_of (Err fault) = Err (run_fault.BadOffice fault)
 audit_of (Ok o) = audit_print o
 
-abbrev pub IsPlanPrint : Site → Office → Printed → Type 0
+abbrev pub IsPlanPrint : MergeSet → Office → Printed → Type 0
 IsPlanPrint s o print = IsPrintOf (IsPlanOutcome o s) print
 
 -- what is to be printed for what is asked of an office text and a second text
 abbrev pub IsAnswerWithin : Ask → List ℕ → List ℕ → Printed → Type 0
 IsAnswerWithin ask.Audit office second print = print ≡ audit_of (draft_in office)
 IsAnswerWithin ask.Run office script print = IsPrintIn (IsScriptPrint script) (draft_in office) print
-IsAnswerWithin (ask.Plan names) office second print = IsPrintIn (IsPlanPrint (site live_name names)) (draft_in office) print
-IsAnswerWithin (ask.PlanUnder root names) office second print = IsPrintIn (IsPlanPrint (site root names)) (draft_in office) print
+IsAnswerWithin (ask.Plan names) office second print = IsPrintIn (IsPlanPrint (merge_set live_name names)) (draft_in office) print
+IsAnswerWithin (ask.PlanUnder root names) office second print = IsPrintIn (IsPlanPrint (merge_set root names)) (draft_in office) print
 IsAnswerWithin ask.Check office certificate print = IsCheckPrint (case_of office certificate) print
 IsAnswerWithin (ask.Merge names) office certificate print = IsMergePrint names (case_of office certificate) print
 

@@ -13,7 +13,7 @@ use Rattle.clr_clearance.specs.Plans.{merges}
 use Rattle.clr_clearance.specs.Verdicts.{IsVerdict}
 use Rattle.clr_cert.specs.declared.certificates.Certificate.{Certificate}
 use Rattle.clr_check.specs.Answers.{IsRefusingVerdict}
-use Rattle.clr_sites.specs.Certificates.{entries_in, site_of}
+use Rattle.clr_merge_sets.specs.Certificates.{entries_in, merge_set_of}
 use Rattle.clr_check_texts.specs.Cases.{Case}
 use Rattle.clr_check_texts.specs.Checks.{IsCheckedVerdict}
 use Rattle.clr_check_texts.specs.declared.cases.CaseFault.{CaseFault}
@@ -52,9 +52,9 @@ stop_text (Some number) = count_line (codes "notquiet") number
 
 -- merges of workspaces in this order, each of which is kept, as far as they are quiet for a clear certificate
 pub record AreMerged (o : Office) (c : Certificate) (names : List Name) (replies : List Reply) (stopped : Option ℕ) (left : Office) : Type 0 where
-  pub clear : IsVerdict o (site_of c) (entries_in c.entries) verdict.Clear
-  pub start : IsQuietStart o (site_of c) (merges names) replies left stopped
-  pub run : IsClearedRun o (site_of c) (take (length replies) (merges names)) replies left
+  pub clear : IsVerdict o (merge_set_of c) (entries_in c.entries) verdict.Clear
+  pub start : IsQuietStart o (merge_set_of c) (merges names) replies left stopped
+  pub run : IsClearedRun o (merge_set_of c) (take (length replies) (merges names)) replies left
 
 -- a line of each reply, that of the stop, and the text of the office that is left
 abbrev pub merge_text : List Reply → Option ℕ → Office → List ℕ
@@ -67,7 +67,7 @@ merge_outcome replies stopped left = outcome (merge_text replies stopped left) (
 pub data IsMergeOutcome (o : Office) (c : Certificate) (names : List Name) (all : Outcome) : Type 0 where
   of_merges : (replies : List Reply) (stopped : Option ℕ) (left : Office) → AreMerged o c names replies stopped left
       → all ≡ merge_outcome replies stopped left → IsMergeOutcome o c names all
-  of_verdict : (v : Verdict) → IsRefusingVerdict o (site_of c) (entries_in c.entries) v → all ≡ verdict_outcome o c v → IsMergeOutcome o c names all
+  of_verdict : (v : Verdict) → IsRefusingVerdict o (merge_set_of c) (entries_in c.entries) v → all ≡ verdict_outcome o c v → IsMergeOutcome o c names all
 
 -- texts --------------------------------------------------------------------------------------
 

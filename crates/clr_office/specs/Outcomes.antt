@@ -4,9 +4,9 @@ use Rattle.clr_rows.specs.Names.{live_name}
 use Rattle.clr_workspaces.specs.Marks.{Name}
 use Rattle.clr_steps.specs.declared.commands.Command.{Command}
 use Rattle.clr_steps.specs.Offices.{Office}
-use Rattle.clr_steps.specs.Quiet.{Site}
+use Rattle.clr_steps.specs.Quiet.{MergeSet}
 use Rattle.clr_steps.specs.Steps.{TakesNoMemory, step_or_lost}
-use Rattle.clr_sites.specs.SiteNames.{site}
+use Rattle.clr_merge_sets.specs.MergeSetNames.{merge_set}
 use Rattle.clr_plan.specs.declared.plans.Plan.{Plan}
 use Rattle.clr_plan.specs.Plans.{IsPlan}
 use Rattle.clr_plan.specs.Promises.{IsExact, Promises, is_cleared, is_out_of_memory}
@@ -33,16 +33,16 @@ first_name (name ∷ names) = name
 
 -- the plan of members of a root, or want of memory where no test of names fails, with what it promises: a cleared one that the members are
 -- safe, a blocked one that of the merges in its order one is refused; and it is cleared exactly where they are safe, memory aside
-pub record IsPlanned (o : Office) (s : Site) (p : Plan) : Type 0 where
+pub record IsPlanned (o : Office) (s : MergeSet) (p : Plan) : Type 0 where
   pub plan : IsPlan o s p
   pub promises : Promises o s p
   pub exact : IsExact o s p
 
 -- the outcome of a plan: its lines; all but a cleared plan counts as a refusal
-abbrev pub plan_outcome : Office → Site → Plan → Outcome
+abbrev pub plan_outcome : Office → MergeSet → Plan → Outcome
 plan_outcome o s p = outcome (plan_text o.schema s.members s.root p) (not (is_cleared p)) (is_out_of_memory p) o
 
-abbrev pub IsPlanOutcome : Office → Site → Outcome → Type 0
+abbrev pub IsPlanOutcome : Office → MergeSet → Outcome → Type 0
 IsPlanOutcome o s all = (p : Plan) × IsPlanned o s p × (all ≡ plan_outcome o s p)
 
 -- a step; where it is asked of a root, the first name is the root and the others are the members
@@ -54,10 +54,10 @@ IsOutcome o (Report word.Conflicts names) all = all ≡ conflicts_outcome o (fir
 IsOutcome o (Report word.Audit names) all = all ≡ audit_outcome o (first_name names)
 IsOutcome o (Report word.Workspaces names) all = all ≡ workspaces_outcome o
 IsOutcome o (Report word.Dump names) all = all ≡ dump_outcome o
-IsOutcome o (Report word.Plan names) all = IsPlanOutcome o (site live_name names) all
-IsOutcome o (Report word.PlanUnder names) all = IsPlanOutcome o (site (first_name names) (drop 1 names)) all
-IsOutcome o (Report word.Independence names) all = IsIndependenceOutcome o (site live_name names) all
-IsOutcome o (Report word.IndependenceUnder names) all = IsIndependenceOutcome o (site (first_name names) (drop 1 names)) all
+IsOutcome o (Report word.Plan names) all = IsPlanOutcome o (merge_set live_name names) all
+IsOutcome o (Report word.PlanUnder names) all = IsPlanOutcome o (merge_set (first_name names) (drop 1 names)) all
+IsOutcome o (Report word.Independence names) all = IsIndependenceOutcome o (merge_set live_name names) all
+IsOutcome o (Report word.IndependenceUnder names) all = IsIndependenceOutcome o (merge_set (first_name names) (drop 1 names)) all
 
 -- the outcome of two things one after another, the second in the office that the first left
 abbrev pub followed_by : Outcome → Outcome → Outcome

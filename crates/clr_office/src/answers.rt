@@ -1,7 +1,7 @@
 //! Answers to what is asked of one or two texts.
 
 ghost use Rattle.std.specs.Prelude.{◌≡◌, ◌≢◌, false, IfOk, IfErr};
-ghost use Rattle.clr_sites.specs.SiteNames.{site};
+ghost use Rattle.clr_merge_sets.specs.MergeSetNames.{merge_set};
 ghost use Rattle.clr_command_line.specs.declared.asks.Ask.TheVariants as ask;
 ghost use Rattle.clr_drafts.specs.Drafts.{draft_in};
 ghost use Rattle.clr_office.specs.Answers.{IsPrintedAnswer, IsAnswerTo, IsAnswerWithin, IsPlanPrint, audit_of, audit_print};
@@ -63,7 +63,7 @@ fn answer_plan(
     root: &str,
     names: &[Words],
 ) -> Result<Output, RunFault>
-    ensures { IsOutput (IsPrintIn (IsPlanPrint (site root.now names.now)) (draft_in office.now)) result }
+    ensures { IsOutput (IsPrintIn (IsPlanPrint (merge_set root.now names.now)) (draft_in office.now)) result }
 {
     match open_office(alloc, office) {
         Ok(office) => Ok(plan_members(alloc, &office, root, names)?),

@@ -1,6 +1,6 @@
 //! Plans of members, which are given by their names.
 ghost use Rattle.std.specs.Prelude.{◌≡◌, IfOk};
-ghost use Rattle.clr_sites.specs.SiteNames.{site};
+ghost use Rattle.clr_merge_sets.specs.MergeSetNames.{merge_set};
 ghost use Rattle.clr_plan.specs.Promises.{is_cleared as is_cleared_plan, is_out_of_memory as is_lost_plan};
 ghost use Rattle.clr_office.specs.Outcomes.{IsPlanOutcome};
 ghost use Rattle.clr_reports.specs.Outcomes.{outcome_of};
@@ -38,7 +38,7 @@ pub fn plan_members(
     root: &str,
     names: &[Words],
 ) -> Result<Output, AllocError>
-    ensures { IfOk result (λ o. IsPlanOutcome office.now (site root.now names.now) (outcome_of o office.now)) }
+    ensures { IfOk result (λ o. IsPlanOutcome office.now (merge_set root.now names.now) (outcome_of o office.now)) }
 {
     let members = texts(alloc, names)?;
     let plan = plan(alloc, office, root, members.as_slice());

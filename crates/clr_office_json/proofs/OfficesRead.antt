@@ -12,14 +12,14 @@ use Rattle.clr_rule_text.specs.Fields.{each}
 use Rattle.clr_office_text.specs.Offices.{format_of, office_of, schema_of}
 use Rattle.clr_rule_text.specs.Rules.{named_rules_of, rules_of}
 use Rattle.clr_office_text.specs.Tables.{column_of, columns_of, form_named, kind_named, pair_of, table_of, tables_of}
-use Rattle.clr_office_text.specs.Workspaces.{layers_of}
+use Rattle.clr_office_text.specs.Workspaces.{deltas_of}
 use Rattle.clr_office_json.specs.Laws.{ReadsBack}
 use Rattle.clr_office_json.specs.OfficeData.{office_data}
 use Rattle.clr_office_json.specs.TableData.{column_data, form_word, kind_word, table_data}
 use Rattle.clr_office_json.proofs.ListsRead.{any_read}
 use Rattle.clr_office_json.proofs.CellsRead.{rows_again, rows_read}
 use Rattle.clr_office_json.proofs.RulesRead.{rules_found, rules_read}
-use Rattle.clr_office_json.proofs.WorkspacesRead.{layers_read}
+use Rattle.clr_office_json.proofs.WorkspacesRead.{deltas_read}
 
 kind_read : (k : Kind) → kind_named (kind_word k) ≡ Ok k
 kind_read kind.Int = refl
@@ -43,7 +43,7 @@ tables_read : (ts : List TableDef) → each (table_of Third) (items_of (map tabl
 tables_read ts = any_read (table_of Third) table_data table_read ts
 
 pub offices_read : ReadsBack
-unfolding office_data office_of format_of schema_of tables_of rules_of named_rules_of live_of live_rows_of layers_of
+unfolding office_data office_of format_of schema_of tables_of rules_of named_rules_of live_of live_rows_of deltas_of
 offices_read o fits under =
     rw (
       tables_read o.schema,
@@ -53,5 +53,5 @@ offices_read o fits under =
       fits.book,
       rows_read o.schema fits.schema o.live fits.live,
       rows_again o.schema fits.schema o.live fits.live,
-      layers_read o.schema fits.schema [] o.layers fits.layers under,
+      deltas_read o.schema fits.schema [] o.deltas fits.deltas under,
     ) refl

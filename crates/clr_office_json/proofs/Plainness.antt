@@ -8,7 +8,7 @@ use Rattle.clr_rows.specs.declared.rows.Value.{Value}
 use Rattle.clr_rows.specs.declared.rows.Value.TheVariants.{Int, Words}
 use Rattle.clr_rows.specs.declared.tables.TableDef.{TableDef}
 use Rattle.clr_rows.specs.Parts.{vertices_of}
-use Rattle.clr_layers.specs.Layers.{Layer}
+use Rattle.clr_deltas.specs.Deltas.{Delta}
 use Rattle.clr_office_text.specs.declared.named_cells.NamedCell.{NamedCell}
 use Rattle.clr_office_text.specs.declared.named_marks.NamedMark.{NamedMark}
 use Rattle.clr_office_text.specs.declared.named_marks.NamedMark.TheVariants as named
@@ -22,7 +22,7 @@ use Rattle.clr_office_json.specs.OfficeData.{office_data}
 use Rattle.clr_office_json.specs.RuleData.{literal_data, named_rule, named_rule_data, side_data}
 use Rattle.clr_office_json.specs.TableData.{column_data, table_data}
 use Rattle.clr_office_json.specs.Values.{number_data, value_data}
-use Rattle.clr_office_json.specs.WorkspaceData.{layer_data, named_mark, named_mark_data}
+use Rattle.clr_office_json.specs.WorkspaceData.{delta_data, named_mark, named_mark_data}
 
 -- depth --------------------------------------------------------------------------------------
 
@@ -76,8 +76,8 @@ mark_depth : (m : NamedMark) → depth (named_mark_data m) ≤ 4
 mark_depth (named.Child name) = omega arith
 mark_depth (named.Saved name cells) = omega (arith, cells_depth cells)
 
-layer_depth : (tables : List TableDef) (l : Layer) → depth (layer_data tables l) ≤ 6
-layer_depth tables l =
+delta_depth : (tables : List TableDef) (l : Delta) → depth (delta_data tables l) ≤ 6
+delta_depth tables l =
     omega (
       arith,
       cells_depth (cells_with_names tables l.base),
@@ -94,7 +94,7 @@ office_depth o =
       list_depth table_data 3 table_depth o.schema,
       list_depth named_rule_data 4 rule_depth (map (named_rule o.schema) o.book),
       list_depth named_row_data 2 (λ n. row_depth n.table n.key n.row) (named_rows o.schema o.live),
-      list_depth (layer_data o.schema) 6 (layer_depth o.schema) o.layers,
+      list_depth (delta_data o.schema) 6 (delta_depth o.schema) o.deltas,
     )
 
 -- floats -------------------------------------------------------------------------------------
@@ -146,8 +146,8 @@ mark_plain : (m : NamedMark) → has_float (named_mark_data m) ≡ false
 mark_plain (named.Child name) = refl
 mark_plain (named.Saved name cells) = rw (cells_plain cells) refl
 
-layer_plain : (tables : List TableDef) (l : Layer) → has_float (layer_data tables l) ≡ false
-layer_plain tables l =
+delta_plain : (tables : List TableDef) (l : Delta) → has_float (delta_data tables l) ≡ false
+delta_plain tables l =
     rw (
       cells_plain (cells_with_names tables l.base),
       cells_plain (cells_with_names tables l.current),
@@ -162,7 +162,7 @@ office_plain o =
       list_plain table_data table_plain o.schema,
       list_plain named_rule_data rule_plain (map (named_rule o.schema) o.book),
       list_plain named_row_data (λ n. row_plain n.table n.key n.row) (named_rows o.schema o.live),
-      list_plain (layer_data o.schema) (layer_plain o.schema) o.layers,
+      list_plain (delta_data o.schema) (delta_plain o.schema) o.deltas,
     ) refl
 
 pub plain : IsPlain

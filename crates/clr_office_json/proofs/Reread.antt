@@ -28,14 +28,14 @@ use Rattle.clr_rows.specs.Schemas.{FitsSchema, is_number, schema_fault}
 use Rattle.clr_rules.specs.declared.rules.Rule.{Rule}
 use Rattle.clr_rules.specs.Books.{FitsBook}
 use Rattle.clr_differences.specs.Differences.{Differences}
-use Rattle.clr_layers.specs.Layers.{Layer}
-use Rattle.clr_layers.specs.declared.stored_marks.StoredMark.{StoredMark}
-use Rattle.clr_layers.specs.declared.stored_marks.StoredMark.TheVariants as stored
+use Rattle.clr_deltas.specs.Deltas.{Delta}
+use Rattle.clr_deltas.specs.declared.stored_marks.StoredMark.{StoredMark}
+use Rattle.clr_deltas.specs.declared.stored_marks.StoredMark.TheVariants as stored
 use Rattle.clr_rule_text.specs.declared.named_rules.NamedRule.{NamedRule}
 use Rattle.clr_rule_text.specs.declared.named_rules.NamedRule.TheVariants.{Unique, Partner, EndNode, Crossing, Near}
 use Rattle.clr_rule_text.specs.declared.named_sides.NamedSide.{NamedSide}
 use Rattle.clr_office_text.specs.Cells.{has_paths}
-use Rattle.clr_office_text.specs.Fits.{FitsDifferences, FitsLayer, FitsMark, FitsOffice}
+use Rattle.clr_office_text.specs.Fits.{FitsDifferences, FitsDelta, FitsMark, FitsOffice}
 use Rattle.clr_office_text.specs.Offices.{OfficeText}
 use Rattle.clr_office_json.specs.CellData.{coordinates_of, named_cell_data, cells_with_names, named_row_data, named_rows, row_data, row_or_gone_data}
 use Rattle.clr_office_json.specs.OfficeData.{office_data}
@@ -43,7 +43,7 @@ use Rattle.clr_office_json.specs.RuleData.{literal_data, named_rule, named_rule_
 use Rattle.clr_office_json.specs.TableData.{column_data, table_data}
 use Rattle.clr_office_json.specs.Tokens.{tokens_of}
 use Rattle.clr_office_json.specs.Values.{number_data, value_data}
-use Rattle.clr_office_json.specs.WorkspaceData.{layer_data, named_mark, named_mark_data}
+use Rattle.clr_office_json.specs.WorkspaceData.{delta_data, named_mark, named_mark_data}
 use Rattle.clr_office_json.proofs.ListsRead.{all_mapped, all_pass}
 use Rattle.clr_office_json.proofs.CellsRead.{IsReadable, IsReadableOrGone, cells_readable, rows_readable}
 use Rattle.clr_office_json.proofs.RulesRead.{IsRuleWithin, IsSideWithin, rules_within}
@@ -145,8 +145,8 @@ module _ (tables : List TableDef) (schema : schema_fault tables ≡ None) where
   mark_reread (stored.Saved name d) fits = rw (cells_reread d fits) refl
   mark_reread (stored.Child name) fits = refl
 
-  layer_reread : (l : Layer) → FitsLayer tables l → IsReread (layer_data tables l)
-  layer_reread l fits =
+  delta_reread : (l : Delta) → FitsDelta tables l → IsReread (delta_data tables l)
+  delta_reread l fits =
       rw (
         cells_reread l.base fits.base,
         list_reread (λ m. IsReread (named_mark_data m)) named_mark_data (λ m is. is) (map (named_mark tables) l.marks)
@@ -162,7 +162,7 @@ office_reread o fits =
       rows_reread o.schema fits.schema o.live fits.live,
       list_reread IsRuleWithin named_rule_data rule_reread (map (named_rule o.schema) o.book) (rules_within o.schema o.book fits.book),
       any_reread table_data table_reread o.schema,
-      list_reread (FitsLayer o.schema) (layer_data o.schema) (layer_reread o.schema fits.schema) o.layers fits.layers,
+      list_reread (FitsDelta o.schema) (delta_data o.schema) (delta_reread o.schema fits.schema) o.deltas fits.deltas,
     ) refl
 
 -- the whole ----------------------------------------------------------------------------------

@@ -5,17 +5,17 @@ use Rattle.std.specs.List.{AllByRecursion}
 use Rattle.serde_json.specs.View.{items_of}
 use Rattle.clr_rows.specs.declared.tables.TableDef.{TableDef}
 use Rattle.clr_rows.specs.Schemas.{schema_fault}
-use Rattle.clr_layers.specs.Layers.{Layer}
-use Rattle.clr_layers.specs.declared.stored_marks.StoredMark.{StoredMark}
-use Rattle.clr_layers.specs.declared.stored_marks.StoredMark.TheVariants as stored
+use Rattle.clr_deltas.specs.Deltas.{Delta}
+use Rattle.clr_deltas.specs.declared.stored_marks.StoredMark.{StoredMark}
+use Rattle.clr_deltas.specs.declared.stored_marks.StoredMark.TheVariants as stored
 use Rattle.clr_office_text.specs.declared.formats.Format.TheVariants.{Third}
 use Rattle.clr_office_text.specs.declared.named_marks.NamedMark.{NamedMark}
 use Rattle.clr_rule_text.specs.Fields.{each, each_in}
-use Rattle.clr_office_text.specs.Fits.{FitsLayer, FitsMark}
+use Rattle.clr_office_text.specs.Fits.{FitsDelta, FitsMark}
 use Rattle.clr_office_text.specs.Patches.{differences_at, named_cells_at}
-use Rattle.clr_office_text.specs.Workspaces.{head_of, layer_of, layers_after, mark_over, marks_of, named_mark_of, named_marks_of, saved_of, stands_in}
+use Rattle.clr_office_text.specs.Workspaces.{head_of, delta_of, deltas_after, mark_over, marks_of, named_mark_of, named_marks_of, saved_of, stands_in}
 use Rattle.clr_office_json.specs.Laws.{HaveParents}
-use Rattle.clr_office_json.specs.WorkspaceData.{layer_data, named_mark, named_mark_data}
+use Rattle.clr_office_json.specs.WorkspaceData.{delta_data, named_mark, named_mark_data}
 use Rattle.clr_office_json.proofs.ListsRead.{all_mapped, each_found, each_read}
 use Rattle.clr_office_json.proofs.CellsRead.{cells_again, cells_read}
 
@@ -45,10 +45,10 @@ module _ (tables : List TableDef) (schema : schema_fault tables ≡ None) where
 
   -- workspaces -------------------------------------------------------------------------------
 
-  layer_read_again : (earlier : List Layer) (l : Layer) → FitsLayer tables l → stands_in earlier l.parent ≡ true
-      → layer_of Third tables earlier (layer_data tables l) ≡ Ok l
-  unfolding layer_of head_of differences_at named_cells_at marks_of named_marks_of
-  layer_read_again earlier l fits stands =
+  delta_read_again : (earlier : List Delta) (l : Delta) → FitsDelta tables l → stands_in earlier l.parent ≡ true
+      → delta_of Third tables earlier (delta_data tables l) ≡ Ok l
+  unfolding delta_of head_of differences_at named_cells_at marks_of named_marks_of
+  delta_read_again earlier l fits stands =
       rw (
         stands,
         cells_read tables schema l.base fits.base,
@@ -59,10 +59,10 @@ module _ (tables : List TableDef) (schema : schema_fault tables ≡ None) where
         marks_again l.marks fits.marks,
       ) refl
 
-  pub layers_read : (earlier ls : List Layer) → AllByRecursion (FitsLayer tables) ls → HaveParents earlier ls
-      → layers_after Third tables earlier (items_of (map (layer_data tables) ls)) ≡ Ok (earlier ++ ls)
-  unfolding layers_after
-  layers_read earlier [] fits under = ap (λ xs. Ok xs) (sym (append-nil earlier))
-  layers_read earlier (l ∷ ls) fits under =
-      rw (layer_read_again earlier l fits.0 under.0)
-      (layers_read (earlier ++ l ∷ []) ls fits.1 under.1 ∙ ap (λ xs. Ok xs) (append_assoc earlier (l ∷ []) ls))
+  pub deltas_read : (earlier ls : List Delta) → AllByRecursion (FitsDelta tables) ls → HaveParents earlier ls
+      → deltas_after Third tables earlier (items_of (map (delta_data tables) ls)) ≡ Ok (earlier ++ ls)
+  unfolding deltas_after
+  deltas_read earlier [] fits under = ap (λ xs. Ok xs) (sym (append-nil earlier))
+  deltas_read earlier (l ∷ ls) fits under =
+      rw (delta_read_again earlier l fits.0 under.0)
+      (deltas_read (earlier ++ l ∷ []) ls fits.1 under.1 ∙ ap (λ xs. Ok xs) (append_assoc earlier (l ∷ []) ls))

@@ -6,10 +6,10 @@ use Rattle.clr_office_json.specs.CellData.{live_data}
 use Rattle.clr_office_json.specs.RuleData.{rules_data}
 use Rattle.clr_office_json.specs.TableData.{table_data}
 use Rattle.clr_office_json.specs.Values.{list_data, number_data}
-use Rattle.clr_office_json.specs.WorkspaceData.{layer_data}
+use Rattle.clr_office_json.specs.WorkspaceData.{delta_data}
 
 unfoldable pub office_data : OfficeText → Data
 office_data o =
     object (member (codes "format") (number_data (pos 3)) (member (codes "live") (live_data o.schema o.live)
     (member (codes "rules") (rules_data o.schema o.book) (member (codes "tables") (list_data table_data o.schema)
-    (member (codes "workspaces") (list_data (layer_data o.schema) o.layers) no_members)))))
+    (member (codes "workspaces") (list_data (delta_data o.schema) o.deltas) no_members)))))

@@ -2,9 +2,9 @@
 use Rattle.std.specs.Prelude.{List, codes, map}
 use Rattle.serde_json.specs.Data.{Data, boolean, string, object, member, no_members}
 use Rattle.clr_rows.specs.declared.tables.TableDef.{TableDef}
-use Rattle.clr_layers.specs.Layers.{Layer}
-use Rattle.clr_layers.specs.declared.stored_marks.StoredMark.{StoredMark}
-use Rattle.clr_layers.specs.declared.stored_marks.StoredMark.TheVariants as stored
+use Rattle.clr_deltas.specs.Deltas.{Delta}
+use Rattle.clr_deltas.specs.declared.stored_marks.StoredMark.{StoredMark}
+use Rattle.clr_deltas.specs.declared.stored_marks.StoredMark.TheVariants as stored
 use Rattle.clr_office_text.specs.declared.named_marks.NamedMark.{NamedMark}
 use Rattle.clr_office_text.specs.declared.named_marks.NamedMark.TheVariants as named
 use Rattle.clr_office_json.specs.CellData.{differences_data, named_cell_data, cells_with_names}
@@ -23,8 +23,8 @@ named_mark_data (named.Saved name cells) =
 abbrev pub marks_data : List TableDef → List StoredMark → Data
 marks_data tables marks = list_data named_mark_data (map (named_mark tables) marks)
 
-abbrev pub layer_data : List TableDef → Layer → Data
-layer_data tables l =
+abbrev pub delta_data : List TableDef → Delta → Data
+delta_data tables l =
     object (member (codes "base") (differences_data tables l.base) (member (codes "kept") (boolean l.kept) (member (codes "marks") (marks_data tables l.marks)
     (member (codes "name") (string l.name) (member (codes "parent") (string l.parent)
     (member (codes "rows") (differences_data tables l.current) no_members))))))

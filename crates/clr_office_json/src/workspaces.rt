@@ -2,15 +2,15 @@
 
 ghost use Rattle.std.specs.Prelude.{◌≡◌, ◌++◌, IfOk, OnOk};
 ghost use Rattle.std.specs.Option.{option_copied};
-ghost use Rattle.clr_layers.specs.declared.stored_marks.StoredMark.TheVariants.{Child, Saved};
+ghost use Rattle.clr_deltas.specs.declared.stored_marks.StoredMark.TheVariants.{Child, Saved};
 ghost use Rattle.clr_office_json.specs.CellData.{differences_data, named_cell, named_cell_data};
 ghost use Rattle.clr_office_json.specs.Tokens.{tokens_of};
-ghost use Rattle.clr_office_json.specs.WorkspaceData.{layer_data, marks_data, named_mark, named_mark_data};
+ghost use Rattle.clr_office_json.specs.WorkspaceData.{delta_data, marks_data, named_mark, named_mark_data};
 
 use crate::cells::{write_gone, write_row};
 use crate::json_texts::JsonText;
 use clr_differences::Differences;
-use clr_layers::{LayerView, StoredMark};
+use clr_deltas::{DeltaView, StoredMark};
 use clr_rows::{CellId, Row, Schema};
 use std::alloc::AllocError;
 
@@ -92,23 +92,23 @@ fn write_marks(text: &mut JsonText, schema: &Schema, marks: &[StoredMark]) -> Re
 fn write_workspace(
     text: &mut JsonText,
     schema: &Schema,
-    layer: &LayerView<'_>,
+    delta: &DeltaView<'_>,
 ) -> Result<(), AllocError>
-    ensures { OnOk result (text.new ≡ text.old ++ tokens_of (layer_data schema.now layer.now)) }
+    ensures { OnOk result (text.new ≡ text.old ++ tokens_of (delta_data schema.now delta.now)) }
 {
     text.begin_object()?;
     text.key("base")?;
-    write_differences(text, schema, layer.base())?;
+    write_differences(text, schema, delta.base())?;
     text.key("kept")?;
-    text.boolean(layer.is_kept())?;
+    text.boolean(delta.is_kept())?;
     text.key("marks")?;
-    write_marks(text, schema, layer.marks())?;
+    write_marks(text, schema, delta.marks())?;
     text.key("name")?;
-    text.string(layer.name())?;
+    text.string(delta.name())?;
     text.key("parent")?;
-    text.string(layer.parent())?;
+    text.string(delta.parent())?;
     text.key("rows")?;
-    write_differences(text, schema, layer.current())?;
+    write_differences(text, schema, delta.current())?;
     text.end_object()
 }
 
@@ -118,10 +118,10 @@ fn write_workspace(
 pub fn with_workspace(
     mut text: JsonText,
     schema: &Schema,
-    layer: &LayerView<'_>,
+    delta: &DeltaView<'_>,
 ) -> Result<JsonText, AllocError>
-    ensures { IfOk result (λ longer. longer ≡ text ++ tokens_of (layer_data schema.now layer.now)) }
+    ensures { IfOk result (λ longer. longer ≡ text ++ tokens_of (delta_data schema.now delta.now)) }
 {
-    write_workspace(&mut text, schema, layer)?;
+    write_workspace(&mut text, schema, delta)?;
     Ok(text)
 }

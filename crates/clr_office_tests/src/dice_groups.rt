@@ -2,7 +2,7 @@
 
 use crate::dice_offices::{MadeUp, NETWORK, made_up, only};
 use crate::plain::{are_dependent, joined, needs_of};
-use crate::sites::groups_of;
+use crate::merge_sets::groups_of;
 use clr_call_test_kit::Dice;
 use clr_engine::Office;
 use clr_independence::{Independence, Pair, independence_of};

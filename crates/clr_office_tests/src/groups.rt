@@ -1,7 +1,7 @@
 //! What is said of members over two mains that cross at a node: which pairs are independent, and the groups. It is said again while
 //! memory is wanting: at every budget of bytes pairs and groups are right or refused, and the office is as before.
 
-use crate::sites::site_text;
+use crate::merge_sets::merge_set_text;
 use clr_call_test_kit::{Hoard, Memory};
 use clr_engine::Office;
 use clr_independence::independence_lines;
@@ -139,7 +139,7 @@ fn said_in(
 ) -> Option<Vec<u8>> {
     let lines = memory.answer(|| independence_lines(alloc, office, root, members));
     let mut said = lines.ok()?;
-    let text = site_text(alloc, office, root, members, memory).ok()?;
+    let text = merge_set_text(alloc, office, root, members, memory).ok()?;
     said.extend_from_slice(text.as_bytes()).ok()?;
     Some(said)
 }

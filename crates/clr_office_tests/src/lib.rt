@@ -24,6 +24,6 @@ mod scene_texts;
 #[cfg(test)]
 mod separators;
 #[cfg(test)]
-mod sites;
+mod merge_sets;
 #[cfg(test)]
 mod two_texts;

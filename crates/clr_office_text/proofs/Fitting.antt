@@ -10,9 +10,9 @@ use Rattle.clr_rows.specs.Schemas.{FitsSchema, row_fault, schema_fault}
 use Rattle.clr_rows.proofs.FitLemmas.{none_fit, none_keeps, put_keeps}
 use Rattle.clr_rules.specs.Books.{book_fault}
 use Rattle.clr_differences.specs.Differences.{Differences}
-use Rattle.clr_layers.specs.Layers.{Layer}
-use Rattle.clr_layers.specs.declared.stored_marks.StoredMark.{StoredMark}
-use Rattle.clr_layers.specs.declared.stored_marks.StoredMark.TheVariants as stored
+use Rattle.clr_deltas.specs.Deltas.{Delta}
+use Rattle.clr_deltas.specs.declared.stored_marks.StoredMark.{StoredMark}
+use Rattle.clr_deltas.specs.declared.stored_marks.StoredMark.TheVariants as stored
 use Rattle.clr_office_text.specs.declared.cells.NamedRow.{NamedRow}
 use Rattle.clr_rule_text.specs.declared.faults.TextFault.{TextFault}
 use Rattle.clr_office_text.specs.declared.formats.Format.{Format}
@@ -22,12 +22,12 @@ use Rattle.clr_office_text.specs.declared.named_marks.NamedMark.TheVariants as n
 use Rattle.clr_office_text.specs.Cells.{cell_of, live_of, live_rows_of, with_named_row, with_named_rows}
 use Rattle.clr_readings.specs.Readings.{◌>>=◌}
 use Rattle.clr_rule_text.specs.Fields.{each_in, list_or_none, none_or_fault}
-use Rattle.clr_office_text.specs.Fits.{FitsDifferences, FitsLayer, FitsMark, FitsOffice}
+use Rattle.clr_office_text.specs.Fits.{FitsDifferences, FitsDelta, FitsMark, FitsOffice}
 use Rattle.clr_office_text.specs.Offices.{OfficeText, format_of, office_of, schema_of}
 use Rattle.clr_office_text.specs.Patches.{differences_at, differences_of, named_cells_at, put_fault, with_cell, with_named_cells}
 use Rattle.clr_rule_text.specs.Rules.{named_rules_of, rule_over, rules_of}
 use Rattle.clr_office_text.specs.Tables.{tables_of}
-use Rattle.clr_office_text.specs.Workspaces.{head_of, layer_of, layers_after, layers_of, mark_over, marks_of, named_marks_of, under_one_of}
+use Rattle.clr_office_text.specs.Workspaces.{head_of, delta_of, deltas_after, deltas_of, mark_over, marks_of, named_marks_of, under_one_of}
 
 then_ok : {A B : Type 0} (one : Result A TextFault) (next : A → Result B TextFault) (y : B) → one >>= next ≡ Ok y → (x : A) × (one ≡ Ok x) × (next x ≡ Ok y)
 then_ok (Ok x) next y e = (x, refl, e)
@@ -118,17 +118,17 @@ marks_fit tables d marks e =
     let named = then_ok (named_marks_of tables d) _ _ e in
     each_fits (FitsMark tables) (mark_over tables) (mark_fits tables) named.0 marks named.2
 
-layer_fits : (format : Format) (tables : List TableDef) (earlier : List Layer) (d : Data) (l : Layer) → layer_of format tables earlier d ≡ Ok l
-    → FitsLayer tables l
-unfolding layer_of
-layer_fits format tables earlier d l e =
+delta_fits : (format : Format) (tables : List TableDef) (earlier : List Delta) (d : Data) (l : Delta) → delta_of format tables earlier d ≡ Ok l
+    → FitsDelta tables l
+unfolding delta_of
+delta_fits format tables earlier d l e =
     let read = then_ok (head_of format d) _ _ e in
     let head = then_ok (under_one_of earlier read.0) _ _ read.2 in
     let base = then_ok (differences_at _ tables d) _ _ head.2 in
     let rows = then_ok (differences_at _ tables d) _ _ base.2 in
     let marks = then_ok (marks_of tables d) _ _ rows.2 in
-    let made : Layer = record { name = head.0.name; parent = head.0.parent; base = base.0; current = rows.0; marks = marks.0; kept = head.0.kept } in
-    subst (λ m. FitsLayer tables m) (let f = marks.2 in let same : made ≡ l = cc in same)
+    let made : Delta = record { name = head.0.name; parent = head.0.parent; base = base.0; current = rows.0; marks = marks.0; kept = head.0.kept } in
+    subst (λ m. FitsDelta tables m) (let f = marks.2 in let same : made ≡ l = cc in same)
     (record {
       base = differences_fit_at _ tables d base.0 base.1;
       current = differences_fit_at _ tables d rows.0 rows.1;
@@ -140,22 +140,22 @@ one_more_fits : {A : Type 0} (P : A → Type 0) (xs : List A) (x : A) → AllByR
 one_more_fits P [] x all one = (one, tt)
 one_more_fits P (y ∷ ys) x all one = (all.0, one_more_fits P ys x all.1 one)
 
-layers_fit : (format : Format) (tables : List TableDef) (earlier : List Layer) (items : Items) (layers : List Layer) → layers_after format tables earlier items
-    ≡ Ok layers
-    → AllByRecursion (FitsLayer tables) earlier → AllByRecursion (FitsLayer tables) layers
-unfolding layers_after
-layers_fit format tables earlier no_items layers e all = subst (λ m. AllByRecursion (FitsLayer tables) m) (let same : earlier ≡ layers = cc in same) all
-layers_fit format tables earlier (item d ds) layers e all =
-    let next = then_ok (layer_of format tables earlier d) _ _ e in
-    layers_fit format tables (earlier ++ next.0 ∷ []) ds layers next.2 (one_more_fits (FitsLayer tables) earlier next.0 all
-    (layer_fits format tables earlier d next.0 next.1))
+deltas_fit : (format : Format) (tables : List TableDef) (earlier : List Delta) (items : Items) (deltas : List Delta) → deltas_after format tables earlier items
+    ≡ Ok deltas
+    → AllByRecursion (FitsDelta tables) earlier → AllByRecursion (FitsDelta tables) deltas
+unfolding deltas_after
+deltas_fit format tables earlier no_items deltas e all = subst (λ m. AllByRecursion (FitsDelta tables) m) (let same : earlier ≡ deltas = cc in same) all
+deltas_fit format tables earlier (item d ds) deltas e all =
+    let next = then_ok (delta_of format tables earlier d) _ _ e in
+    deltas_fit format tables (earlier ++ next.0 ∷ []) ds deltas next.2 (one_more_fits (FitsDelta tables) earlier next.0 all
+    (delta_fits format tables earlier d next.0 next.1))
 
-all_layers_fit : (format : Format) (tables : List TableDef) (d : Data) (layers : List Layer) → layers_of format tables d ≡ Ok layers
-    → AllByRecursion (FitsLayer tables) layers
-unfolding layers_of
-all_layers_fit format tables d layers e =
-    let items = then_ok (list_or_none (get (codes "workspaces") d)) (layers_after format tables []) layers e in
-    layers_fit format tables [] items.0 layers items.2 tt
+all_deltas_fit : (format : Format) (tables : List TableDef) (d : Data) (deltas : List Delta) → deltas_of format tables d ≡ Ok deltas
+    → AllByRecursion (FitsDelta tables) deltas
+unfolding deltas_of
+all_deltas_fit format tables d deltas e =
+    let items = then_ok (list_or_none (get (codes "workspaces") d)) (deltas_after format tables []) deltas e in
+    deltas_fit format tables [] items.0 deltas items.2 tt
 
 -- offices ------------------------------------------------------------------------------------
 
@@ -181,12 +181,12 @@ office_fits d o e =
     let tables = then_ok (schema_of format.0 d) _ _ format.2 in
     let rules = then_ok (rules_of tables.0 d) _ _ tables.2 in
     let live = then_ok (live_of tables.0 d) _ _ rules.2 in
-    let layers = then_ok (layers_of format.0 tables.0 d) _ _ live.2 in
-    let made : OfficeText = record { schema = tables.0; book = rules.0; live = live.0; layers = layers.0 } in
-    subst (λ m. FitsOffice m) (let f = layers.2 in let same : made ≡ o = cc in same)
+    let deltas = then_ok (deltas_of format.0 tables.0 d) _ _ live.2 in
+    let made : OfficeText = record { schema = tables.0; book = rules.0; live = live.0; deltas = deltas.0 } in
+    subst (λ m. FitsOffice m) (let f = deltas.2 in let same : made ≡ o = cc in same)
     (record {
       schema = schema_fits format.0 d tables.0 tables.1;
       book = rules_fit tables.0 d rules.0 rules.1;
       live = live_fits tables.0 d live.0 live.1;
-      layers = all_layers_fit format.0 tables.0 d layers.0 layers.1;
+      deltas = all_deltas_fit format.0 tables.0 d deltas.0 deltas.1;
     })

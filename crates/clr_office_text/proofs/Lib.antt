@@ -1,5 +1,5 @@
 pub mod Fitting
-pub mod LayerParts
+pub mod DeltaParts
 pub mod NameTurns
 pub mod PlacePairs
 pub mod WorkspaceTurns

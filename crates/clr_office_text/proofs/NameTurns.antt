@@ -9,7 +9,7 @@ use Rattle.std.proofs.lemmas.List.Folds.{list_any-append}
 use Rattle.std.proofs.lemmas.Map.Text.{btree_set_updates_text}
 use Rattle.std.specs.Cmp.Lexicographic.{bytes_decides, slice_cmp}
 use Rattle.std.specs.Ordering.{is_eq, nat_cmp}
-use Rattle.clr_layers.specs.Layers.{Layer}
+use Rattle.clr_deltas.specs.Deltas.{Delta}
 use Rattle.clr_workspaces.specs.Marks.{Name}
 use Rattle.clr_office_text.specs.Workspaces.{HasNames}
 
@@ -26,18 +26,18 @@ turned a b = by (bytes_eq a b) refl (bytes_eq b a) refl
     by true e false f = sym ((bytes_decides b a).1 (sym ((bytes_decides a b).0 e))) ∙ f
     by false e true f = sym e ∙ (bytes_decides a b).1 (sym ((bytes_decides b a).0 f))
 
-pub named_more : (names next : BTreeSet (String Global)) (key : String Global) (earlier : List Layer) (l : Layer) → HasNames names earlier → string_bytes key
+pub named_more : (names next : BTreeSet (String Global)) (key : String Global) (earlier : List Delta) (l : Delta) → HasNames names earlier → string_bytes key
     ≡ l.name
     → Updates string_cmp names next key true → HasNames next (earlier ++ l ∷ [])
 named_more names next key earlier l named is updates name =
     btree_set_updates_text (string_bytes key) names next true updates name
     ∙ by (bytes_eq (string_bytes key) name) (named name) (ap (λ n. bytes_eq n name) is ∙ turned l.name name)
-    ∙ sym (list_any-append (λ (m : Layer). bytes_eq name m.name) earlier (l ∷ []))
+    ∙ sym (list_any-append (λ (m : Delta). bytes_eq name m.name) earlier (l ∷ []))
   where
-    by : (b : Bool) → contains_text names name ≡ list_any (λ (m : Layer). bytes_eq name m.name) earlier → b ≡ bytes_eq name l.name
-        → cond b true (contains_text names name) ≡ (list_any (λ (m : Layer). bytes_eq name m.name) earlier || (bytes_eq name l.name || false))
-    by b before same = (λ i. cond b true (before i)) ∙ cases b (list_any (λ (m : Layer). bytes_eq name m.name) earlier)
-        ∙ ap (λ t. list_any (λ (m : Layer). bytes_eq name m.name) earlier || (t || false)) same
+    by : (b : Bool) → contains_text names name ≡ list_any (λ (m : Delta). bytes_eq name m.name) earlier → b ≡ bytes_eq name l.name
+        → cond b true (contains_text names name) ≡ (list_any (λ (m : Delta). bytes_eq name m.name) earlier || (bytes_eq name l.name || false))
+    by b before same = (λ i. cond b true (before i)) ∙ cases b (list_any (λ (m : Delta). bytes_eq name m.name) earlier)
+        ∙ ap (λ t. list_any (λ (m : Delta). bytes_eq name m.name) earlier || (t || false)) same
       where
         cases : (b x : Bool) → cond b true x ≡ (x || (b || false))
         cases true true = refl

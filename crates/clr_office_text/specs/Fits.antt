@@ -8,9 +8,9 @@ use Rattle.clr_rows.specs.declared.tables.TableDef.{TableDef}
 use Rattle.clr_rows.specs.Schemas.{FitsSchema, schema_fault}
 use Rattle.clr_rules.specs.Books.{FitsBook}
 use Rattle.clr_differences.specs.Differences.{Differences}
-use Rattle.clr_layers.specs.Layers.{Layer}
-use Rattle.clr_layers.specs.declared.stored_marks.StoredMark.{StoredMark}
-use Rattle.clr_layers.specs.declared.stored_marks.StoredMark.TheVariants as stored
+use Rattle.clr_deltas.specs.Deltas.{Delta}
+use Rattle.clr_deltas.specs.declared.stored_marks.StoredMark.{StoredMark}
+use Rattle.clr_deltas.specs.declared.stored_marks.StoredMark.TheVariants as stored
 use Rattle.clr_office_text.specs.Offices.{OfficeText}
 use Rattle.clr_office_text.specs.Patches.{put_fault}
 
@@ -22,7 +22,7 @@ abbrev pub FitsMark : List TableDef → StoredMark → Type 0
 FitsMark tables (stored.Saved name d) = FitsDifferences tables d
 FitsMark tables (stored.Child name) = Unit {0}
 
-pub record FitsLayer (tables : List TableDef) (l : Layer) : Type 0 where
+pub record FitsDelta (tables : List TableDef) (l : Delta) : Type 0 where
   pub base : FitsDifferences tables l.base
   pub current : FitsDifferences tables l.current
   pub marks : AllByRecursion (FitsMark tables) l.marks
@@ -31,4 +31,4 @@ pub record FitsOffice (o : OfficeText) : Type 0 where
   pub schema : schema_fault o.schema ≡ None
   pub book : FitsBook o.schema o.book
   pub live : FitsSchema o.schema o.live
-  pub layers : AllByRecursion (FitsLayer o.schema) o.layers
+  pub deltas : AllByRecursion (FitsDelta o.schema) o.deltas

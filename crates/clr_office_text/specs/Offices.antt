@@ -8,8 +8,8 @@ use Rattle.clr_rows.specs.declared.tables.TableDef.{TableDef}
 use Rattle.clr_rows.specs.Contents.{Content}
 use Rattle.clr_rows.specs.Schemas.{schema_fault}
 use Rattle.clr_rules.specs.declared.rules.Rule.{Rule}
-use Rattle.clr_layers.specs.Entries.{stored_layer}
-use Rattle.clr_layers.specs.Layers.{Layer}
+use Rattle.clr_deltas.specs.Entries.{stored_delta}
+use Rattle.clr_deltas.specs.Deltas.{Delta}
 use Rattle.clr_rule_text.specs.declared.faults.TextFault.{TextFault}
 use Rattle.clr_rule_text.specs.declared.faults.TextFault.TheVariants.{NotJson, BadField, BadSchema}
 use Rattle.clr_office_text.specs.declared.reading.OfficeParts.{OfficeParts}
@@ -20,7 +20,7 @@ use Rattle.clr_rule_text.specs.Fields.{none_or_fault, number_at}
 use Rattle.clr_office_text.specs.Tables.{tables_of}
 use Rattle.clr_office_text.specs.Cells.{live_of}
 use Rattle.clr_rule_text.specs.Rules.{rules_of}
-use Rattle.clr_office_text.specs.Workspaces.{layers_of}
+use Rattle.clr_office_text.specs.Workspaces.{deltas_of}
 
 abbrev pub format_numbered : ℤ → Result Format TextFault
 format_numbered n = if int_eq n (pos 1) then Ok First else (if int_eq n (pos 2) then Ok Second else (if int_eq n (pos 3) then Ok Third else Err BadField))
@@ -39,7 +39,7 @@ pub record OfficeText : Type 0 where
   pub schema : List TableDef
   pub book : List Rule
   pub live : Content
-  pub layers : List Layer
+  pub deltas : List Delta
 
 unfoldable pub office_of : Data → Result OfficeText TextFault
 office_of d = do
@@ -47,8 +47,8 @@ office_of d = do
   tables ← schema_of format d
   rules ← rules_of tables d
   live ← live_of tables d
-  layers ← layers_of format tables d
-  Ok (record { schema = tables; book = rules; live = live; layers = layers })
+  deltas ← deltas_of format tables d
+  Ok (record { schema = tables; book = rules; live = live; deltas = deltas })
 
 abbrev pub office_if_read : Option Data → Result OfficeText TextFault
 office_if_read None = Err NotJson
@@ -60,4 +60,4 @@ office_in bytes = if is_utf8 bytes then office_if_read (read bytes) else Err Not
 
 -- what a call has read
 abbrev pub office_read : OfficeParts → OfficeText
-office_read parts = record { schema = parts.schema; book = parts.book; live = parts.live; layers = map stored_layer parts.workspaces.items }
+office_read parts = record { schema = parts.schema; book = parts.book; live = parts.live; deltas = map stored_delta parts.workspaces.items }

@@ -9,10 +9,10 @@ use Rattle.serde_json.specs.Find.{get}
 use Rattle.clr_rows.specs.declared.tables.TableDef.{TableDef}
 use Rattle.clr_rows.specs.Names.{live_name}
 use Rattle.clr_differences.specs.Differences.{Differences}
-use Rattle.clr_layers.specs.Layers.{Layer}
+use Rattle.clr_deltas.specs.Deltas.{Delta}
 use Rattle.clr_workspaces.specs.Marks.{Name}
-use Rattle.clr_layers.specs.declared.stored_marks.StoredMark.{StoredMark}
-use Rattle.clr_layers.specs.declared.stored_marks.StoredMark.TheVariants as stored
+use Rattle.clr_deltas.specs.declared.stored_marks.StoredMark.{StoredMark}
+use Rattle.clr_deltas.specs.declared.stored_marks.StoredMark.TheVariants as stored
 use Rattle.clr_rule_text.specs.declared.faults.TextFault.{TextFault}
 use Rattle.clr_rule_text.specs.declared.faults.TextFault.TheVariants.{BadPart}
 use Rattle.clr_office_text.specs.declared.formats.Format.{Format}
@@ -67,14 +67,14 @@ head_of format d = do
   Ok (record { name = name; parent = parent; kept = kept })
 
 -- the name is that of LIVE, or of one of some workspaces
-abbrev pub stands_in : List Layer → Name → Bool
+abbrev pub stands_in : List Delta → Name → Bool
 stands_in earlier name = bytes_eq name live_name || list_any (λ l. bytes_eq name l.name) earlier
 
 -- the names are those of some workspaces
-abbrev pub HasNames : BTreeSet (String Global) → List Layer → Type 0
+abbrev pub HasNames : BTreeSet (String Global) → List Delta → Type 0
 HasNames names earlier = (name : Name) → contains_text names name ≡ list_any (λ l. bytes_eq name l.name) earlier
 
-abbrev pub under_one_of : List Layer → Head → Result Head TextFault
+abbrev pub under_one_of : List Delta → Head → Result Head TextFault
 under_one_of earlier head = if stands_in earlier head.parent then Ok head else Err BadPart
 
 -- what a workspace has beside its head: its base, its rows and its marks
@@ -86,8 +86,8 @@ contents_of tables d = do
   Ok (base, rows, marks)
 
 -- a workspace whose parent is LIVE or an earlier one
-unfoldable pub layer_of : Format → List TableDef → List Layer → Data → Result Layer TextFault
-layer_of format tables earlier d = do
+unfoldable pub delta_of : Format → List TableDef → List Delta → Data → Result Delta TextFault
+delta_of format tables earlier d = do
   read ← head_of format d
   head ← under_one_of earlier read
   base ← differences_at (codes "base") tables d
@@ -96,11 +96,11 @@ layer_of format tables earlier d = do
   Ok (record { name = head.name; parent = head.parent; base = base; current = rows; marks = marks; kept = head.kept })
 
 -- workspaces after those before them
-unfoldable pub layers_after : Format → List TableDef → List Layer → Items → Result (List Layer) TextFault
-layers_after format tables earlier no_items = Ok earlier
-layers_after format tables earlier (item d ds) = do
-  next ← layer_of format tables earlier d
-  layers_after format tables (earlier ++ next ∷ []) ds
+unfoldable pub deltas_after : Format → List TableDef → List Delta → Items → Result (List Delta) TextFault
+deltas_after format tables earlier no_items = Ok earlier
+deltas_after format tables earlier (item d ds) = do
+  next ← delta_of format tables earlier d
+  deltas_after format tables (earlier ++ next ∷ []) ds
 
-unfoldable pub layers_of : Format → List TableDef → Data → Result (List Layer) TextFault
-layers_of format tables d = list_or_none (get (codes "workspaces") d) >>= layers_after format tables []
+unfoldable pub deltas_of : Format → List TableDef → Data → Result (List Delta) TextFault
+deltas_of format tables d = list_or_none (get (codes "workspaces") d) >>= deltas_after format tables []

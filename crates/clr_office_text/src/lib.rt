@@ -17,6 +17,6 @@ pub mod reading;
 pub mod tables;
 pub mod workspaces;
 
-pub use clr_layers::StoredPart;
+pub use clr_deltas::StoredPart;
 pub use clr_rule_text::{TextFault, fields, named_rules, named_sides, rules};
 pub use reading::{OfficeParts, read_office};

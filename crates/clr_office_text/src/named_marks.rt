@@ -8,7 +8,7 @@ ghost use Rattle.clr_office_text.specs.Workspaces.{mark_over, marks_of, named_ma
 
 use crate::named_cells::{NamedCells, named_cells};
 use crate::patches::differences;
-use clr_layers::StoredMark;
+use clr_deltas::StoredMark;
 use clr_rows::{Schema, Words};
 use clr_rule_text::TextFault;
 use clr_rule_text::fields::{optional_list, words, words_from, words_in};

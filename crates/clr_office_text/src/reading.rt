@@ -10,7 +10,7 @@ use crate::formats::{Format, read_format};
 use crate::live::live;
 use crate::tables::tables;
 use crate::workspaces::stored_parts;
-use clr_layers::StoredPart;
+use clr_deltas::StoredPart;
 use clr_rows::{Schema, Sheet};
 use clr_rule_text::TextFault;
 use clr_rule_text::borrowed::read_value;

@@ -1,18 +1,18 @@
 //! The workspaces of an office text, by their differences.
 
 ghost use Rattle.std.specs.Prelude.{◌≡◌, [], map};
-ghost use Rattle.clr_layers.specs.Entries.{stored_layer};
+ghost use Rattle.clr_deltas.specs.Entries.{stored_delta};
 ghost use Rattle.clr_readings.specs.Readings.{Gives};
 ghost use Rattle.clr_rule_text.specs.Fields.{text_lacks_memory};
 ghost use Rattle.clr_rule_text.specs.Seen.{items_seen};
-ghost use Rattle.clr_office_text.specs.Workspaces.{HasNames, contents_of, head_of, kept_of, layer_of, layers_after, layers_of, under_one_of};
+ghost use Rattle.clr_office_text.specs.Workspaces.{HasNames, contents_of, head_of, kept_of, delta_of, deltas_after, deltas_of, under_one_of};
 
 use crate::earlier_names::{note_name, stands};
 use crate::formats::Format;
 use crate::named_marks::marks;
 use crate::patches::differences_in;
 use clr_differences::Differences;
-use clr_layers::{Layer, StoredMark, StoredPart};
+use clr_deltas::{Delta, StoredMark, StoredPart};
 use clr_rows::{Schema, Words};
 use clr_rule_text::TextFault;
 use clr_rule_text::fields::{optional_flag, optional_list, words_in};
@@ -54,8 +54,8 @@ fn head_under(
     names: &BTreeSet<String>,
     head: Head,
 ) -> Result<Head, TextFault>
-    requires { HasNames names.now (map stored_layer earlier.now) }
-    ensures { Gives text_lacks_memory (λ h. h) result (under_one_of (map stored_layer earlier.now) head) }
+    requires { HasNames names.now (map stored_delta earlier.now) }
+    ensures { Gives text_lacks_memory (λ h. h) result (under_one_of (map stored_delta earlier.now) head) }
 {
     let _earlier = earlier;
     if stands(names, head.parent.as_str()) {
@@ -81,7 +81,7 @@ fn contents<J: JsonValue>(
 }
 
 /// Returns a workspace, behind earlier ones of these names. Fails as `stored_parts` does at one workspace.
-#[tactic(auto, unfolding(crate::specs::Workspaces::layer_of))]
+#[tactic(auto, unfolding(crate::specs::Workspaces::delta_of))]
 pub fn workspace<J: JsonValue>(
     alloc: Global,
     json: &J,
@@ -90,12 +90,12 @@ pub fn workspace<J: JsonValue>(
     earlier: &[StoredPart],
     names: &BTreeSet<String>,
 ) -> Result<StoredPart, TextFault>
-    requires { HasNames names.now (map stored_layer earlier.now) }
-    ensures { Gives text_lacks_memory stored_layer result (layer_of format schema.now (map stored_layer earlier.now) (J.stands_for json.now)) }
+    requires { HasNames names.now (map stored_delta earlier.now) }
+    ensures { Gives text_lacks_memory stored_delta result (delta_of format schema.now (map stored_delta earlier.now) (J.stands_for json.now)) }
 {
     let head = head_under(earlier, names, read_head(alloc, json, format)?)?;
     let contents = contents(alloc, json, schema)?;
-    let layer = Layer {
+    let delta = Delta {
         parent: head.parent,
         base: contents.0,
         current: contents.1,
@@ -104,7 +104,7 @@ pub fn workspace<J: JsonValue>(
     };
     Ok(StoredPart {
         name: head.name,
-        layer,
+        delta,
     })
 }
 
@@ -114,7 +114,7 @@ fn each_workspace<J: JsonValue>(
     format: Format,
     schema: &Schema,
 ) -> Result<Vec<StoredPart>, TextFault>
-    ensures { Gives text_lacks_memory (λ v. map stored_layer v.items) result (layers_after format schema.now [] (items_seen J.stands_for items.now)) }
+    ensures { Gives text_lacks_memory (λ v. map stored_delta v.items) result (deltas_after format schema.now [] (items_seen J.stands_for items.now)) }
 {
     let mut parts = Vec::new(alloc);
     let mut names = BTreeSet::new(alloc);
@@ -132,14 +132,14 @@ fn each_workspace<J: JsonValue>(
 /// stand there, and then with `BadPart` where the parent is neither LIVE nor an earlier workspace,
 /// with `BadRow` where the table of a cell isn't known, or the row doesn't fit it, and with
 /// `RepeatedCell` where a cell stood earlier in its list.
-#[tactic(auto, unfolding(crate::specs::Workspaces::layers_of))]
+#[tactic(auto, unfolding(crate::specs::Workspaces::deltas_of))]
 pub fn stored_parts<J: JsonValue>(
     alloc: Global,
     json: &J,
     format: Format,
     schema: &Schema,
 ) -> Result<Vec<StoredPart>, TextFault>
-    ensures { Gives text_lacks_memory (λ v. map stored_layer v.items) result (layers_of format schema.now (J.stands_for json.now)) }
+    ensures { Gives text_lacks_memory (λ v. map stored_delta v.items) result (deltas_of format schema.now (J.stands_for json.now)) }
 {
     each_workspace(alloc, optional_list(json, "workspaces")?, format, schema)
 }

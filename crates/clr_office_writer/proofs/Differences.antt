@@ -14,12 +14,12 @@ use Rattle.clr_rows.proofs.ChangeLemmas.{after_of, find-rows_after, get-changes,
 use Rattle.clr_rows.proofs.SchemaLemmas.{cell_named, fits_table}
 use Rattle.clr_differences.specs.Differences.{differences_from, seen_over}
 use Rattle.clr_differences.proofs.SweepLemmas.{after_sorted, entries-differences}
-use Rattle.clr_layers.specs.Differing.{layer_from, mark_from}
-use Rattle.clr_layers.specs.Layers.{whole_mark, whole_of}
+use Rattle.clr_deltas.specs.Differing.{delta_from, mark_from}
+use Rattle.clr_deltas.specs.Deltas.{whole_mark, whole_of}
 use Rattle.clr_workspaces.specs.Marks.{Mark, Saved, ChildMark, mark_at, saved_content}
 use Rattle.clr_workspaces.specs.Workspaces.{Workspace}
 use Rattle.clr_steps.specs.Invariants.{WorkspaceFits}
-use Rattle.clr_office_text.specs.Fits.{FitsDifferences, FitsLayer, FitsMark}
+use Rattle.clr_office_text.specs.Fits.{FitsDifferences, FitsDelta, FitsMark}
 use Rattle.clr_office_text.specs.Patches.{put_fault}
 
 -- they fit -----------------------------------------------------------------------------------
@@ -63,9 +63,9 @@ marks_fit tables base (Saved name content ∷ marks) from saved = (
 )
 marks_fit tables base (ChildMark name ∷ marks) from saved = (tt, marks_fit tables base marks from (λ i. saved (suc i)))
 
-pub layer_fits : (tables : List TableDef) (above : Content) (w : Workspace) → FitsSchema tables above → WorkspaceFits tables w
-    → FitsLayer tables (layer_from above w)
-layer_fits tables above w from fits = record {
+pub delta_fits : (tables : List TableDef) (above : Content) (w : Workspace) → FitsSchema tables above → WorkspaceFits tables w
+    → FitsDelta tables (delta_from above w)
+delta_fits tables above w from fits = record {
   base = differences_fit tables above w.base from fits.base;
   current = differences_fit tables w.base w.current fits.base fits.current;
   marks = marks_fit tables w.base w.marks fits.base fits.saved;
@@ -82,6 +82,6 @@ marks_made base [] = refl
 marks_made base (Saved name content ∷ marks) = (λ i. Saved name (made base content i) ∷ marks_made base marks i)
 marks_made base (ChildMark name ∷ marks) = ap (λ ms. ChildMark name ∷ ms) (marks_made base marks)
 
-pub layer_made : (above : Content) (w : Workspace) → whole_of above (layer_from above w) ≡ w
+pub delta_made : (above : Content) (w : Workspace) → whole_of above (delta_from above w) ≡ w
 unfolding whole_of
-layer_made above w = rw (made above w.base, made w.base w.current, marks_made w.base w.marks) refl
+delta_made above w = rw (made above w.base, made w.base w.current, marks_made w.base w.marks) refl

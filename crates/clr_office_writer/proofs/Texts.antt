@@ -24,7 +24,7 @@ use Rattle.clr_office_writer.proofs.Standing.{no_fault}
 
 module _ (o : Office) where
   text_stands : schema_fault o.schema ≡ None → IsFitting o → FitsOffice (text_of o)
-  text_stands schema fit = record { schema = schema; book = fit.book; live = fit.rows.live; layers = text_fits o fit.rows }
+  text_stands schema fit = record { schema = schema; book = fit.book; live = fit.rows.live; deltas = text_fits o fit.rows }
 
   read_again : (bytes : List ℕ) (d : Data) → IsUtf8 bytes → read bytes ≡ Some d → d ≡ office_data (text_of o) → schema_fault o.schema ≡ None → IsFitting o
       → IsSound (live_workspace o.live ∷ o.workspaces) → office_in bytes ≡ Ok (text_of o)

@@ -2,12 +2,12 @@
 use Rattle.std.specs.Prelude.{ℕ, List, map}
 use Rattle.serde_json.specs.Written.{compact_text}
 use Rattle.clr_steps.specs.Offices.{Office}
-use Rattle.clr_engine.specs.Drafts.{layer_in}
+use Rattle.clr_engine.specs.Drafts.{delta_in}
 use Rattle.clr_office_text.specs.Offices.{OfficeText}
 use Rattle.clr_office_json.specs.OfficeData.{office_data}
 
 abbrev pub text_of : Office → OfficeText
-text_of o = record { schema = o.schema; book = o.book; live = o.live; layers = map (layer_in o) o.workspaces }
+text_of o = record { schema = o.schema; book = o.book; live = o.live; deltas = map (delta_in o) o.workspaces }
 
 -- the bytes of the text
 abbrev pub bytes_of : Office → List ℕ

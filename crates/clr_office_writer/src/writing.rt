@@ -2,11 +2,11 @@
 
 ghost use Rattle.std.specs.Prelude.{◌≡◌, ◌++◌, Some, Ok, map, IfOk};
 ghost use Rattle.clr_workspaces.specs.Workspaces.{Workspace as OneWorkspace};
-ghost use Rattle.clr_engine.specs.Drafts.{layer_in, part_at};
+ghost use Rattle.clr_engine.specs.Drafts.{delta_in, part_at};
 ghost use Rattle.clr_office_json.specs.OfficeData.{office_data};
 ghost use Rattle.clr_office_json.specs.Tokens.{tokens_of};
 ghost use Rattle.clr_office_json.specs.Values.{list_data};
-ghost use Rattle.clr_office_json.specs.WorkspaceData.{layer_data};
+ghost use Rattle.clr_office_json.specs.WorkspaceData.{delta_data};
 ghost use Rattle.clr_drafts.specs.Drafts.{draft_in};
 ghost use Rattle.clr_office_writer.specs.Writing.{text_of, bytes_of};
 
@@ -22,17 +22,17 @@ fn with_workspace_at(
     position: usize,
 ) -> Result<JsonText, AllocError>
     ensures { IfOk result (λ longer. (w : OneWorkspace) → part_at office.now position ≡ Some w
-        → longer ≡ text ++ tokens_of (layer_data office.now.schema (layer_in office.now w))) }
+        → longer ≡ text ++ tokens_of (delta_data office.now.schema (delta_in office.now w))) }
 {
-    match office.layer(position) {
-        Some(layer) => with_workspace(text, office.schema(), &layer),
+    match office.delta(position) {
+        Some(delta) => with_workspace(text, office.schema(), &delta),
         None => Ok(text),
     }
 }
 
 /// Returns a text with the workspaces below LIVE written at its end, in order of creation.
 fn with_workspaces(mut text: JsonText, office: &Office) -> Result<JsonText, AllocError>
-    ensures { IfOk result (λ longer. longer ≡ text ++ tokens_of (list_data (layer_data office.now.schema) (map (layer_in office.now) office.now.workspaces))) }
+    ensures { IfOk result (λ longer. longer ≡ text ++ tokens_of (list_data (delta_data office.now.schema) (map (delta_in office.now) office.now.workspaces))) }
 {
     text.begin_array()?;
     let count = office.len() - 1;

@@ -1,4 +1,4 @@
--- What keeps layers without neutral entries.
+-- What keeps deltas without neutral entries.
 use Rattle.std.proofs.Common.{◌≡◌, ◌≢◌, ℕ, suc, zero, ◌<◌, ⊎_elim, Bool, true, false, cond, List, [], ◌∷◌, length, Some, None, unwrap_or, refl, ap, sym}
 use Rattle.std.proofs.Common.{subst, ◌∙◌, slice_set, filter, not, nat_lt, ◌++◌, arith, remove, take}
 use Rattle.std.specs.declared.option.Option.{Option}
@@ -17,11 +17,11 @@ use Rattle.clr_workspaces.specs.Marks.{Name, Mark, is_saved, mark_at, saved_cont
 use Rattle.clr_contents.proofs.MarkLemmas.{saved_there}
 use Rattle.clr_workspaces.proofs.FindLemmas.{find_more}
 use Rattle.clr_workspaces.specs.Workspaces.{Workspace, no_workspace, workspace_at, find, parent_of, children_of}
-use Rattle.clr_layers.specs.Layers.{Layer, no_layer, leaf, layer_at, layer_changed, stored_at, saved_differences, stored_without_mark_of, is_stored_mark_of}
-use Rattle.clr_layers.specs.Layers.{whole_mark, wholes, is_stored_child, restarted_with, rows_taken_over, AreOwnOver, IsUnder}
-use Rattle.clr_layers.specs.declared.stored_marks.StoredMark.{StoredMark}
-use Rattle.clr_layers.specs.declared.stored_marks.StoredMark.TheVariants as kinds
-use Rattle.clr_layers.proofs.Meaning.{length-wholes, name-wholes, parent-wholes}
+use Rattle.clr_deltas.specs.Deltas.{Delta, no_delta, leaf, delta_at, delta_changed, stored_at, saved_differences, stored_without_mark_of, is_stored_mark_of}
+use Rattle.clr_deltas.specs.Deltas.{whole_mark, wholes, is_stored_child, restarted_with, rows_taken_over, AreOwnOver, IsUnder}
+use Rattle.clr_deltas.specs.declared.stored_marks.StoredMark.{StoredMark}
+use Rattle.clr_deltas.specs.declared.stored_marks.StoredMark.TheVariants as kinds
+use Rattle.clr_deltas.proofs.Meaning.{length-wholes, name-wholes, parent-wholes}
 use Rattle.clr_contents.specs.Pinning.{StaysOwnAt, StayOwnBut, StayOwnButChildren}
 use Rattle.clr_contents.proofs.PinLemmas.{but_itself, but_marks, but_set, own_both}
 use Rattle.std.proofs.Math.ListN.{get_or, get_or-map, get_or-append}
@@ -36,27 +36,27 @@ use Rattle.clr_operations.proofs.CreateLemmas.{leaf_made}
 use Rattle.clr_operations.proofs.LeafLemmas.{any_dropped, gone, no_child_whole}
 use Rattle.clr_workspaces.proofs.LeafLemmas.{parent_removed, opened, closed_at, opened-closed, opened-later, was_at, was_in, read_removed}
 use Rattle.clr_workspaces.specs.Roots.{IsRooted}
-use Rattle.clr_contents.proofs.ReadLemmas.{within_wholes, within_layers, under_its_parent, marks-wholes, row-base, row-current}
+use Rattle.clr_contents.proofs.ReadLemmas.{within_wholes, within_deltas, under_its_parent, marks-wholes, row-base, row-current}
 use Rattle.clr_contents.specs.Lean.{IsLeanAt, IsLean, IsLeanBut, StayOwnButNear, row_above}
 use Rattle.clr_operations.specs.Moves.{mark_moved, put_into}
 use Rattle.clr_contents.specs.Lean.{content_above}
 use Rattle.clr_contents.proofs.LeanLemmas.{own_none}
 use Rattle.clr_workspaces.proofs.RootLemmas.{parent_set, rooted_set}
 
--- what keeps layers so -----------------------------------------------------------------------------
+-- what keeps deltas so -----------------------------------------------------------------------------
 
-lean_stays : (above : Option Row) (l m : Layer) (q : CellId) → StaysOwnAt q l m → IsLeanAt above l q → IsLeanAt above m q
+lean_stays : (above : Option Row) (l m : Delta) (q : CellId) → StaysOwnAt q l m → IsLeanAt above l q → IsLeanAt above m q
 lean_stays above l m q stay was = record {
   base = subst (IsOwnOver above) (sym stay.base) was.base;
   current = subst (λ (e : Option (Option Row)). IsOwnOver (unwrap_or e above) (finite.get m.current q)) (sym stay.base) (stay.current _ was.current);
   saved = subst (λ (e : Option (Option Row)). AreOwnOver (unwrap_or e above) q m.marks) (sym stay.base) (stay.saved _ was.saved);
 }
 
--- what keeps a layer so at a cell, whatever the row above is
-abbrev pub Keeps : CellId → Layer → Layer → Type 0
+-- what keeps a delta so at a cell, whatever the row above is
+abbrev pub Keeps : CellId → Delta → Delta → Type 0
 Keeps q l m = (above : Option Row) → IsLeanAt above l q → IsLeanAt above m q
 
-parent_is : (live : Content) (ls : List Layer) (w k : ℕ) → IsRooted (wholes live ls) → w < length ls → IsUnder (layer_at ls w).name (layer_at ls k)
+parent_is : (live : Content) (ls : List Delta) (w k : ℕ) → IsRooted (wholes live ls) → w < length ls → IsUnder (delta_at ls w).name (delta_at ls k)
     → parent_of (wholes live ls) k ≡ Some w
 parent_is live ls w k r lt under =
     let ws = wholes live ls in
@@ -74,7 +74,7 @@ rows_above ws vs w cells k q parent rows apart = ap (λ o. row_at (content_above
     by None e = refl
     by (Some p) e = rows p q (λ same. apart (e ∙ ap (λ (n : ℕ). Some n) same))
 
-pub lean_but : (live next : Content) (ls ms : List Layer) (w : ℕ) (cells : List CellId) → IsRooted (wholes live ls) → w < length ls → length ms ≡ length ls
+pub lean_but : (live next : Content) (ls ms : List Delta) (w : ℕ) (cells : List CellId) → IsRooted (wholes live ls) → w < length ls → length ms ≡ length ls
     → ((k : ℕ) → parent_of (wholes next ms) k ≡ parent_of (wholes live ls) k) → RowsStay w cells (wholes live ls) (wholes next ms)
     → StayOwnButNear w cells ls ms
     → IsLean live ls → IsLeanBut w cells next ms
@@ -82,12 +82,12 @@ lean_but live next ls ms w cells r lt long parents rows stay lean k some k_lt q 
     let ws = wholes live ls in
     let vs = wholes next ms in
     let under : parent_of ws k ≡ Some w → is_among cells q ≡ false = λ e. beside.under (parents k ∙ e) in
-    subst (λ (row : Option Row). IsLeanAt row (layer_at ms k) q) (sym (rows_above ws vs w cells k q (parents k) rows under))
-    (lean_stays (row_above ws k q) (layer_at ls k) (layer_at ms k) q (stay k q beside.other (λ u. under (parent_is live ls w k r lt u)))
+    subst (λ (row : Option Row). IsLeanAt row (delta_at ms k) q) (sym (rows_above ws vs w cells k q (parents k) rows under))
+    (lean_stays (row_above ws k q) (delta_at ls k) (delta_at ms k) q (stay k q beside.other (λ u. under (parent_is live ls w k r lt u)))
     (lean k some (subst (λ n. k < n) long k_lt) q))
 
 -- no content has changed
-pub lean_still : (live next : Content) (ls ms : List Layer) (w : ℕ) (cells : List CellId) → IsRooted (wholes live ls) → w < length ls → wholes next ms
+pub lean_still : (live next : Content) (ls ms : List Delta) (w : ℕ) (cells : List CellId) → IsRooted (wholes live ls) → w < length ls → wholes next ms
     ≡ wholes live ls → StayOwnButNear w cells ls ms
     → IsLean live ls → IsLeanBut w cells next ms
 lean_still live next ls ms w cells r lt is stay =
@@ -113,7 +113,7 @@ rows_set ws w x cells lt same p q apart = ⊎_elim
 pub rows_put : (ws : List Workspace) (w : ℕ) (rows : RowEntries) → w < length ws → RowsStay w (cells_in rows) ws (put_into ws w rows)
 rows_put ws w rows lt = rows_set ws w _ (cells_in rows) lt (λ q apart. over_elsewhere rows (workspace_at ws w).current q apart)
 
-pub lean_put : (live next : Content) (ls ms : List Layer) (w : ℕ) (rows : RowEntries) → IsRooted (wholes live ls) → w < length ls → length ms ≡ length ls
+pub lean_put : (live next : Content) (ls ms : List Delta) (w : ℕ) (rows : RowEntries) → IsRooted (wholes live ls) → w < length ls → length ms ≡ length ls
     → wholes next ms ≡ put_into (wholes live ls) w rows → StayOwnButNear w (cells_in rows) ls ms
     → IsLean live ls → IsLeanBut w (cells_in rows) next ms
 lean_put live next ls ms w rows r lt long is stay =
@@ -124,21 +124,21 @@ lean_put live next ls ms w rows r lt long is stay =
 
 -- parts of operations ------------------------------------------------------------------------------
 
-pub near_children : (at : ℕ) (cells qs : List CellId) (ls ms : List Layer) → qs ≡ cells → StayOwnButChildren (layer_at ls at).name qs ls ms
+pub near_children : (at : ℕ) (cells qs : List CellId) (ls ms : List Delta) → qs ≡ cells → StayOwnButChildren (delta_at ls at).name qs ls ms
     → StayOwnButNear at cells ls ms
 near_children at cells qs ls ms is stay k q other under = stay k q (λ u. ap (λ (cs : List CellId). is_among cs q) is ∙ under u)
 
-pub near_own : (at : ℕ) (cells qs : List CellId) (ls ms ns : List Layer) → qs ≡ cells → StayOwnButNear at cells ls ms → StayOwnBut at qs ms ns
+pub near_own : (at : ℕ) (cells qs : List CellId) (ls ms ns : List Delta) → qs ≡ cells → StayOwnButNear at cells ls ms → StayOwnBut at qs ms ns
     → StayOwnButNear at cells ls ns
 near_own at cells qs ls ms ns is a b k q other under =
-    own_both q (layer_at ls k) (layer_at ms k) (layer_at ns k) (a k q other under) (b k q (λ e. ap (λ (cs : List CellId). is_among cs q) is ∙ other e))
+    own_both q (delta_at ls k) (delta_at ms k) (delta_at ns k) (a k q other under) (b k q (λ e. ap (λ (cs : List CellId). is_among cs q) is ∙ other e))
 
 -- a child of the one at a position
-pub near_child : (at p : ℕ) (cells : List CellId) (ls ms ns : List Layer) → IsUnder (layer_at ls p).name (layer_at ls at) → StayOwnButNear p cells ls ms
+pub near_child : (at p : ℕ) (cells : List CellId) (ls ms ns : List Delta) → IsUnder (delta_at ls p).name (delta_at ls at) → StayOwnButNear p cells ls ms
     → StayOwnBut at cells ms ns → StayOwnButNear p cells ls ns
 near_child at p cells ls ms ns is_child a b k q other under =
-    own_both q (layer_at ls k) (layer_at ms k) (layer_at ns k) (a k q other under)
-    (b k q (λ e. under (subst (λ j. IsUnder (layer_at ls p).name (layer_at ls j)) (sym e) is_child)))
+    own_both q (delta_at ls k) (delta_at ms k) (delta_at ns k) (a k q other under)
+    (b k q (λ e. under (subst (λ j. IsUnder (delta_at ls p).name (delta_at ls j)) (sym e) is_child)))
 
 marks_left : (p : StoredMark → Bool) (row : Option Row) (q : CellId) (ms : List StoredMark) → AreOwnOver row q ms → AreOwnOver row q (filter p ms)
 marks_left p row q [] own = tt
@@ -148,12 +148,12 @@ marks_left p row q (m ∷ ms) own = by (p m) (own.0, tt) (marks_left p row q ms 
     by true one rest = (one.0, rest)
     by false one rest = rest
 
-pub but_taken_over : (ls : List Layer) (at : ℕ) (rows : RowEntries) → at < length ls →
-    StayOwnBut at (cells_in rows) ls (layer_changed ls at (rows_taken_over rows))
+pub but_taken_over : (ls : List Delta) (at : ℕ) (rows : RowEntries) → at < length ls →
+    StayOwnBut at (cells_in rows) ls (delta_changed ls at (rows_taken_over rows))
 but_taken_over ls at rows lt = but_set ls at _ (cells_in rows) lt (λ q apart. record {
-  base = put_each_elsewhere rows (layer_at ls at).base q apart;
+  base = put_each_elsewhere rows (delta_at ls at).base q apart;
   current = λ row own. own_none row q;
-  saved = λ row own. marks_left is_stored_child row q (layer_at ls at).marks own;
+  saved = λ row own. marks_left is_stored_child row q (delta_at ls at).marks own;
 })
 
 -- a change of one workspace that leaves its content
@@ -171,7 +171,7 @@ rows_merged ws at p lt i q apart =
     ap (λ (m : Content). row_at m q) (current_stays vs at (with_base_merged (workspace_at vs at)) refl i)
     ∙ rows_put ws p (rows_after (own_changes (workspace_at ws at))) lt i q apart
 
-pub lean_merged : (live next : Content) (ls ms : List Layer) (at p : ℕ) → IsRooted (wholes live ls) → p < length ls → length ms ≡ length ls → wholes next ms
+pub lean_merged : (live next : Content) (ls ms : List Delta) (at p : ℕ) → IsRooted (wholes live ls) → p < length ls → length ms ≡ length ls → wholes next ms
     ≡ after_merge (wholes live ls) at p
     → StayOwnButNear p (cells_in (rows_after (own_changes (workspace_at (wholes live ls) at)))) ls ms → IsLean live ls
     → IsLeanBut p (cells_in (rows_after (own_changes (workspace_at (wholes live ls) at)))) next ms
@@ -194,24 +194,24 @@ rows_same ws vs k q parent same = ap (λ o. row_at (content_above vs o) q) paren
     by None same = refl
     by (Some p) same = ap (λ (m : Content). row_at m q) (same p refl)
 
--- one layer changes, and no content that another lies over
-lean_one : (live : Content) (ls : List Layer) (at : ℕ) (m : Layer) (w : Workspace) → at < length ls → wholes live (slice_set ls at m)
+-- one delta changes, and no content that another lies over
+lean_one : (live : Content) (ls : List Delta) (at : ℕ) (m : Delta) (w : Workspace) → at < length ls → wholes live (slice_set ls at m)
     ≡ slice_set (wholes live ls) at w
     → w.name ≡ (workspace_at (wholes live ls) at).name → w.parent ≡ (workspace_at (wholes live ls) at).parent
     → ((k p : ℕ) → 0 < k → k < length ls → parent_of (wholes live ls) k ≡ Some p → (workspace_at (slice_set (wholes live ls) at w) p).current
     ≡ (workspace_at (wholes live ls) p).current)
-    → ((q : CellId) → Keeps q (layer_at ls at) m) → IsLean live ls → IsLean live (slice_set ls at m)
+    → ((q : CellId) → Keeps q (delta_at ls at) m) → IsLean live ls → IsLean live (slice_set ls at m)
 lean_one live ls at m w lt is name parent same keep lean k some k_lt q =
     let ws = wholes live ls in
     let k_in : k < length ls = subst (λ n. k < n) (length-set ls at m) k_lt in
     let row = ap (λ (vs : List Workspace). row_above vs k q) is ∙ rows_same ws (slice_set ws at w) k q (parent_set ws at w name parent k)
     (λ p e. same k p some k_in e) in
-    subst (λ (v : Option Row). IsLeanAt v (layer_at (slice_set ls at m) k) q) (sym row)
+    subst (λ (v : Option Row). IsLeanAt v (delta_at (slice_set ls at m) k) q) (sym row)
     (⊎_elim
-    (λ (e : k ≡ at). subst (λ j. IsLeanAt (row_above ws k q) (layer_at (slice_set ls at m) j) q) (sym e)
-    (subst (λ (l : Layer). IsLeanAt (row_above ws k q) l q) (sym (get_or-set_same ls at m no_layer lt))
-    (keep q (row_above ws k q) (subst (λ j. IsLeanAt (row_above ws k q) (layer_at ls j) q) e (lean k some k_in q)))))
-    (λ (n : k ≢ at). subst (λ (l : Layer). IsLeanAt (row_above ws k q) l q) (sym (get_or-set_other ls at k m no_layer n)) (lean k some k_in q))
+    (λ (e : k ≡ at). subst (λ j. IsLeanAt (row_above ws k q) (delta_at (slice_set ls at m) j) q) (sym e)
+    (subst (λ (l : Delta). IsLeanAt (row_above ws k q) l q) (sym (get_or-set_same ls at m no_delta lt))
+    (keep q (row_above ws k q) (subst (λ j. IsLeanAt (row_above ws k q) (delta_at ls j) q) e (lean k some k_in q)))))
+    (λ (n : k ≢ at). subst (λ (l : Delta). IsLeanAt (row_above ws k q) l q) (sym (get_or-set_other ls at k m no_delta n)) (lean k some k_in q))
     (cases_eq k at))
 
 marks_more : (row : Option Row) (q : CellId) (ms : List StoredMark) (m : StoredMark) → AreOwnOver row q ms → IsOwnOver row (finite.get (saved_differences m) q)
@@ -225,7 +225,7 @@ marks_without row q [] (suc i) own = tt
 marks_without row q (m ∷ ms) zero own = own.1
 marks_without row q (m ∷ ms) (suc i) own = (own.0, marks_without row q ms i own.1)
 
-module _ (live : Content) (ls : List Layer) (at : ℕ) (r : IsRooted (wholes live ls)) (some : 0 < at) (lt : at < length ls) where
+module _ (live : Content) (ls : List Delta) (at : ℕ) (r : IsRooted (wholes live ls)) (some : 0 < at) (lt : at < length ls) where
   abbrev here : Workspace
   here = workspace_at (wholes live ls) at
 
@@ -234,55 +234,55 @@ module _ (live : Content) (ls : List Layer) (at : ℕ) (r : IsRooted (wholes liv
       → (workspace_at (slice_set (wholes live ls) at w) p).current ≡ (workspace_at (wholes live ls) p).current
   still w e k p k_some k_lt parent = current_stays (wholes live ls) at w e p
 
-  pub lean_flag : (kept : Bool) → IsLean live ls → IsLean live (layer_changed ls at (λ l. record l { kept = kept }))
+  pub lean_flag : (kept : Bool) → IsLean live ls → IsLean live (delta_changed ls at (λ l. record l { kept = kept }))
   lean_flag kept = lean_one live ls at _ (with_kept kept here) lt (kept_set live ls at r some lt kept) refl refl (still _ refl)
       (λ q above own. record { base = own.base; current = own.current; saved = own.saved })
 
-  pub lean_unmarked : (i : ℕ) → IsLean live ls → IsLean live (layer_changed ls at (λ l. record l { marks = remove l.marks i }))
+  pub lean_unmarked : (i : ℕ) → IsLean live ls → IsLean live (delta_changed ls at (λ l. record l { marks = remove l.marks i }))
   lean_unmarked i = lean_one live ls at _ (with_marks (λ ms. remove ms i) here) lt (mark_removed live ls at r some lt i) refl refl (still _ refl)
-      (λ q above own. record { base = own.base; current = own.current; saved = marks_without _ q (layer_at ls at).marks i own.saved })
+      (λ q above own. record { base = own.base; current = own.current; saved = marks_without _ q (delta_at ls at).marks i own.saved })
 
-  lean_pushed : (m : StoredMark) → ((above : Option Row) (q : CellId) → IsLeanAt above (layer_at ls at) q
-      → IsOwnOver (unwrap_or (finite.get (layer_at ls at).base q) above) (finite.get (saved_differences m) q))
-      → IsLean live ls → IsLean live (layer_changed ls at (λ l. record l { marks = l.marks ++ m ∷ [] }))
+  lean_pushed : (m : StoredMark) → ((above : Option Row) (q : CellId) → IsLeanAt above (delta_at ls at) q
+      → IsOwnOver (unwrap_or (finite.get (delta_at ls at).base q) above) (finite.get (saved_differences m) q))
+      → IsLean live ls → IsLean live (delta_changed ls at (λ l. record l { marks = l.marks ++ m ∷ [] }))
   lean_pushed m one = lean_one live ls at _ (record here { marks = here.marks ++ whole_mark here.base m ∷ [] }) lt (mark_pushed live ls at r some lt m) refl
       refl (still _ refl)
-      (λ q above own. record { base = own.base; current = own.current; saved = marks_more _ q (layer_at ls at).marks m own.saved (one above q own) })
+      (λ q above own. record { base = own.base; current = own.current; saved = marks_more _ q (delta_at ls at).marks m own.saved (one above q own) })
 
   pub lean_marked : (name : Name) → IsLean live ls
-      → IsLean live (layer_changed ls at (λ l. record l { marks = l.marks ++ kinds.Saved name (layer_at ls at).current ∷ [] }))
-  lean_marked name = lean_pushed (kinds.Saved name (layer_at ls at).current) (λ above q own. own.current)
+      → IsLean live (delta_changed ls at (λ l. record l { marks = l.marks ++ kinds.Saved name (delta_at ls at).current ∷ [] }))
+  lean_marked name = lean_pushed (kinds.Saved name (delta_at ls at).current) (λ above q own. own.current)
 
-  pub lean_child : (name : Name) → IsLean live ls → IsLean live (layer_changed ls at (λ l. record l { marks = l.marks ++ kinds.Child name ∷ [] }))
+  pub lean_child : (name : Name) → IsLean live ls → IsLean live (delta_changed ls at (λ l. record l { marks = l.marks ++ kinds.Child name ∷ [] }))
   lean_child name = lean_pushed (kinds.Child name) (λ above q own. own_none _ q)
 
-  pub lean_rolled_all : ((k : ℕ) → 0 < k → k < length ls → IsUnder (layer_at ls at).name (layer_at ls k) → ⊥) → IsLean live ls
-      → IsLean live (layer_changed ls at (λ l. record l { current = no_differences; marks = filter is_stored_child l.marks }))
+  pub lean_rolled_all : ((k : ℕ) → 0 < k → k < length ls → IsUnder (delta_at ls at).name (delta_at ls k) → ⊥) → IsLean live ls
+      → IsLean live (delta_changed ls at (λ l. record l { current = no_differences; marks = filter is_stored_child l.marks }))
   lean_rolled_all none = lean_one live ls at _ (roll_all here) lt (all_rolled live ls at r some lt none) refl refl
       (λ k p k_some k_lt e. let other : p ≢ at = λ same. none k k_some k_lt (under_its_parent live ls k at (e ∙ ap (λ (n : ℕ). Some n) same)) in
       ap (λ (v : Workspace). v.current) (get_or-set_other (wholes live ls) at p (roll_all here) no_workspace other))
-      (λ q above own. record { base = own.base; current = own_none _ q; saved = marks_left is_stored_child _ q (layer_at ls at).marks own.saved })
+      (λ q above own. record { base = own.base; current = own_none _ q; saved = marks_left is_stored_child _ q (delta_at ls at).marks own.saved })
 
 -- the mark of a child goes
-pub lean_dropped : (live : Content) (ls : List Layer) (p : ℕ) (child : Name) → IsRooted (wholes live ls) → p < length ls → IsLean live ls
-    → IsLean live (layer_changed ls p (λ l. record l { marks = stored_without_mark_of child l.marks }))
+pub lean_dropped : (live : Content) (ls : List Delta) (p : ℕ) (child : Name) → IsRooted (wholes live ls) → p < length ls → IsLean live ls
+    → IsLean live (delta_changed ls p (λ l. record l { marks = stored_without_mark_of child l.marks }))
 lean_dropped live ls p child r lt =
     let w = with_marks (without_mark_of child) (workspace_at (wholes live ls) p) in
     lean_one live ls p _ w lt (any_dropped live ls p child r lt) refl refl (λ k i k_some k_lt e. current_stays (wholes live ls) p w refl i)
     (λ q above own. record {
       base = own.base;
       current = own.current;
-      saved = marks_left (λ m. not (is_stored_mark_of child m)) _ q (layer_at ls p).marks
+      saved = marks_left (λ m. not (is_stored_mark_of child m)) _ q (delta_at ls p).marks
           own.saved;
     })
 
 -- a new leaf
-pub lean_leaf : (live : Content) (ls : List Layer) (name : Name) (p : ℕ) → IsRooted (wholes live ls) → p < length ls → IsLean live ls
-    → IsLean live (ls ++ leaf name (layer_at ls p).name ∷ [])
+pub lean_leaf : (live : Content) (ls : List Delta) (name : Name) (p : ℕ) → IsRooted (wholes live ls) → p < length ls → IsLean live ls
+    → IsLean live (ls ++ leaf name (delta_at ls p).name ∷ [])
 lean_leaf live ls name p r lt lean k some k_lt q = by (nat_lt k (length ls)) refl
   where
-    by : (b : Bool) → nat_lt k (length ls) ≡ b → IsLeanAt (row_above (wholes live (ls ++ leaf name (layer_at ls p).name ∷ [])) k q) (layer_at (ls
-        ++ leaf name (layer_at ls p).name ∷ []) k) q
+    by : (b : Bool) → nat_lt k (length ls) ≡ b → IsLeanAt (row_above (wholes live (ls ++ leaf name (delta_at ls p).name ∷ [])) k q) (delta_at (ls
+        ++ leaf name (delta_at ls p).name ∷ []) k) q
     by true e =
         let ws = wholes live ls in
         let w = new_leaf name (workspace_at ws p).name (workspace_at ws p).current in
@@ -292,24 +292,24 @@ lean_leaf live ls name p r lt lean k some k_lt q = by (nat_lt k (length ls)) ref
         let up_in : up.0 < length ws = let less = up.2 in omega (arith, less, k_ws) in
         let old : workspace_at (ws ++ w ∷ []) k ≡ workspace_at ws k = get_or-append ws (w ∷ []) no_workspace k k_ws in
         let parent : parent_of (ws ++ w ∷ []) k ≡ Some up.0 = ap (λ (v : Workspace). find (ws ++ w ∷ []) v.parent) old ∙ find_more ws w _ up.0 up.1 in
-        let row : row_above (wholes live (ls ++ leaf name (layer_at ls p).name ∷ [])) k q ≡ row_above ws k q =
+        let row : row_above (wholes live (ls ++ leaf name (delta_at ls p).name ∷ [])) k q ≡ row_above ws k q =
         ap (λ (vs : List Workspace). row_above vs k q) (leaf_made live ls name p r lt)
         ∙ ap (λ o. row_at (content_above (ws ++ w ∷ []) o) q) parent
         ∙ ap (λ (v : Workspace). row_at v.current q) (get_or-append ws (w ∷ []) no_workspace up.0 up_in)
         ∙ sym (ap (λ o. row_at (content_above ws o) q) up.1) in
-        subst (λ (v : Option Row). IsLeanAt v (layer_at (ls ++ leaf name (layer_at ls p).name ∷ []) k) q) (sym row)
-        (subst (λ (l : Layer). IsLeanAt (row_above ws k q) l q) (sym (get_or-append ls (leaf name (layer_at ls p).name ∷ []) no_layer k k_in))
+        subst (λ (v : Option Row). IsLeanAt v (delta_at (ls ++ leaf name (delta_at ls p).name ∷ []) k) q) (sym row)
+        (subst (λ (l : Delta). IsLeanAt (row_above ws k q) l q) (sym (get_or-append ls (leaf name (delta_at ls p).name ∷ []) no_delta k k_in))
         (lean k some k_in q))
     by false e =
         let le = ltb-false k (length ls) e in
-        let more = length-append ls (leaf name (layer_at ls p).name ∷ []) in
+        let more = length-append ls (leaf name (delta_at ls p).name ∷ []) in
         let last : k ≡ length ls = omega (arith, le, more, k_lt) in
-        subst (λ (l : Layer). IsLeanAt (row_above (wholes live (ls ++ leaf name (layer_at ls p).name ∷ [])) k q) l q)
-        (sym (ap (layer_at (ls ++ leaf name (layer_at ls p).name ∷ [])) last ∙ get_or-append_seam ls (leaf name (layer_at ls p).name) [] no_layer))
+        subst (λ (l : Delta). IsLeanAt (row_above (wholes live (ls ++ leaf name (delta_at ls p).name ∷ [])) k q) l q)
+        (sym (ap (delta_at (ls ++ leaf name (delta_at ls p).name ∷ [])) last ∙ get_or-append_seam ls (leaf name (delta_at ls p).name) [] no_delta))
         (record { base = own_none _ q; current = own_none _ q; saved = tt })
 
 -- a leaf goes
-pub lean_removed : (live : Content) (ls : List Layer) (at p : ℕ) → IsRooted (wholes live ls) → 0 < at → at < length ls
+pub lean_removed : (live : Content) (ls : List Delta) (at p : ℕ) → IsRooted (wholes live ls) → 0 < at → at < length ls
     → children_of (wholes live ls) (workspace_at (wholes live ls) at).name ≡ 0 → p < at → IsLean live ls → IsLean live (remove ls at)
 lean_removed live ls at p r some lt none up lean k later k_lt q =
     let ws = wholes live ls in
@@ -324,9 +324,9 @@ lean_removed live ls at p r some lt none up lean k later k_lt q =
     ∙ ap (λ o. row_at (content_above (remove ws at) o) q) f.4
     ∙ ap (λ (v : Workspace). row_at v.current q) (was_at ws at r some at_ws free (closed_at at f.0) ∙ ap (workspace_at ws) (opened-closed at f.0 f.3))
     ∙ sym (ap (λ o. row_at (content_above ws o) q) f.1) in
-    let j_in : j < length ls = within_layers live ls j (was_in ws at r some at_ws free k k_ws) in
-    subst (λ (v : Option Row). IsLeanAt v (layer_at (remove ls at) k) q) (sym row)
-    (subst (λ (l : Layer). IsLeanAt (row_above ws j q) l q) (sym (read_removed ls at k no_layer lt)) (lean j (opened-later at k later) j_in q))
+    let j_in : j < length ls = within_deltas live ls j (was_in ws at r some at_ws free k k_ws) in
+    subst (λ (v : Option Row). IsLeanAt v (delta_at (remove ls at) k) q) (sym row)
+    (subst (λ (l : Delta). IsLeanAt (row_above ws j q) l q) (sym (read_removed ls at k no_delta lt)) (lean j (opened-later at k later) j_in q))
 
 pub rooted_resolved : (ws : List Workspace) (at p : ℕ) (cell : CellId) (keep : Keep) → IsRooted ws → IsRooted (after_resolve ws at p cell keep)
 rooted_resolved ws at p cell keeps.Parent r = rooted_set ws at (keep_row cell keeps.Parent (workspace_at ws p).current (workspace_at ws at)) refl refl r
@@ -335,19 +335,19 @@ rooted_resolved ws at p cell keeps.Base r = rooted_set ws at (keep_row cell keep
 
 -- one cell resolved --------------------------------------------------------------------------------
 
-pub near_at : (at : ℕ) (cells : List CellId) (ls ms : List Layer) → StayOwnBut at cells ls ms → StayOwnButNear at cells ls ms
+pub near_at : (at : ℕ) (cells : List CellId) (ls ms : List Delta) → StayOwnBut at cells ls ms → StayOwnButNear at cells ls ms
 near_at at cells ls ms stay k q other under = stay k q other
 
-pub but_base_taken : (ls : List Layer) (at : ℕ) (k : CellId) → at < length ls
-    → StayOwnBut at (k ∷ []) ls (layer_changed ls at (λ l. record l { base = finite.remove l.base k }))
+pub but_base_taken : (ls : List Delta) (at : ℕ) (k : CellId) → at < length ls
+    → StayOwnBut at (k ∷ []) ls (delta_changed ls at (λ l. record l { base = finite.remove l.base k }))
 but_base_taken ls at k lt = but_set ls at _ (k
-    ∷ []) lt (λ q apart. record { base = taken_elsewhere (layer_at ls at).base k q apart; current = λ row own. own; saved = λ row own. own })
+    ∷ []) lt (λ q apart. record { base = taken_elsewhere (delta_at ls at).base k q apart; current = λ row own. own; saved = λ row own. own })
 
-pub but_row_moved : (ls : List Layer) (at : ℕ) (k : CellId) (v : Option Row) → at < length ls
-    → StayOwnBut at (k ∷ []) ls (layer_changed ls at (λ l. record l { base = finite.remove l.base k; current = finite.insert l.current k v }))
+pub but_row_moved : (ls : List Delta) (at : ℕ) (k : CellId) (v : Option Row) → at < length ls
+    → StayOwnBut at (k ∷ []) ls (delta_changed ls at (λ l. record l { base = finite.remove l.base k; current = finite.insert l.current k v }))
 but_row_moved ls at k v lt = but_set ls at _ (k ∷ []) lt (λ q apart. record {
-  base = taken_elsewhere (layer_at ls at).base k q apart;
-  current = λ row own. subst (IsOwnOver row) (sym (put_elsewhere (layer_at ls at).current k v q apart)) own;
+  base = taken_elsewhere (delta_at ls at).base k q apart;
+  current = λ row own. subst (IsOwnOver row) (sym (put_elsewhere (delta_at ls at).current k v q apart)) own;
   saved = λ row own. own;
 })
 
@@ -367,7 +367,7 @@ parent_resolved ws at p cell keeps.Parent k = parent_set ws at (keep_row cell ke
 parent_resolved ws at p cell keeps.Child k = parent_set ws at (keep_row cell keeps.Child (workspace_at ws p).current (workspace_at ws at)) refl refl k
 parent_resolved ws at p cell keeps.Base k = parent_set ws at (keep_row cell keeps.Base (workspace_at ws p).current (workspace_at ws at)) refl refl k
 
-pub lean_resolved : (live : Content) (ls ms : List Layer) (at p : ℕ) (cell : CellId) (keep : Keep) → IsRooted (wholes live ls) → at < length ls → length ms
+pub lean_resolved : (live : Content) (ls ms : List Delta) (at p : ℕ) (cell : CellId) (keep : Keep) → IsRooted (wholes live ls) → at < length ls → length ms
     ≡ length ls → wholes live ms ≡ after_resolve (wholes live ls) at p cell keep
     → StayOwnButNear at (cell ∷ []) ls ms → IsLean live ls → IsLeanBut at (cell ∷ []) live ms
 lean_resolved live ls ms at p cell keep r lt long is stay =
@@ -386,37 +386,37 @@ marks_taken row q zero ms own = tt
 marks_taken row q (suc n) [] own = tt
 marks_taken row q (suc n) (m ∷ ms) own = (own.0, marks_taken row q n ms own.1)
 
-pub but_rolled : (ls : List Layer) (at : ℕ) (d : Differences) (n : ℕ) (cells : List CellId) → at < length ls → ((q : CellId) → is_among cells q ≡ false
+pub but_rolled : (ls : List Delta) (at : ℕ) (d : Differences) (n : ℕ) (cells : List CellId) → at < length ls → ((q : CellId) → is_among cells q ≡ false
     → finite.get d q ≡ None)
-    → StayOwnBut at cells ls (layer_changed ls at (λ l. record l { current = d; marks = take n l.marks }))
+    → StayOwnBut at cells ls (delta_changed ls at (λ l. record l { current = d; marks = take n l.marks }))
 but_rolled ls at d n cells lt none = but_set ls at _ cells lt (λ q apart. record {
   base = refl;
   current = λ row own. own_absent row d q (none q apart);
   saved =
-      λ row own. marks_taken row q n (layer_at ls at).marks own;
+      λ row own. marks_taken row q n (delta_at ls at).marks own;
 })
 
-module _ (live : Content) (ls : List Layer) (at : ℕ) (r : IsRooted (wholes live ls)) (some : 0 < at) (lt : at < length ls) (i : ℕ) (cells : List CellId) where
+module _ (live : Content) (ls : List Delta) (at : ℕ) (r : IsRooted (wholes live ls)) (some : 0 < at) (lt : at < length ls) (i : ℕ) (cells : List CellId) where
   abbrev mark : StoredMark
-  mark = stored_at (layer_at ls at).marks i
+  mark = stored_at (delta_at ls at).marks i
 
   abbrev one : Workspace
   one = workspace_at (wholes live ls) at
 
   rows_rolled : is_saved (mark_at (workspace_at (wholes live ls) at).marks i) ≡ true → ((q : CellId) → is_among cells q ≡ false
-      → (finite.get (saved_differences mark) q ≡ None) × (finite.get (layer_at ls at).current q ≡ None))
+      → (finite.get (saved_differences mark) q ≡ None) × (finite.get (delta_at ls at).current q ≡ None))
       → RowsStay at cells (wholes live ls) (after_roll_to (wholes live ls) at i)
   rows_rolled saved none = rows_set (wholes live ls) at (roll_to i one) cells (within_wholes live ls at lt) (λ q apart.
       let marks = marks-wholes live ls at some lt in
       let both = none q apart in
       ap (λ (ns : List Mark). row_at (saved_content (mark_at ns i)) q) marks
-      ∙ ap (λ (m : Content). row_at m q) (saved_there one.base (layer_at ls at).marks i (ap (λ (ns : List Mark). is_saved (mark_at ns i)) (sym marks) ∙ saved))
+      ∙ ap (λ (m : Content). row_at m q) (saved_there one.base (delta_at ls at).marks i (ap (λ (ns : List Mark). is_saved (mark_at ns i)) (sym marks) ∙ saved))
       ∙ row-seen_over one.base (saved_differences mark) q ∙ ap (λ o. unwrap_or o (row_at one.base q)) both.0
       ∙ sym (row-current live ls at some lt q ∙ ap (λ o. unwrap_or o (row_at one.base q)) both.1))
 
-  pub lean_rolled : (ms : List Layer) → is_saved (mark_at (workspace_at (wholes live ls) at).marks i) ≡ true
-      → ((q : CellId) → is_among cells q ≡ false → (finite.get (saved_differences (stored_at (layer_at ls at).marks i)) q ≡ None)
-      × (finite.get (layer_at ls at).current q ≡ None))
+  pub lean_rolled : (ms : List Delta) → is_saved (mark_at (workspace_at (wholes live ls) at).marks i) ≡ true
+      → ((q : CellId) → is_among cells q ≡ false → (finite.get (saved_differences (stored_at (delta_at ls at).marks i)) q ≡ None)
+      × (finite.get (delta_at ls at).current q ≡ None))
       → length ms ≡ length ls → wholes live ms ≡ after_roll_to (wholes live ls) at i → StayOwnButNear at cells ls ms → IsLean live ls
       → IsLeanBut at cells live ms
   lean_rolled ms saved none long is stay =
@@ -432,36 +432,36 @@ marks_of_children row q [] = tt
 marks_of_children row q (kinds.Saved name d ∷ ms) = marks_of_children row q ms
 marks_of_children row q (kinds.Child name ∷ ms) = (own_none row q, marks_of_children row q ms)
 
-pub but_mark_moved : (ls : List Layer) (p : ℕ) (child : Name) → p < length ls → StayOwnBut p [] ls (mark_moved ls p child)
+pub but_mark_moved : (ls : List Delta) (p : ℕ) (child : Name) → p < length ls → StayOwnBut p [] ls (mark_moved ls p child)
 but_mark_moved ls zero child lt = but_itself zero [] ls
 but_mark_moved ls (suc p) child lt = but_marks ls (suc p) [] _ lt (λ q apart base own.
-    marks_more base q (stored_without_mark_of child (layer_at ls (suc p)).marks) (kinds.Child child) (marks_left (λ m. not (is_stored_mark_of child m)) base q
-    (layer_at ls (suc p)).marks own) (own_none base q))
+    marks_more base q (stored_without_mark_of child (delta_at ls (suc p)).marks) (kinds.Child child) (marks_left (λ m. not (is_stored_mark_of child m)) base q
+    (delta_at ls (suc p)).marks own) (own_none base q))
 
 -- no entries elsewhere
-pub near_none : (at p : ℕ) (cells : List CellId) (ls ms ns : List Layer) → StayOwnButNear at cells ls ms → StayOwnBut p [] ms ns → StayOwnButNear at cells ls ns
-near_none at p cells ls ms ns a b k q other under = own_both q (layer_at ls k) (layer_at ms k) (layer_at ns k) (a k q other under) (b k q (λ same. refl))
+pub near_none : (at p : ℕ) (cells : List CellId) (ls ms ns : List Delta) → StayOwnButNear at cells ls ms → StayOwnBut p [] ms ns → StayOwnButNear at cells ls ns
+near_none at p cells ls ms ns a b k q other under = own_both q (delta_at ls k) (delta_at ms k) (delta_at ns k) (a k q other under) (b k q (λ same. refl))
 
-near_set : (at : ℕ) (cells : List CellId) (ls gs : List Layer) (m : Layer) → at < length gs → StayOwnButNear at cells ls gs
-    → ((q : CellId) → is_among cells q ≡ false → StaysOwnAt q (layer_at ls at) m) → StayOwnButNear at cells ls (slice_set gs at m)
+near_set : (at : ℕ) (cells : List CellId) (ls gs : List Delta) (m : Delta) → at < length gs → StayOwnButNear at cells ls gs
+    → ((q : CellId) → is_among cells q ≡ false → StaysOwnAt q (delta_at ls at) m) → StayOwnButNear at cells ls (slice_set gs at m)
 near_set at cells ls gs m lt stay one k q other under = ⊎_elim
-    (λ (e : k ≡ at). subst (λ j. StaysOwnAt q (layer_at ls j) (layer_at (slice_set gs at m) j)) (sym e)
-    (subst (StaysOwnAt q (layer_at ls at)) (sym (get_or-set_same gs at m no_layer lt)) (one q (other e))))
-    (λ (n : k ≢ at). subst (StaysOwnAt q (layer_at ls k)) (sym (get_or-set_other gs at k m no_layer n)) (stay k q other under))
+    (λ (e : k ≡ at). subst (λ j. StaysOwnAt q (delta_at ls j) (delta_at (slice_set gs at m) j)) (sym e)
+    (subst (StaysOwnAt q (delta_at ls at)) (sym (get_or-set_same gs at m no_delta lt)) (one q (other e))))
+    (λ (n : k ≢ at). subst (StaysOwnAt q (delta_at ls k)) (sym (get_or-set_other gs at k m no_delta n)) (stay k q other under))
     (cases_eq k at)
 
-pub near_restarted : (at : ℕ) (cells : List CellId) (ls gs : List Layer) (d : Differences) (rows : RowEntries) → at < length gs → StayOwnButNear at cells ls gs
+pub near_restarted : (at : ℕ) (cells : List CellId) (ls gs : List Delta) (d : Differences) (rows : RowEntries) → at < length gs → StayOwnButNear at cells ls gs
     → d
     ≡ put_each no_differences rows
-    → ((q : CellId) → is_among cells q ≡ false → (is_among (cells_in rows) q ≡ false) × (finite.get (layer_at ls at).base q ≡ None))
-    → StayOwnButNear at cells ls (layer_changed gs at (restarted_with d))
+    → ((q : CellId) → is_among cells q ≡ false → (is_among (cells_in rows) q ≡ false) × (finite.get (delta_at ls at).base q ≡ None))
+    → StayOwnButNear at cells ls (delta_changed gs at (restarted_with d))
 near_restarted at cells ls gs d rows lt stay is none = near_set at cells ls gs _ lt stay (λ q apart.
     let both = none q apart in
     record {
       base = finite.get-empty cell_cmp q ∙ sym both.1;
       current = λ row own. own_absent row d q (ap (λ (x : Differences). finite.get x q) is ∙ put_each_elsewhere rows no_differences q both.0
           ∙ finite.get-empty cell_cmp q);
-      saved = λ row own. marks_of_children row q (layer_at gs at).marks;
+      saved = λ row own. marks_of_children row q (delta_at gs at).marks;
     })
 
 marked_current : (ws : List Workspace) (p : ℕ) (f : List Mark → List Mark) (i : ℕ) → (workspace_at (change_marks ws p f) i).current
@@ -473,10 +473,10 @@ length-marked : (ws : List Workspace) (p : ℕ) (f : List Mark → List Mark) �
 length-marked ws zero f = refl
 length-marked ws (suc p) f = length-set ws (suc p) _
 
-module _ (live : Content) (ls : List Layer) (at p : ℕ) (r : IsRooted (wholes live ls)) (some : 0 < at) (lt : at < length ls)
+module _ (live : Content) (ls : List Delta) (at p : ℕ) (r : IsRooted (wholes live ls)) (some : 0 < at) (lt : at < length ls)
     (parent : parent_of (wholes live ls) at ≡ Some p) (up : p < at) (cells : List CellId)
     (none : (q : CellId) → is_among cells q ≡ false → (is_among (cells_in (rows_after (own_changes (workspace_at (wholes live ls) at)))) q ≡ false)
-    × ((finite.get (layer_at ls at).base q ≡ None) × (finite.get (layer_at ls at).current q ≡ None))) where
+    × ((finite.get (delta_at ls at).base q ≡ None) × (finite.get (delta_at ls at).current q ≡ None))) where
   abbrev was : Workspace
   was = workspace_at (wholes live ls) at
 
@@ -504,7 +504,7 @@ module _ (live : Content) (ls : List Layer) (at p : ℕ) (r : IsRooted (wholes l
       i q apart
       ∙ ap (λ (m : Content). row_at m q) (marked_current ws p moving i)
 
-  pub lean_refreshed : (ms : List Layer) → length ms ≡ length ls → wholes live ms ≡ after_refresh (wholes live ls) at p → StayOwnButNear at cells ls ms
+  pub lean_refreshed : (ms : List Delta) → length ms ≡ length ls → wholes live ms ≡ after_refresh (wholes live ls) at p → StayOwnButNear at cells ls ms
       → IsLean live ls → IsLeanBut at cells live ms
   lean_refreshed ms long is stay =
       let ws = wholes live ls in

@@ -1,4 +1,4 @@
--- What each change of a layer does to the whole workspaces.
+-- What each change of a delta does to the whole workspaces.
 use Rattle.std.proofs.Common.{◌≡◌, ℕ, suc, zero, ◌<◌, Bool, true, false, cond, not, List, [], ◌∷◌, ◌++◌, length, map, take, drop, filter, Some, refl, ap}
 use Rattle.std.proofs.Common.{sym, subst, ◌∙◌, slice_set}
 use Rattle.std.proofs.lemmas.List.{append-nil, map-append}
@@ -17,12 +17,12 @@ use Rattle.clr_differences.proofs.DifferenceLemmas.{over_outside, hidden, set_ou
 use Rattle.clr_workspaces.specs.Marks.{Name, Mark, Saved, ChildMark, mark_at, is_child_mark, is_saved, is_mark_of, saved_content, is_held, without_saved}
 use Rattle.clr_workspaces.specs.Marks.{without_mark_of, mark_last}
 use Rattle.clr_workspaces.specs.Workspaces.{Workspace, workspace_at, parent_of}
-use Rattle.clr_layers.specs.Layers.{Layer, layer_at, layer_changed, whole_of, whole_mark, wholes, top, above_at, IsUnder, stored_at, saved_differences}
-use Rattle.clr_layers.specs.Layers.{is_stored_child, is_stored_mark_of, stored_without_mark_of, EachMarkPins}
-use Rattle.clr_layers.specs.declared.stored_marks.StoredMark.{StoredMark}
-use Rattle.clr_layers.specs.declared.stored_marks.StoredMark.TheVariants as stored
-use Rattle.clr_layers.proofs.Meaning.{wholes-live}
-use Rattle.clr_layers.proofs.Places.{moved_live}
+use Rattle.clr_deltas.specs.Deltas.{Delta, delta_at, delta_changed, whole_of, whole_mark, wholes, top, above_at, IsUnder, stored_at, saved_differences}
+use Rattle.clr_deltas.specs.Deltas.{is_stored_child, is_stored_mark_of, stored_without_mark_of, EachMarkPins}
+use Rattle.clr_deltas.specs.declared.stored_marks.StoredMark.{StoredMark}
+use Rattle.clr_deltas.specs.declared.stored_marks.StoredMark.TheVariants as stored
+use Rattle.clr_deltas.proofs.Meaning.{wholes-live}
+use Rattle.clr_deltas.proofs.Places.{moved_live}
 use Rattle.clr_contents.specs.Pinning.{ChildrenPin}
 use Rattle.clr_operations.specs.Moves.{put_into, row_moved}
 use Rattle.clr_workspaces.specs.Operations.{change_at, with_marks, with_current, with_kept, roll_all, own_changes, with_base_merged, after_mark, after_unmark}
@@ -83,9 +83,9 @@ marks_hidden b k v (stored.Saved name d ∷ ms) held = λ i. Saved name (hidden 
     ∷ marks_hidden b k v ms held.1 i
 marks_hidden b k v (stored.Child name ∷ ms) held = ap (λ ns. ChildMark name ∷ ns) (marks_hidden b k v ms held.1)
 
--- one whole layer ----------------------------------------------------------------------------------
+-- one whole delta ----------------------------------------------------------------------------------
 
-module _ (above : Content) (l : Layer) where
+module _ (above : Content) (l : Delta) where
   abbrev b : Content
   b = seen_over above l.base
 
@@ -214,70 +214,70 @@ module _ (above : Content) (l : Layer) where
 
 -- all workspaces -----------------------------------------------------------------------------------
 
-module _ (live : Content) (ls : List Layer) (at : ℕ) (r : IsRooted (wholes live ls)) (some : 0 < at) (lt : at < length ls) where
+module _ (live : Content) (ls : List Delta) (at : ℕ) (r : IsRooted (wholes live ls)) (some : 0 < at) (lt : at < length ls) where
   abbrev ws : List Workspace
   ws = wholes live ls
 
   abbrev here : Workspace
   here = workspace_at (wholes live ls) at
 
-  abbrev l_at : Layer
-  l_at = layer_at ls at
+  abbrev l_at : Delta
+  l_at = delta_at ls at
 
   abbrev above : Content
   above = above_at live ls at
 
-  pub kept_set : (kept : Bool) → wholes live (layer_changed ls at (λ l. record l { kept = kept })) ≡ set_kept (wholes live ls) at kept
+  pub kept_set : (kept : Bool) → wholes live (delta_changed ls at (λ l. record l { kept = kept })) ≡ set_kept (wholes live ls) at kept
   kept_set kept = becomes_still live ls at r some lt _ (with_kept kept) refl refl (whole_kept above l_at kept) refl
 
-  pub mark_pushed : (m : StoredMark) → wholes live (layer_changed ls at (λ l. record l { marks = l.marks ++ m ∷ [] }))
+  pub mark_pushed : (m : StoredMark) → wholes live (delta_changed ls at (λ l. record l { marks = l.marks ++ m ∷ [] }))
       ≡ change_at (wholes live ls) at (λ w. record w { marks = w.marks ++ whole_mark w.base m ∷ [] })
   mark_pushed m = becomes_still live ls at r some lt _ (λ w. record w { marks = w.marks ++ whole_mark w.base m ∷ [] }) refl refl (whole_pushed above l_at m)
       refl
 
-  pub mark_made : (name : Name) → wholes live (layer_changed ls at (λ l. record l { marks = l.marks ++ stored.Saved name (layer_at ls at).current ∷ [] }))
+  pub mark_made : (name : Name) → wholes live (delta_changed ls at (λ l. record l { marks = l.marks ++ stored.Saved name (delta_at ls at).current ∷ [] }))
       ≡ after_mark (wholes live ls) at name
   mark_made name =
       mark_pushed (stored.Saved name l_at.current)
       ∙ ap (λ (c : Content). slice_set (wholes live ls) at (record here { marks = here.marks ++ Saved name c ∷ [] })) (sym (current-wholes live ls at some lt))
 
-  pub mark_removed : (i : ℕ) → wholes live (layer_changed ls at (λ l. record l { marks = remove l.marks i })) ≡ after_unmark (wholes live ls) at i
+  pub mark_removed : (i : ℕ) → wholes live (delta_changed ls at (λ l. record l { marks = remove l.marks i })) ≡ after_unmark (wholes live ls) at i
   mark_removed i = becomes_still live ls at r some lt _ (with_marks (λ ms. remove ms i)) refl refl (whole_removed above l_at i) refl
 
-  pub mark_dropped : (child : Name) → wholes live (layer_changed ls at (λ l. record l { marks = stored_without_mark_of child l.marks }))
+  pub mark_dropped : (child : Name) → wholes live (delta_changed ls at (λ l. record l { marks = stored_without_mark_of child l.marks }))
       ≡ change_at (wholes live ls) at (with_marks (without_mark_of child))
   mark_dropped child = becomes_still live ls at r some lt _ (with_marks (without_mark_of child)) refl refl (whole_dropped above l_at child) refl
 
   pub mark_lasts : (child : Name)
-      → wholes live (layer_changed ls at (λ l. record l { marks = stored_without_mark_of child l.marks ++ stored.Child child ∷ [] }))
+      → wholes live (delta_changed ls at (λ l. record l { marks = stored_without_mark_of child l.marks ++ stored.Child child ∷ [] }))
       ≡ change_at (wholes live ls) at (with_marks (mark_last child))
   mark_lasts child = becomes_still live ls at r some lt _ (with_marks (mark_last child)) refl refl (whole_last above l_at child) refl
 
-  pub all_rolled : ((k : ℕ) → 0 < k → k < length ls → IsUnder (layer_at ls at).name (layer_at ls k) → ⊥)
-      → wholes live (layer_changed ls at (λ l. record l { current = no_differences; marks = filter is_stored_child l.marks }))
+  pub all_rolled : ((k : ℕ) → 0 < k → k < length ls → IsUnder (delta_at ls at).name (delta_at ls k) → ⊥)
+      → wholes live (delta_changed ls at (λ l. record l { current = no_differences; marks = filter is_stored_child l.marks }))
       ≡ after_roll_all (wholes live ls) at
   all_rolled none = becomes live ls at r some lt _ roll_all refl refl (whole_rolled_all above l_at) (λ k k_some k_lt under q missing. absurd
       (none k k_some k_lt under))
 
   -- other differences over the base, and fewer marks
   pub rolled : (d old : Differences) (n : ℕ) → (workspace_at (wholes live ls) at).current ≡ seen_over (workspace_at (wholes live ls) at).base old
-      → ChildrenPin ls (layer_at ls at).name (finite.keys d) → ChildrenPin ls (layer_at ls at).name (finite.keys old)
-      → wholes live (layer_changed ls at (λ l. record l { current = d; marks = take n l.marks }))
+      → ChildrenPin ls (delta_at ls at).name (finite.keys d) → ChildrenPin ls (delta_at ls at).name (finite.keys old)
+      → wholes live (delta_changed ls at (λ l. record l { current = d; marks = take n l.marks }))
       ≡ change_at (wholes live ls) at (λ w. record w { current = seen_over w.base d; marks = take n w.marks })
   rolled d old n was held_new held_old =
       becomes live ls at r some lt _ (λ w. record w { current = seen_over w.base d; marks = take n w.marks }) refl refl (whole_rolled_to above l_at d n)
       (λ k k_some k_lt under q none.
-      seen_outside (layer_at ls k).base here.base d (held_new k k_some k_lt under) q none
-      ∙ sym (ap (λ (c : Content). row_at c q) was ∙ seen_outside (layer_at ls k).base here.base old (held_old k k_some k_lt under) q none))
+      seen_outside (delta_at ls k).base here.base d (held_new k k_some k_lt under) q none
+      ∙ sym (ap (λ (c : Content). row_at c q) was ∙ seen_outside (delta_at ls k).base here.base old (held_old k k_some k_lt under) q none))
 
-  pub put : (rows : RowEntries) → ChildrenPin ls (layer_at ls at).name (cells_in rows)
-      → wholes live (layer_changed ls at (λ l. record l { current = put_each l.current rows })) ≡ put_into (wholes live ls) at rows
+  pub put : (rows : RowEntries) → ChildrenPin ls (delta_at ls at).name (cells_in rows)
+      → wholes live (delta_changed ls at (λ l. record l { current = put_each l.current rows })) ≡ put_into (wholes live ls) at rows
   put rows held = becomes live ls at r some lt _ (λ w. with_current (over w.current rows) w) refl refl (whole_put above l_at rows)
       (rows_agree ls l_at.name here.current rows held)
 
   -- the base takes rows over that make it the current content
   pub based : (rows : RowEntries) → over (workspace_at (wholes live ls) at).base rows ≡ (workspace_at (wholes live ls) at).current
-      → wholes live (layer_changed ls at (λ l. record l { base = put_each l.base rows; current = no_differences; marks = filter is_stored_child l.marks }))
+      → wholes live (delta_changed ls at (λ l. record l { base = put_each l.base rows; current = no_differences; marks = filter is_stored_child l.marks }))
       ≡ change_at (wholes live ls) at (λ w. record w { base = over w.base rows; marks = without_saved w.marks })
   based rows own =
       becomes_still live ls at r some lt _ (λ w. record w { base = over w.base rows; current = over w.base rows; marks = without_saved w.marks }) refl refl
@@ -292,9 +292,9 @@ module _ (live : Content) (ls : List Layer) (at : ℕ) (r : IsRooted (wholes liv
     pub restarted : (rows : RowEntries) (base old : Differences)
         → (workspace_at (wholes live ls) at).base ≡ seen_over (workspace_at (wholes live ls) p).current base → (workspace_at (wholes live ls) at).current
         ≡ seen_over (workspace_at (wholes live ls) at).base old
-        → ChildrenPin ls (layer_at ls at).name (cells_in rows) → ChildrenPin ls (layer_at ls at).name (finite.keys base)
-        → ChildrenPin ls (layer_at ls at).name (finite.keys old)
-        → wholes live (layer_changed ls at (λ l. record l {
+        → ChildrenPin ls (delta_at ls at).name (cells_in rows) → ChildrenPin ls (delta_at ls at).name (finite.keys base)
+        → ChildrenPin ls (delta_at ls at).name (finite.keys old)
+        → wholes live (delta_changed ls at (λ l. record l {
           base = no_differences;
           current = put_each no_differences rows;
           marks = filter is_stored_child
@@ -312,58 +312,58 @@ module _ (live : Content) (ls : List Layer) (at : ℕ) (r : IsRooted (wholes liv
         ∙ ap (λ (m : Content). let w = whole_of above l_at in record w { base = m; current = over m rows; marks = without_saved w.marks })
         (above_parent live ls at p parent up))
         (λ k k_some k_lt under q none.
-        over_outside (layer_at ls k).base rows over_it (held_rows k k_some k_lt under) q none
-        ∙ sym (ap (λ (m : Content). row_at m q) was_current ∙ seen_outside (layer_at ls k).base here.base old (held_old k k_some k_lt under) q none
-        ∙ ap (λ (m : Content). row_at m q) was_base ∙ seen_outside (layer_at ls k).base over_it base (pinned_base k k_some k_lt under) q none))
+        over_outside (delta_at ls k).base rows over_it (held_rows k k_some k_lt under) q none
+        ∙ sym (ap (λ (m : Content). row_at m q) was_current ∙ seen_outside (delta_at ls k).base here.base old (held_old k k_some k_lt under) q none
+        ∙ ap (λ (m : Content). row_at m q) was_base ∙ seen_outside (delta_at ls k).base over_it base (pinned_base k k_some k_lt under) q none))
 
-    pub base_taken : (k : CellId) → HasDifference (layer_at ls at).current k → EachMarkPins (layer_at ls at).marks k
-        → wholes live (layer_changed ls at (λ l. record l { base = finite.remove l.base k })) ≡ after_resolve (wholes live ls) at p k keeps.Child
+    pub base_taken : (k : CellId) → HasDifference (delta_at ls at).current k → EachMarkPins (delta_at ls at).marks k
+        → wholes live (delta_changed ls at (λ l. record l { base = finite.remove l.base k })) ≡ after_resolve (wholes live ls) at p k keeps.Child
     base_taken k entry held =
         becomes_still live ls at r some lt _ (λ w. record w { base = set_cell w.base k (row_at over_it k) }) refl refl
         (whole_base_taken above l_at k entry held ∙ ap (λ (m : Content). let w = whole_of above l_at in record w { base = set_cell w.base k (row_at m k) })
         (above_parent live ls at p parent up)) refl
 
-    pub row_set : (k : CellId) (v : Option Row) → ChildrenPin ls (layer_at ls at).name (k ∷ []) → HasDifference (layer_at ls at).current k
-        → EachMarkPins (layer_at ls at).marks k
-        → wholes live (layer_changed ls at (λ l. record l { base = finite.remove l.base k; current = finite.insert l.current k v }))
+    pub row_set : (k : CellId) (v : Option Row) → ChildrenPin ls (delta_at ls at).name (k ∷ []) → HasDifference (delta_at ls at).current k
+        → EachMarkPins (delta_at ls at).marks k
+        → wholes live (delta_changed ls at (λ l. record l { base = finite.remove l.base k; current = finite.insert l.current k v }))
         ≡ row_moved (wholes live ls) at p k v
     row_set k v children entry held =
         becomes live ls at r some lt _ (λ w. record w { base = set_cell w.base k (row_at over_it k); current = set_cell w.current k v }) refl refl
         (whole_row_moved above l_at k v entry held
         ∙ ap (λ (m : Content). let w = whole_of above l_at in record w { base = set_cell w.base k (row_at m k); current = set_cell w.current k v })
         (above_parent live ls at p parent up))
-        (λ j j_some j_lt under q none. set_outside (layer_at ls j).base here.current k v (children j j_some j_lt under).0 q none)
+        (λ j j_some j_lt under q none. set_outside (delta_at ls j).base here.current k v (children j j_some j_lt under).0 q none)
 
 -- entries at the cells of two lists
 entries_both : (d : Differences) (first others : List CellId) → HasEntries d (first ++ others) → HasEntries d first × HasEntries d others
 entries_both d [] others held = (tt, held)
 entries_both d (cell ∷ first) others held = let rest = entries_both d first others held.1 in ((held.0, rest.0), rest.1)
 
-pub children_both : (ls : List Layer) (name : Name) (first others : List CellId) → ChildrenPin ls name (first ++ others) → ChildrenPin ls name first
+pub children_both : (ls : List Delta) (name : Name) (first others : List CellId) → ChildrenPin ls name (first ++ others) → ChildrenPin ls name first
     × ChildrenPin ls name others
 children_both ls name first others held = (
-  λ k some lt under. (entries_both (layer_at ls k).base first others (held k some lt under)).0,
+  λ k some lt under. (entries_both (delta_at ls k).base first others (held k some lt under)).0,
   λ k some lt under.
-      (entries_both (layer_at ls k).base first others (held k some lt under)).1,
+      (entries_both (delta_at ls k).base first others (held k some lt under)).1,
 )
 
 -- rows put into LIVE
-top_put : (live : Content) (l : Layer) (rows : RowEntries) → top (over live rows) l ≡ (let w = top live l in record w { current = over w.current rows })
+top_put : (live : Content) (l : Delta) (rows : RowEntries) → top (over live rows) l ≡ (let w = top live l in record w { current = over w.current rows })
 unfolding top
 top_put live l rows = refl
 
-pub live_put : (live : Content) (ls : List Layer) (rows : RowEntries) → 0 < length ls → ChildrenPin ls (layer_at ls 0).name (cells_in rows)
+pub live_put : (live : Content) (ls : List Delta) (rows : RowEntries) → 0 < length ls → ChildrenPin ls (delta_at ls 0).name (cells_in rows)
     → wholes (over live rows) ls ≡ put_into (wholes live ls) 0 rows
 live_put live ls rows lt held =
-    moved_live live (over live rows) ls lt (rows_agree ls (layer_at ls 0).name live rows held)
-    ∙ ap (slice_set (wholes live ls) 0) (top_put live (layer_at ls 0) rows
+    moved_live live (over live rows) ls lt (rows_agree ls (delta_at ls 0).name live rows held)
+    ∙ ap (slice_set (wholes live ls) 0) (top_put live (delta_at ls 0) rows
     ∙ ap (λ (w : Workspace). record w { current = over w.current rows }) (sym (wholes-live live ls lt)))
 
 -- MERGE: the parent's rows were put, and the base takes the changes over
-pub merged_is : (live : Content) (ls : List Layer) (ws : List Workspace) (at p : ℕ) (changed : Changes) → IsRooted (wholes live ls) → 0 < at → at < length ls
+pub merged_is : (live : Content) (ls : List Delta) (ws : List Workspace) (at p : ℕ) (changed : Changes) → IsRooted (wholes live ls) → 0 < at → at < length ls
     → p < at
     → wholes live ls ≡ put_into ws p (rows_after changed) → changed ≡ own_changes (workspace_at ws at)
-    → wholes live (layer_changed ls at (λ l. record l {
+    → wholes live (delta_changed ls at (λ l. record l {
       base = put_each l.base (rows_after changed);
       current = no_differences;
       marks = filter is_stored_child

@@ -6,8 +6,8 @@ use Rattle.clr_rows.specs.Contents.{row_at, set_cell, over}
 use Rattle.clr_differences.specs.Differences.{RowEntries}
 use Rattle.clr_workspaces.specs.Marks.{Name}
 use Rattle.clr_workspaces.specs.Workspaces.{Workspace, workspace_at}
-use Rattle.clr_layers.specs.Layers.{Layer, layer_changed, stored_without_mark_of}
-use Rattle.clr_layers.specs.declared.stored_marks.StoredMark.TheVariants.{Child}
+use Rattle.clr_deltas.specs.Deltas.{Delta, delta_changed, stored_without_mark_of}
+use Rattle.clr_deltas.specs.declared.stored_marks.StoredMark.TheVariants.{Child}
 use Rattle.clr_workspaces.specs.Operations.{change_at, with_current}
 
 -- rows put over the current content of the workspace at a position
@@ -20,7 +20,7 @@ row_moved ws at above cell row =
     let v = (workspace_at ws above).current in
     change_at ws at (λ w. record w { base = set_cell w.base cell (row_at v cell); current = set_cell w.current cell row })
 
--- the mark of a child moved to the end, where the layer isn't LIVE's
-abbrev pub mark_moved : List Layer → ℕ → Name → List Layer
+-- the mark of a child moved to the end, where the delta isn't LIVE's
+abbrev pub mark_moved : List Delta → ℕ → Name → List Delta
 mark_moved ls zero child = ls
-mark_moved ls (suc k) child = layer_changed ls (suc k) (λ l. record l { marks = stored_without_mark_of child l.marks ++ Child child ∷ [] })
+mark_moved ls (suc k) child = delta_changed ls (suc k) (λ l. record l { marks = stored_without_mark_of child l.marks ++ Child child ∷ [] })

@@ -1,8 +1,8 @@
-//! What is done to stored workspaces: each operation on a map of layers beside LIVE's content, whole
+//! What is done to stored workspaces: each operation on a map of deltas beside LIVE's content, whole
 //! or not at all.
 //!
 //! - `write_rows`, `mark`, `roll_to`, `merge_changes`, `refresh_changes`, `rebase` and `create`
-//!   [`ok`, `err`]: the whole workspaces that the layers mean afterwards are those of the operation
+//!   [`ok`, `err`]: the whole workspaces that the deltas mean afterwards are those of the operation
 //!   (`clr_workspaces: Operations`). If memory runs out, they are as they were. `roll_all`
 //!   [`rolled`] and `remove` [`removed`] take no memory.
 //! - [`lean`]: where no entry was neutral, none is afterwards, also where memory ran out.

@@ -4,7 +4,7 @@ ghost use Rattle.std.specs.Prelude.{◌≡◌, ◌<◌, ◌++◌, [], ◌∷◌,
 ghost use Rattle.clr_rows.specs.Names.{is_good_name};
 ghost use Rattle.clr_differences.specs.Differences.{cells_in};
 ghost use Rattle.std.specs.FinMap as finite;
-ghost use Rattle.clr_layers.specs.Layers.{layer_at, saved_differences, stored_at, wholes};
+ghost use Rattle.clr_deltas.specs.Deltas.{delta_at, saved_differences, stored_at, wholes};
 ghost use Rattle.clr_workspaces.specs.Marks.{is_saved, is_held, mark_at};
 ghost use Rattle.clr_workspaces.specs.Workspaces.{workspace_at, find, parent_of as position_of_parent, children_of};
 ghost use Rattle.clr_contents.specs.Pinning.{Extends, ChildrenPin, StayOwnButChildren};
@@ -24,7 +24,7 @@ use clr_contents::{
     sweep_at,
 };
 use clr_differences::Differences;
-use clr_layers::{StoredMark, WorkspaceMap, push_leaf};
+use clr_deltas::{StoredMark, WorkspaceMap, push_leaf};
 use clr_rows::{CellId, Row, Sheet, Words};
 use clr_workspaces::{Keep, Rebase};
 use std::alloc::{AllocError, Global};
@@ -45,7 +45,7 @@ fn put_rows(
     ensures err { OnErr result (wholes live.new map.new ≡ wholes live.old map.old) }
     ensures extends { Extends map.old map.new }
     ensures elsewhere { StayOwnButNear at (cells_in rows.items) map.old map.new }
-    ensures children { OnOk result (ChildrenPin map.new (layer_at map.old at).name (cells_in rows.items)) }
+    ensures children { OnOk result (ChildrenPin map.new (delta_at map.old at).name (cells_in rows.items)) }
 {
     let cells = cells_of(map.allocator(), rows.as_slice())?;
     pin_children(live, map, at, cells.as_slice())?;
@@ -117,8 +117,8 @@ fn roll_back(
     requires rooted { IsRooted (wholes live.now map.old) }
     requires saved { is_saved (mark_at (workspace_at (wholes live.now map.old) at).marks mark) ≡ true }
     requires free { is_held (workspace_at (wholes live.now map.old) at).marks mark ≡ false }
-    requires differences { differences ≡ saved_differences (stored_at (layer_at map.old at).marks mark) }
-    requires cells { cells.now ≡ finite.keys differences ++ finite.keys (layer_at map.old at).current }
+    requires differences { differences ≡ saved_differences (stored_at (delta_at map.old at).marks mark) }
+    requires cells { cells.now ≡ finite.keys differences ++ finite.keys (delta_at map.old at).current }
     ensures ok { OnOk result (wholes live.now map.new ≡ after_roll_to (wholes live.now map.old) at mark) }
     ensures err { OnErr result (wholes live.now map.new ≡ wholes live.now map.old) }
     ensures long { length map.new ≡ length map.old }
@@ -250,7 +250,7 @@ fn refresh_base(
     requires parent { position_of_parent (wholes live.now map.old) at ≡ Some above }
     requires earlier { above < at }
     requires rows { rows.items ≡ rows_after (own_changes (workspace_at (wholes live.now map.old) at)) }
-    requires cells { let l = layer_at map.old at in cells.now ≡ cells_in rows.items ++ (finite.keys l.base ++ finite.keys l.current) }
+    requires cells { let l = delta_at map.old at in cells.now ≡ cells_in rows.items ++ (finite.keys l.base ++ finite.keys l.current) }
     ensures ok { OnOk result (wholes live.now map.new ≡ after_refresh (wholes live.now map.old) at above) }
     ensures err { OnErr result (wholes live.now map.new ≡ wholes live.now map.old) }
     ensures long { length map.new ≡ length map.old }
@@ -325,8 +325,8 @@ fn pin_cell(live: &Sheet, map: &mut WorkspaceMap, at: usize, cell: CellId) -> Re
     requires rooted { IsRooted (wholes live.now map.old) }
     ensures seen { wholes live.now map.new ≡ wholes live.now map.old }
     ensures extends { Extends map.old map.new }
-    ensures elsewhere { StayOwnButChildren (layer_at map.old at).name (cell ∷ []) map.old map.new }
-    ensures children { OnOk result (ChildrenPin map.new (layer_at map.old at).name (cell ∷ [])) }
+    ensures elsewhere { StayOwnButChildren (delta_at map.old at).name (cell ∷ []) map.old map.new }
+    ensures children { OnOk result (ChildrenPin map.new (delta_at map.old at).name (cell ∷ [])) }
 {
     pin_children(live, map, at, &[cell])
 }

@@ -7,11 +7,11 @@ use Rattle.clr_rows.specs.Contents.{Content, no_rows, over, rows_after, changes}
 use Rattle.clr_rows.proofs.ChangeLemmas.{taken_over-own}
 use Rattle.clr_differences.specs.Differences.{Differences, RowEntries, no_differences, seen_over, put_each}
 use Rattle.clr_differences.proofs.DifferenceLemmas.{seen_over-fresh}
-use Rattle.clr_layers.specs.Layers.{Layer, find_layer, whole_of, whole_mark, wholes, content_by_name}
+use Rattle.clr_deltas.specs.Deltas.{Delta, find_delta, whole_of, whole_mark, wholes, content_by_name}
 use Rattle.clr_workspaces.specs.Workspaces.{Workspace, live_workspace, workspace_at, find}
 use Rattle.clr_workspaces.proofs.FindLemmas.{find_within}
-use Rattle.clr_layers.proofs.Meaning.{length-wholes, name-whole, parent-whole, find-wholes, named_found}
-use Rattle.clr_layers.proofs.Places.{wholes-push}
+use Rattle.clr_deltas.proofs.Meaning.{length-wholes, name-whole, parent-whole, find-wholes, named_found}
+use Rattle.clr_deltas.proofs.Places.{wholes-push}
 use Rattle.clr_parts.specs.Parts.{marks_of, workspace_of, marks_fault_at, first_below, first_name_fault, first_marks_fault, workspaces_fault, number_of}
 use Rattle.clr_parts.specs.Parts.{IsPartFault, IsFirstPartFault}
 use Rattle.clr_workspaces.specs.Soundness.{IsSound}
@@ -24,7 +24,7 @@ pub all_differences : (below above : Content) (rows : RowEntries) (d : Differenc
     → seen_over below d ≡ above
 all_differences below above rows d rows_is is = ap (seen_over below) is ∙ seen_over-fresh below rows ∙ ap (over below) rows_is ∙ taken_over-own below above
 
-pub whole_part : (above : Content) (l : Layer) (p : Part) → l.name ≡ p.name → l.parent ≡ p.parent → seen_over above l.base ≡ p.base → seen_over p.base l.current
+pub whole_part : (above : Content) (l : Delta) (p : Part) → l.name ≡ p.name → l.parent ≡ p.parent → seen_over above l.base ≡ p.base → seen_over p.base l.current
     ≡ p.current
     → map (whole_mark p.base) l.marks ≡ marks_of p.marks.items → l.kept ≡ p.kept → whole_of above l ≡ workspace_of p
 unfolding whole_of
@@ -33,9 +33,9 @@ whole_part above l p name parent base current marks kept =
     let all = ap (λ (m : Content). map (whole_mark m) l.marks) base ∙ marks in
     λ i. record { name = name i; parent = parent i; base = base i; current = content i; marks = all i; kept = kept i }
 
-module _ (live : Content) (ls : List Layer) (above : Content) (l : Layer) (p : Part) (is : whole_of above l ≡ workspace_of p) where
-  pub new_layer : find (wholes live ls) p.name ≡ None → find_layer ls l.name ≡ None
-  new_layer none = sym (find-wholes live ls l.name) ∙ ap (find (wholes live ls)) (sym (name-whole above l) ∙ ap (λ (w : Workspace). w.name) is) ∙ none
+module _ (live : Content) (ls : List Delta) (above : Content) (l : Delta) (p : Part) (is : whole_of above l ≡ workspace_of p) where
+  pub new_delta : find (wholes live ls) p.name ≡ None → find_delta ls l.name ≡ None
+  new_delta none = sym (find-wholes live ls l.name) ∙ ap (find (wholes live ls)) (sym (name-whole above l) ∙ ap (λ (w : Workspace). w.name) is) ∙ none
 
   pub part_pushed : (at : ℕ) → 0 < length ls → find (wholes live ls) p.parent ≡ Some at → above ≡ (workspace_at (wholes live ls) at).current
       → wholes live (ls ++ l ∷ []) ≡ wholes live ls ++ workspace_of p ∷ []
@@ -72,8 +72,8 @@ refused_at wrong at n fault.NoParent lt before e = below_found wrong at n fault.
 refused_at wrong at n fault.TooMany lt before e = below_found wrong at n fault.TooMany lt before e
 refused_at wrong at n fault.BadMarks lt before e = below_found wrong at n fault.BadMarks lt before e
 
--- both passes over the workspaces that layers mean
-module _ (live : Content) (ls : List Layer) (rest : List Workspace) (is : wholes live ls ≡ live_workspace live ∷ rest) where
+-- both passes over the workspaces that deltas mean
+module _ (live : Content) (ls : List Delta) (rest : List Workspace) (is : wholes live ls ≡ live_workspace live ∷ rest) where
   long : length ls ≡ suc (length rest)
   long = sym (length-wholes live ls) ∙ ap length is
 
@@ -83,8 +83,8 @@ module _ (live : Content) (ls : List Layer) (rest : List Workspace) (is : wholes
       let count : length ls - 1 ≡ length rest = omega (arith, all) in
       λ i. first_below (marks_fault_at (is i)) (count i)
 
-  pub sound_layers : first_name_fault live rest ≡ None → first_below (marks_fault_at (wholes live ls)) (length ls - 1) ≡ None → IsSound (wholes live ls)
-  sound_layers names marks = subst IsSound (sym is) (sound_spaces live rest names (sym marks_in ∙ marks))
+  pub sound_deltas : first_name_fault live rest ≡ None → first_below (marks_fault_at (wholes live ls)) (length ls - 1) ≡ None → IsSound (wholes live ls)
+  sound_deltas names marks = subst IsSound (sym is) (sound_spaces live rest names (sym marks_in ∙ marks))
 
   pub none_wrong : first_name_fault live rest ≡ None → first_below (marks_fault_at (wholes live ls)) (length ls - 1) ≡ None → workspaces_fault live rest ≡ None
   none_wrong names marks = λ i. option_or (names i) ((sym marks_in ∙ marks) i)

@@ -1,5 +1,5 @@
 pub mod BuildLemmas
 pub mod FaultLemmas
-pub mod LayeredLemmas
+pub mod DeltaLemmas
 pub mod MarkLemmas
 pub mod PartLemmas

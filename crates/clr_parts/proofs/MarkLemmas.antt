@@ -6,9 +6,9 @@ use Rattle.std.specs.Prelude.{fold, count_by, position, nat_lt}
 use Rattle.std.specs.Str.{bytes_eq}
 use Rattle.clr_rows.specs.Contents.{Content}
 use Rattle.clr_workspaces.specs.Marks.{Name, Mark, is_child_mark, is_saved, is_saved_as, is_mark_of, saved_count, mark_count, find_mark, is_held}
-use Rattle.clr_layers.specs.Layers.{whole_mark, is_stored_child, is_stored_saved, is_stored_saved_as, is_stored_mark_of}
-use Rattle.clr_layers.specs.declared.stored_marks.StoredMark.{StoredMark}
-use Rattle.clr_layers.specs.declared.stored_marks.StoredMark.TheVariants as stored
+use Rattle.clr_deltas.specs.Deltas.{whole_mark, is_stored_child, is_stored_saved, is_stored_saved_as, is_stored_mark_of}
+use Rattle.clr_deltas.specs.declared.stored_marks.StoredMark.{StoredMark}
+use Rattle.clr_deltas.specs.declared.stored_marks.StoredMark.TheVariants as stored
 
 counted : (b : Content) (ms : List StoredMark) (n : ℕ) → fold (λ a (m : Mark). a + cond (is_saved m) 1 0) n (map (whole_mark b) ms)
     ≡ fold (λ a (m : StoredMark). a + cond (is_stored_saved m) 1 0) n ms

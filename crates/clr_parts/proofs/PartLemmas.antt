@@ -10,11 +10,11 @@ use Rattle.std.proofs.Math.Bool.{and-false}
 use Rattle.clr_rows.specs.Contents.{Content}
 use Rattle.clr_rows.specs.Names.{is_good_name}
 use Rattle.clr_rows.specs.Schemas.{are_distinct}
-use Rattle.clr_layers.specs.Layers.{whole_mark}
+use Rattle.clr_deltas.specs.Deltas.{whole_mark}
 use Rattle.clr_workspaces.specs.Marks.{Name, Mark, Saved, ChildMark, find_mark, is_saved_as, saved_names, saved_count}
 use Rattle.clr_workspaces.specs.Workspaces.{Workspace, find, depth_of}
-use Rattle.clr_layers.specs.declared.stored_marks.StoredMark.{StoredMark}
-use Rattle.clr_layers.specs.declared.stored_marks.StoredMark.TheVariants as stored
+use Rattle.clr_deltas.specs.declared.stored_marks.StoredMark.{StoredMark}
+use Rattle.clr_deltas.specs.declared.stored_marks.StoredMark.TheVariants as stored
 use Rattle.clr_parts.specs.Parts.{place_fault, has_new_name, is_under, is_childs, is_marked_once, has_child_marks}
 use Rattle.clr_workspaces.specs.Soundness.{are_good_savepoints}
 use Rattle.clr_workspaces.specs.declared.limits.TheConstants.{MOST_WORKSPACES, MOST_LEVELS, MOST_SAVEPOINTS}

@@ -6,12 +6,12 @@ use Rattle.std.specs.Option.{option_or, option_map}
 use Rattle.std.specs.Str.{bytes_eq}
 use Rattle.clr_rows.specs.Contents.{Content, no_rows}
 use Rattle.clr_rows.specs.Names.{is_good_name}
-use Rattle.clr_layers.specs.Entries.{stored_layer}
-use Rattle.clr_layers.specs.Layers.{whole_mark, workspaces_over}
+use Rattle.clr_deltas.specs.Entries.{stored_delta}
+use Rattle.clr_deltas.specs.Deltas.{whole_mark, workspaces_over}
 use Rattle.clr_workspaces.specs.Marks.{Name, Mark, Saved, ChildMark, mark_count, saved_names}
 use Rattle.clr_workspaces.specs.Workspaces.{Workspace, workspace_at, find, live_workspace, depth_of}
-use Rattle.clr_layers.specs.declared.stored_marks.StoredMark.{StoredMark}
-use Rattle.clr_layers.specs.declared.stored_parts.StoredPart.{StoredPart}
+use Rattle.clr_deltas.specs.declared.stored_marks.StoredMark.{StoredMark}
+use Rattle.clr_deltas.specs.declared.stored_parts.StoredPart.{StoredPart}
 use Rattle.clr_workspaces.specs.declared.limits.TheConstants.{MOST_WORKSPACES, MOST_LEVELS}
 use Rattle.clr_parts.specs.declared.parts.MarkPart.{MarkPart}
 use Rattle.clr_parts.specs.declared.parts.MarkPart.TheVariants as part
@@ -38,7 +38,7 @@ list_of live parts = live_workspace live ∷ map workspace_of parts
 
 -- the workspaces under LIVE that parts by their differences give
 abbrev pub spaces_of : Content → List StoredPart → List Workspace
-spaces_of live parts = workspaces_over live (map stored_layer parts)
+spaces_of live parts = workspaces_over live (map stored_delta parts)
 
 -- what is wrong with them --------------------------------------------------------------------------
 

@@ -3,8 +3,8 @@
 ghost use Rattle.std.specs.Prelude.{◌≡◌, ◌<◌, ◌++◌, [], ◌∷◌, suc, None, Some, map, take, length, OnOk, IfOk, IfErr};
 ghost use Rattle.clr_rows.specs.Names.{live_name};
 ghost use Rattle.clr_differences.specs.Differences.{seen_over};
-ghost use Rattle.clr_layers.specs.Entries.{layer_of};
-ghost use Rattle.clr_layers.specs.Layers.{leaf, whole_mark, whole_of, wholes};
+ghost use Rattle.clr_deltas.specs.Entries.{delta_of};
+ghost use Rattle.clr_deltas.specs.Deltas.{leaf, whole_mark, whole_of, wholes};
 ghost use Rattle.clr_workspaces.specs.Workspaces.{workspace_at, find};
 ghost use Rattle.clr_parts.specs.Parts.{mark_of, marks_of, workspace_of, list_of, name_fault_at, first_name_fault, IsPartFault, IsFirstPartFault, number_of};
 ghost use Rattle.clr_parts.specs.declared.parts.PartFault.TheVariants.{OutOfMemory};
@@ -14,7 +14,7 @@ use crate::part_checks::judge_place;
 use crate::parts::{MarkPart, Part, PartFault};
 use clr_change::ChangeSet;
 use clr_differences::Differences;
-use clr_layers::{Layer, StoredMark, WorkspaceMap, live_alone};
+use clr_deltas::{Delta, StoredMark, WorkspaceMap, live_alone};
 use clr_rows::Sheet;
 use std::alloc::{AllocError, Global};
 
@@ -61,22 +61,22 @@ fn stored_marks(
 }
 
 /// Returns what is stored of a part whose parent has this content.
-fn entry_of(alloc: Global, above: &Sheet, part: &Part) -> Result<(String, Layer), AllocError>
-    ensures { IfOk result (λ entry. whole_of above.now (layer_of entry) ≡ workspace_of part.now) }
+fn entry_of(alloc: Global, above: &Sheet, part: &Part) -> Result<(String, Delta), AllocError>
+    ensures { IfOk result (λ entry. whole_of above.now (delta_of entry) ≡ workspace_of part.now) }
 {
     let base = differences_between(alloc, above, &part.base)?;
     let current = differences_between(alloc, &part.base, &part.current)?;
     let marks = stored_marks(alloc, &part.base, part.marks.as_slice())?;
     let name = part.name.copy()?;
     let parent = part.parent.copy()?;
-    let layer = Layer {
+    let delta = Delta {
         parent,
         base,
         current,
         marks,
         kept: part.kept,
     };
-    Ok((name.into_string(), layer))
+    Ok((name.into_string(), delta))
 }
 
 /// Returns the current content of LIVE or of a part, by the position of its workspace.
@@ -107,8 +107,8 @@ fn push_entry(
 {
     let _live = live;
     let _at = at;
-    let (name, layer) = entry_of(map.allocator(), above, part)?;
-    map.push(name, layer)?;
+    let (name, delta) = entry_of(map.allocator(), above, part)?;
+    map.push(name, delta)?;
     Ok(())
 }
 

@@ -3,7 +3,7 @@
 ghost use Rattle.std.specs.Prelude.{◌≡◌, ◌<◌, ◌-◌, length, None, Some, OnOk, IfOk, IfErr};
 ghost use Rattle.std.specs.List.{list_all, list_any};
 ghost use Rattle.std.specs.Str.{bytes_eq};
-ghost use Rattle.clr_layers.specs.Layers.{wholes};
+ghost use Rattle.clr_deltas.specs.Deltas.{wholes};
 ghost use Rattle.clr_workspaces.specs.Marks.{saved_names};
 ghost use Rattle.clr_workspaces.specs.Workspaces.{workspace_at, find};
 ghost use Rattle.clr_parts.specs.Parts.{bare_mark, bare_marks, place_fault, has_new_name, is_childs, is_marked_once};
@@ -13,7 +13,7 @@ ghost use Rattle.clr_workspaces.specs.Soundness.{are_good_savepoints};
 
 use crate::parts::PartFault;
 use clr_contents::depth_at;
-use clr_layers::{StoredMark, WorkspaceMap, count_marks_of, count_saved, find_saved};
+use clr_deltas::{StoredMark, WorkspaceMap, count_marks_of, count_saved, find_saved};
 use clr_rows::{Sheet, good_name};
 use clr_workspaces::{MOST_LEVELS, MOST_SAVEPOINTS, MOST_WORKSPACES};
 

@@ -1,14 +1,14 @@
 //! Workspaces handed out with whole contents.
 
 ghost use Rattle.std.specs.Prelude.{◌≡◌, ◌<◌, length, IfOk};
-ghost use Rattle.clr_layers.specs.Layers.{wholes, whole_mark};
+ghost use Rattle.clr_deltas.specs.Deltas.{wholes, whole_mark};
 ghost use Rattle.clr_workspaces.specs.Workspaces.{workspace_at, live_workspace};
 ghost use Rattle.clr_parts.specs.Parts.{mark_of, marks_of, workspace_of};
 ghost use Rattle.clr_workspaces.specs.Roots.{IsRooted};
 
 use crate::parts::{MarkPart, Part};
 use clr_contents::{base_rows, whole_rows};
-use clr_layers::{StoredMark, WorkspaceMap};
+use clr_deltas::{StoredMark, WorkspaceMap};
 use clr_rows::{LIVE, Sheet, Words};
 use std::alloc::{AllocError, Global};
 

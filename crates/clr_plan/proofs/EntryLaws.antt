@@ -18,7 +18,7 @@ use Rattle.clr_needs.proofs.Placing.{PlaceOf, after, before, here, place_of}
 use Rattle.clr_clearance.specs.Plans.{ArePicked, IsFirstUnpicked}
 use Rattle.clr_needs.proofs.VersionOrder.{unread as unread_version}
 use Rattle.clr_needs.proofs.NeedOrder.{need_total}
-use Rattle.clr_sites.specs.Certificates.{entries_in, witnesses_of}
+use Rattle.clr_merge_sets.specs.Certificates.{entries_in, witnesses_of}
 
 -- what a read past the end would give
 abbrev pub unread : Need

@@ -9,14 +9,14 @@ use Rattle.clr_needs.specs.declared.faults.SceneFault.TheVariants as scene
 use Rattle.clr_needs.specs.Members.{IsSceneFault, AreApart, after_of}
 use Rattle.clr_needs.specs.Settings.{Setting}
 use Rattle.clr_steps.specs.Offices.{Office, is_kept}
-use Rattle.clr_steps.specs.Quiet.{Site}
+use Rattle.clr_steps.specs.Quiet.{MergeSet}
 use Rattle.clr_steps.specs.Readings.{conflicts_in}
 use Rattle.clr_clearance.specs.declared.verdicts.Verdict.{Verdict}
 use Rattle.clr_clearance.specs.declared.verdicts.Verdict.TheVariants as verdict
 use Rattle.clr_clearance.specs.Plans.{IsBlocked, IsUnfit, of_conflict, of_shared, of_unpicked}
-use Rattle.clr_clearance.specs.Sites.{change_sets, setting_by_position}
+use Rattle.clr_clearance.specs.MergeSets.{change_sets, setting_by_position}
 use Rattle.clr_clearance.specs.Verdicts.{first_conflict, first_repeated, member_fault, missing_member, names_fault, repeated_member, root_fault, stray_member}
-use Rattle.clr_sites.specs.Faults.{IsSiteFault, of_member, without_memory}
+use Rattle.clr_merge_sets.specs.Faults.{IsMergeSetFault, of_member, without_memory}
 use Rattle.clr_plan.specs.declared.plans.Plan.{Plan}
 use Rattle.clr_plan.specs.declared.plans.Plan.TheVariants as plan
 use Rattle.clr_plan.specs.Plans.{IsBlockedIn, IsPlan, IsScenePlan}
@@ -65,7 +65,7 @@ each_is : (P : Verdict → Type 0) (r : Option Verdict) (v : Verdict) → Each P
 each_is P None v h e = let clash : None ≡ Some v = e in absurd (cc)
 each_is P (Some w) v h e = let same : w ≡ v = cc in subst P same h
 
-of_names : (o : Office) (s : Site) → Each OfNames (names_fault o s)
+of_names : (o : Office) (s : MergeSet) → Each OfNames (names_fault o s)
 unfolding names_fault
 of_names o s = each_or OfNames (root_fault o s) (option_or (repeated_member s) (option_or (missing_member o s) (stray_member o s)))
     (each_if OfNames (is_kept o s.root) verdict.NotKept tt)
@@ -89,10 +89,10 @@ none_before None q e = refl
 none_before (Some v) q e = absurd (cc)
 
 -- where no test of members fails, none of names does
-pub no_name_fault : (o : Office) (s : Site) → member_fault o s ≡ None → names_fault o s ≡ None
+pub no_name_fault : (o : Office) (s : MergeSet) → member_fault o s ≡ None → names_fault o s ≡ None
 no_name_fault o s e = none_before (names_fault o s) (first_conflict o 0 s.members) e
 
-module _ (o : Office) (s : Site) where
+module _ (o : Office) (s : MergeSet) where
   found : (v : Verdict) → member_fault o s ≡ Some v → (IsUnfit o s v × OfNames v) ⊎ (((names_fault o s ≡ None) × (first_conflict o 0 s.members ≡ Some v))
       × OfConflicts v)
   found v e = by (either_found (names_fault o s) (first_conflict o 0 s.members) v e)
@@ -103,7 +103,7 @@ module _ (o : Office) (s : Site) where
       by (inr f) = inr (f, each_is OfConflicts (first_conflict o 0 s.members) v (of_conflicts o 0 s.members) f.1)
 
   -- want of memory is no test that fails
-  pub memory_fault : IsSiteFault o s verdict.OutOfMemory → names_fault o s ≡ None
+  pub memory_fault : IsMergeSetFault o s verdict.OutOfMemory → names_fault o s ≡ None
   memory_fault (of_member e) = by (found verdict.OutOfMemory e)
     where
       by : (IsUnfit o s verdict.OutOfMemory × ⊥) ⊎ (((names_fault o s ≡ None) × (first_conflict o 0 s.members ≡ Some verdict.OutOfMemory)) × ⊥)
@@ -114,7 +114,7 @@ module _ (o : Office) (s : Site) where
   memory_fault (without_memory none same) = none
 
   -- a member in conflict is an order of its own
-  conflict_blocks : (at : ℕ) (cell : CellId) (count : ℕ) → IsSiteFault o s (verdict.Conflict at cell count) → (names_fault o s ≡ None)
+  conflict_blocks : (at : ℕ) (cell : CellId) (count : ℕ) → IsMergeSetFault o s (verdict.Conflict at cell count) → (names_fault o s ≡ None)
       × IsBlocked o s (at ∷ []) (verdict.Conflict at cell count)
   conflict_blocks at cell count (of_member e) = by (found (verdict.Conflict at cell count) e)
     where
@@ -132,14 +132,14 @@ module _ (o : Office) (s : Site) where
   blocked_plan order cause (plan.Cleared c) h none blocks = absurd h
   blocked_plan order cause plan.OutOfMemory h none blocks = none
 
-  pub conflict_plan : (at : ℕ) (cell : CellId) (count : ℕ) (p : Plan) → IsSiteFault o s (verdict.Conflict at cell count)
+  pub conflict_plan : (at : ℕ) (cell : CellId) (count : ℕ) (p : Plan) → IsMergeSetFault o s (verdict.Conflict at cell count)
       → IsBlockedIn (at ∷ []) (verdict.Conflict at cell count) p → IsPlan o s p
   conflict_plan at cell count p fault h = let (none, blocks) = conflict_blocks at cell count fault in blocked_plan (at ∷ []) (verdict.Conflict at cell count) p
       h none blocks
 
   -- each other fault is one of names
   pub unfit_plan : (v : Verdict) → ¬ (v ≡ verdict.OutOfMemory) → ((at : ℕ) (cell : CellId) (count : ℕ) → ¬ (v ≡ verdict.Conflict at cell count)) →
-      IsSiteFault o s v
+      IsMergeSetFault o s v
       → IsUnfit o s v
   unfit_plan v not_memory not_conflict (without_memory none same) = absurd (not_memory same)
   unfit_plan v not_memory not_conflict (of_member e) = by (found v e)
@@ -171,7 +171,7 @@ module _ (o : Office) (s : Site) where
   scene_plan c p none apart same h = by p (subst (λ d. IsScenePlan d s p) same h)
     where
       by : (p : Plan) → IsScenePlan (setting_by_position o s) s p → IsPlan o s p
-      by (plan.Cleared cert) h = record { site = h.0; cleared = record { free = none; apart = apart; picked = h.1 } }
+      by (plan.Cleared cert) h = record { merge_set = h.0; cleared = record { free = none; apart = apart; picked = h.1 } }
       by (plan.Blocked order cause) h = of_unpicked h.0 none apart h.1 h.2 h.3
       by (plan.Unfit v) h = absurd h
       by plan.OutOfMemory h = absurd h

@@ -1,13 +1,13 @@
--- No site has two plans.
+-- No merge set has two plans.
 use Rattle.std.proofs.Common.{◌≡◌, ◌∙◌, List, [], ◌∷◌, refl, sym, ap, true, false}
 use Rattle.std.proofs.lemmas.Bool.{true≢false}
 use Rattle.clr_cert.specs.declared.certificates.Certificate.{Certificate}
 use Rattle.clr_cert.specs.declared.certificates.Entry.{Entry}
 use Rattle.clr_steps.specs.Offices.{Office}
-use Rattle.clr_steps.specs.Quiet.{Site}
+use Rattle.clr_steps.specs.Quiet.{MergeSet}
 use Rattle.clr_clearance.proofs.OneAnswerLemmas.{one_blocked, one_cleared, one_kind, one_unfit}
 use Rattle.clr_clearance.specs.declared.verdicts.Verdict.TheVariants as verdict
-use Rattle.clr_sites.specs.Certificates.{entries_in, site_of, witnesses_of}
+use Rattle.clr_merge_sets.specs.Certificates.{entries_in, merge_set_of, witnesses_of}
 use Rattle.clr_plan.specs.declared.plans.Plan.{Plan}
 use Rattle.clr_plan.specs.declared.plans.Plan.TheVariants as plan
 use Rattle.clr_plan.specs.OnePlan.{OnePlanLaw}
@@ -22,8 +22,8 @@ same_entries (e ∷ es) (f ∷ fs) same =
     let tail : entries_in es ≡ entries_in fs = cc in
     λ i. record { need = (head i).0; one = (head i).1; two = (head i).2 } ∷ same_entries es fs tail i
 
-same_certificates : (c d : Certificate) → site_of c ≡ site_of d → entries_in c.entries ≡ entries_in d.entries → c ≡ d
-same_certificates c d site entries = λ i. record { root = (site i).root; members = (site i).members; entries = same_entries c.entries d.entries entries i }
+same_certificates : (c d : Certificate) → merge_set_of c ≡ merge_set_of d → entries_in c.entries ≡ entries_in d.entries → c ≡ d
+same_certificates c d merge_set entries = λ i. record { root = (merge_set i).root; members = (merge_set i).members; entries = same_entries c.entries d.entries entries i }
 
 pub one_plan : OnePlanLaw
 one_plan o s (plan.Unfit v) (plan.Unfit w) one two found found_too = one_unfit o s v w one two
@@ -39,6 +39,6 @@ one_plan o s (plan.Cleared c) (plan.Unfit v) one two found found_too = absurd ((
 one_plan o s (plan.Cleared c) (plan.Blocked order cause) one two found found_too =
     absurd ((one_kind o s cause (entries_in c.entries) order.items cause).2 (one.cleared, two))
 one_plan o s (plan.Cleared c) (plan.Cleared d) one two found found_too =
-    same_certificates c d (one.site ∙ sym two.site) (one_cleared o s (entries_in c.entries) (entries_in d.entries) one.cleared two.cleared)
+    same_certificates c d (one.merge_set ∙ sym two.merge_set) (one_cleared o s (entries_in c.entries) (entries_in d.entries) one.cleared two.cleared)
 one_plan o s (plan.Cleared c) plan.OutOfMemory one two found found_too = absurd (true≢false found_too)
 one_plan o s plan.OutOfMemory q one two found found_too = absurd (true≢false found)

@@ -5,14 +5,14 @@ use Rattle.std.proofs.lemmas.Bool.{false≢true}
 use Rattle.std.specs.Option.{option_or}
 use Rattle.clr_steps.specs.Invariants.{HoldsWhereKept}
 use Rattle.clr_steps.specs.Offices.{Office, is_kept}
-use Rattle.clr_steps.specs.Quiet.{Site, root_content}
+use Rattle.clr_steps.specs.Quiet.{MergeSet, root_content}
 use Rattle.clr_clearance.specs.declared.verdicts.Verdict.{Verdict}
 use Rattle.clr_clearance.specs.declared.verdicts.Verdict.TheVariants as verdict
 use Rattle.clr_clearance.specs.Headline.{NamesTheSame}
 use Rattle.clr_clearance.specs.PlanLaws.{StaysClear}
 use Rattle.clr_clearance.specs.Plans.{IsBlocked, of_conflict, of_shared, of_unpicked, standing}
 use Rattle.clr_clearance.specs.Safety.{Safe}
-use Rattle.clr_clearance.specs.Sites.{RootHolds}
+use Rattle.clr_clearance.specs.MergeSets.{RootHolds}
 use Rattle.clr_clearance.specs.Verdicts.{missing_member, names_fault, repeated_member, stray_member}
 use Rattle.clr_clearance.proofs.ClearLemmas.{clear_law}
 use Rattle.clr_clearance.proofs.HeadlineLemmas.{headline}
@@ -20,7 +20,7 @@ use Rattle.clr_clearance.proofs.LastingLemmas.{lasting_reordered}
 use Rattle.clr_clearance.proofs.PlanLemmas as plans
 use Rattle.clr_plan.specs.declared.plans.Plan.{Plan}
 use Rattle.clr_plan.specs.declared.plans.Plan.TheVariants as plan
-use Rattle.clr_sites.specs.Certificates.{entries_in}
+use Rattle.clr_merge_sets.specs.Certificates.{entries_in}
 use Rattle.clr_plan.specs.Plans.{IsPlan}
 use Rattle.clr_plan.specs.Promises.{IsExact, IsUnfitWhere, Promises, StaysCleared, is_cleared, is_out_of_memory}
 use Rattle.clr_plan.proofs.FaultLaws.{no_name_fault}
@@ -28,7 +28,7 @@ use Rattle.clr_plan.proofs.FaultLaws.{no_name_fault}
 not_found : (v : Verdict) → None ≡ Some v → ⊥
 not_found v e = absurd (cc)
 
-module _ (o : Office) (s : Site) where
+module _ (o : Office) (s : MergeSet) where
   is_there : (b : Bool) (q : Option Verdict) → option_or (cond b None (Some verdict.NotKept)) q ≡ None → b ≡ true
   is_there true q e = refl
   is_there false q e = absurd (not_found verdict.NotKept (sym e))
@@ -44,19 +44,19 @@ module _ (o : Office) (s : Site) where
   named order cause (of_shared cell i j none shared same is) = no_name_fault o s none
   named order cause (of_unpicked n none apart first blocks is) = no_name_fault o s none
 
-pub unfit_law : (o : Office) (s : Site) (p : Plan) → IsPlan o s p → IsUnfitWhere o s p
+pub unfit_law : (o : Office) (s : MergeSet) (p : Plan) → IsPlan o s p → IsUnfitWhere o s p
 unfit_law o s (plan.Unfit w) h v e = ap plan.Unfit (let both : Some w ≡ Some v = sym h ∙ e in cc)
 unfit_law o s (plan.Blocked order cause) h v e = absurd (not_found v (sym (named o s order.items cause h) ∙ e))
 unfit_law o s (plan.Cleared c) h v e = absurd (not_found v (sym (no_name_fault o s h.cleared.free) ∙ e))
 unfit_law o s plan.OutOfMemory h v e = absurd (not_found v (sym h ∙ e))
 
-pub promise_law : (o : Office) (s : Site) (p : Plan) → HoldsWhereKept o → IsPlan o s p → Promises o s p
+pub promise_law : (o : Office) (s : MergeSet) (p : Plan) → HoldsWhereKept o → IsPlan o s p → Promises o s p
 promise_law o s (plan.Cleared c) holds h =
     let covers = plans.cleared_plan o s (entries_in c.entries) h.cleared in
     let clear = (clear_law o s (entries_in c.entries)).1 covers in
     let root = root_holds o s holds (no_name_fault o s h.cleared.free) in
     record {
-      names = h.site;
+      names = h.merge_set;
       covers = covers;
       clear = clear;
       safe = plans.cleared_safe o s (entries_in c.entries) h.cleared root;
@@ -68,7 +68,7 @@ promise_law o s (plan.Blocked order cause) holds h =
 promise_law o s (plan.Unfit v) holds h = tt
 promise_law o s plan.OutOfMemory holds h = tt
 
-pub exact_law : (o : Office) (s : Site) (p : Plan) → HoldsWhereKept o → IsPlan o s p → IsExact o s p
+pub exact_law : (o : Office) (s : MergeSet) (p : Plan) → HoldsWhereKept o → IsPlan o s p → IsExact o s p
 exact_law o s p holds h none found = by p h found (promise_law o s p holds h)
   where
     by : (p : Plan) → IsPlan o s p → is_out_of_memory p ≡ false → Promises o s p → (is_cleared p ≡ true) ↔ Safe o s
@@ -78,14 +78,14 @@ exact_law o s p holds h none found = by p h found (promise_law o s p holds h)
     by plan.OutOfMemory h found t = absurd (false≢true (sym found))
 
 -- where no test fails and no plan is blocked, the plan is cleared
-stays : (o : Office) (s : Site) (p : Plan) → StaysClear o s → IsPlan o s p → is_out_of_memory p ≡ false → is_cleared p ≡ true
+stays : (o : Office) (s : MergeSet) (p : Plan) → StaysClear o s → IsPlan o s p → is_out_of_memory p ≡ false → is_cleared p ≡ true
 stays o s (plan.Cleared c) clear h found = refl
 stays o s (plan.Blocked order cause) clear h found = absurd (clear.unblocked order.items cause h)
 stays o s (plan.Unfit v) clear h found = absurd (not_found v (sym (no_name_fault o s clear.free) ∙ h))
 stays o s plan.OutOfMemory clear h found = absurd (false≢true (sym found))
 
-pub lasting_law : (o : Office) (s : Site) (p : Plan) → IsPlan o s p → StaysCleared o s p
-lasting_law o s p h first site entries commands lost covers holds quiet later same once found =
-    let clear = lasting_reordered first site entries commands lost covers holds quiet in
-    stays o s p (subst (λ now. (other : Site) → NamesTheSame (standing now site) other → repeated_member other ≡ None → StaysClear now other) (sym later) clear
+pub lasting_law : (o : Office) (s : MergeSet) (p : Plan) → IsPlan o s p → StaysCleared o s p
+lasting_law o s p h first merge_set entries commands lost covers holds quiet later same once found =
+    let clear = lasting_reordered first merge_set entries commands lost covers holds quiet in
+    stays o s p (subst (λ now. (other : MergeSet) → NamesTheSame (standing now merge_set) other → repeated_member other ≡ None → StaysClear now other) (sym later) clear
     s same once) h found

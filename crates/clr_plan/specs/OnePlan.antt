@@ -1,7 +1,7 @@
--- No site has two plans, memory aside.
+-- No merge set has two plans, memory aside.
 use Rattle.std.specs.Prelude.{◌≡◌, Bool, false}
 use Rattle.clr_steps.specs.Offices.{Office}
-use Rattle.clr_steps.specs.Quiet.{Site}
+use Rattle.clr_steps.specs.Quiet.{MergeSet}
 use Rattle.clr_plan.specs.declared.plans.Plan.{Plan}
 use Rattle.clr_plan.specs.declared.plans.Plan.TheVariants as plan
 use Rattle.clr_plan.specs.Plans.{IsPlan}
@@ -15,4 +15,4 @@ AreAlike (plan.Cleared c) (plan.Cleared d) = c ≡ d
 AreAlike _ _ = ⊥
 
 abbrev pub OnePlanLaw : Type 0
-OnePlanLaw = (o : Office) (s : Site) (p q : Plan) → IsPlan o s p → IsPlan o s q → is_out_of_memory p ≡ false → is_out_of_memory q ≡ false → AreAlike p q
+OnePlanLaw = (o : Office) (s : MergeSet) (p q : Plan) → IsPlan o s p → IsPlan o s q → is_out_of_memory p ≡ false → is_out_of_memory q ≡ false → AreAlike p q

@@ -2,7 +2,7 @@
 use Rattle.std.specs.Prelude.{ℕ}
 use Rattle.clr_needs.specs.Settings.{Setting}
 use Rattle.clr_clearance.specs.Plans.{ArePicked, IsFirstUnpicked}
-use Rattle.clr_sites.specs.Certificates.{entries_in}
+use Rattle.clr_merge_sets.specs.Certificates.{entries_in}
 use Rattle.clr_plan.specs.declared.picked.Picked.{Picked}
 use Rattle.clr_plan.specs.declared.picked.Picked.TheVariants as picked
 

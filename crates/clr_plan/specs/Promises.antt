@@ -4,7 +4,7 @@ use Rattle.clr_cert.specs.declared.certificates.Certificate.{Certificate}
 use Rattle.clr_needs.specs.Covers.{Entry}
 use Rattle.clr_steps.specs.declared.commands.Command.{Command}
 use Rattle.clr_steps.specs.Offices.{Office}
-use Rattle.clr_steps.specs.Quiet.{Site}
+use Rattle.clr_steps.specs.Quiet.{MergeSet}
 use Rattle.clr_steps.specs.Steps.{run}
 use Rattle.clr_clearance.specs.declared.verdicts.Verdict.{Verdict}
 use Rattle.clr_clearance.specs.declared.verdicts.Verdict.TheVariants as verdict
@@ -12,26 +12,26 @@ use Rattle.clr_clearance.specs.Headline.{Headline, NamesTheSame}
 use Rattle.clr_clearance.specs.Plans.{IsUnfit, is_order_refused, members_at, standing}
 use Rattle.clr_clearance.specs.Runs.{AreQuiet}
 use Rattle.clr_clearance.specs.Safety.{Safe}
-use Rattle.clr_clearance.specs.Sites.{Covers, RootHolds}
+use Rattle.clr_clearance.specs.MergeSets.{Covers, RootHolds}
 use Rattle.clr_clearance.specs.Verdicts.{IsVerdict, names_fault, repeated_member}
-use Rattle.clr_sites.specs.Certificates.{entries_in, site_of}
+use Rattle.clr_merge_sets.specs.Certificates.{entries_in, merge_set_of}
 use Rattle.clr_plan.specs.declared.plans.Plan.{Plan}
 use Rattle.clr_plan.specs.declared.plans.Plan.TheVariants as plan
 
 -- the certificate covers the members as they are given, so that the verdict on it is clear; and they are safe, as the headline says
-pub record IsProof (o : Office) (s : Site) (c : Certificate) : Type 0 where
-  pub names : site_of c ≡ s
+pub record IsProof (o : Office) (s : MergeSet) (c : Certificate) : Type 0 where
+  pub names : merge_set_of c ≡ s
   pub covers : Covers o s (entries_in c.entries)
   pub clear : IsVerdict o s (entries_in c.entries) verdict.Clear
   pub safe : Safe o s
   pub headline : Headline o s
 
 -- of the merges of the members in this order, the workspaces kept, one meets a conflict or breaks a rule
-pub record IsRefusedOrder (o : Office) (s : Site) (order : List ℕ) : Type 0 where
+pub record IsRefusedOrder (o : Office) (s : MergeSet) (order : List ℕ) : Type 0 where
   pub refused : is_order_refused o (members_at s order) ≡ true
   pub unsafe : ¬ (Safe o s)
 
-abbrev pub Promises : Office → Site → Plan → Type 0
+abbrev pub Promises : Office → MergeSet → Plan → Type 0
 Promises o s (plan.Cleared c) = IsProof o s c
 Promises o s (plan.Blocked order cause) = IsRefusedOrder o s order.items
 Promises o s (plan.Unfit v) = Unit {0}
@@ -50,21 +50,21 @@ is_out_of_memory (plan.Unfit v) = false
 is_out_of_memory plan.OutOfMemory = true
 
 -- where no test of names fails and memory was found, the plan is cleared exactly where the members are safe
-abbrev pub IsExact : Office → Site → Plan → Type 0
+abbrev pub IsExact : Office → MergeSet → Plan → Type 0
 IsExact o s p = names_fault o s ≡ None → is_out_of_memory p ≡ false → (is_cleared p ≡ true) ↔ Safe o s
 
 -- where a test of names fails, the plan is unfit with that test
-abbrev pub IsUnfitWhere : Office → Site → Plan → Type 0
+abbrev pub IsUnfitWhere : Office → MergeSet → Plan → Type 0
 IsUnfitWhere o s p = (v : Verdict) → IsUnfit o s v → p ≡ plan.Unfit v
 
--- the members of a covered site that stand after quiet commands are cleared, in whichever order they are named, memory aside
-abbrev pub StaysCleared : Office → Site → Plan → Type 0
-StaysCleared o s p = (first : Office) (site : Site) (entries : List Entry) (commands : List Command) (lost : ℕ → Bool)
-    → Covers first site entries
-    → RootHolds first site
-    → AreQuiet first site commands lost
+-- the members of a covered merge set that stand after quiet commands are cleared, in whichever order they are named, memory aside
+abbrev pub StaysCleared : Office → MergeSet → Plan → Type 0
+StaysCleared o s p = (first : Office) (merge_set : MergeSet) (entries : List Entry) (commands : List Command) (lost : ℕ → Bool)
+    → Covers first merge_set entries
+    → RootHolds first merge_set
+    → AreQuiet first merge_set commands lost
     → o ≡ (run first commands lost).office
-    → NamesTheSame (standing o site) s
+    → NamesTheSame (standing o merge_set) s
     → repeated_member s ≡ None
     → is_out_of_memory p ≡ false
     → is_cleared p ≡ true

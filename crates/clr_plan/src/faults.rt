@@ -3,10 +3,10 @@
 ghost use Rattle.std.specs.Prelude.{◌≡◌, None};
 ghost use Rattle.clr_needs.specs.Members.{IsSceneFault};
 ghost use Rattle.clr_steps.specs.Offices.{Office};
-ghost use Rattle.clr_steps.specs.Quiet.{Site};
-ghost use Rattle.clr_clearance.specs.Sites.{change_sets};
+ghost use Rattle.clr_steps.specs.Quiet.{MergeSet};
+ghost use Rattle.clr_clearance.specs.MergeSets.{change_sets};
 ghost use Rattle.clr_clearance.specs.Verdicts.{member_fault};
-ghost use Rattle.clr_sites.specs.Faults.{IsSiteFault};
+ghost use Rattle.clr_merge_sets.specs.Faults.{IsMergeSetFault};
 ghost use Rattle.clr_plan.specs.Plans.{IsBlockedIn, IsPlan};
 
 use crate::plans::Plan;
@@ -27,7 +27,7 @@ fn blocked_plan(alloc: Global, order: &[usize], cause: Verdict) -> Plan
 /// Returns the plan where a test of names or the test for conflicts fails: the member in conflict is
 /// an order of its own.
 pub(crate) fn plan_fault(alloc: Global, fault: Verdict) -> Plan
-    ensures { (o : Office) (s : Site) → IsSiteFault o s fault → IsPlan o s result }
+    ensures { (o : Office) (s : MergeSet) → IsMergeSetFault o s fault → IsPlan o s result }
 {
     match fault {
         Verdict::OutOfMemory => Plan::OutOfMemory,
@@ -51,7 +51,7 @@ pub(crate) fn plan_fault(alloc: Global, fault: Verdict) -> Plan
 /// Returns the plan where there is no scene: the first two members that change a cell are an order.
 #[tactic(auto, using(crate::proofs::FaultLaws::shared_plan))]
 pub(crate) fn plan_shared(alloc: Global, fault: SceneFault) -> Plan
-    ensures { (o : Office) (s : Site) → member_fault o s ≡ None → IsSceneFault (change_sets o s) fault → IsPlan o s result }
+    ensures { (o : Office) (s : MergeSet) → member_fault o s ≡ None → IsSceneFault (change_sets o s) fault → IsPlan o s result }
 {
     match fault {
         SceneFault::OutOfMemory => Plan::OutOfMemory,

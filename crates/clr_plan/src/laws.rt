@@ -2,8 +2,8 @@
 
 ghost use Rattle.clr_plan.specs.OnePlan.{OnePlanLaw};
 
-/// No site has two plans: where memory is found, any two plans of a site have one reason, one order
+/// No merge set has two plans: where memory is found, any two plans of a merge set have one reason, one order
 /// and one cause, or one certificate.
-pub fn plans_of_a_site_are_alike()
+pub fn plans_of_a_merge_set_are_alike()
     ensures { OnePlanLaw }
 {}

@@ -15,7 +15,7 @@
 //!   named.
 //! - Where members fall into groups, witnesses are picked in the scene of each group, by
 //!   `groups_split_needs`; the answer is the same, word for word.
-//! - `plans_of_a_site_are_alike`: what `plan` promises is true of one answer alone, memory aside.
+//! - `plans_of_a_merge_set_are_alike`: what `plan` promises is true of one answer alone, memory aside.
 #![tactic(auto)]
 
 mod certificates;
@@ -29,6 +29,6 @@ mod planner;
 mod plans;
 mod scene_plans;
 
-pub use laws::plans_of_a_site_are_alike;
+pub use laws::plans_of_a_merge_set_are_alike;
 pub use planner::plan;
 pub use plans::Plan;

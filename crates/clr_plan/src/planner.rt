@@ -1,9 +1,9 @@
 //! Plans of members that are to be merged.
 
 ghost use Rattle.std.specs.Prelude.{map};
-ghost use Rattle.clr_steps.specs.Quiet.{Site};
-ghost use Rattle.clr_sites.specs.SiteNames.{site};
-ghost use Rattle.clr_sites.specs.Sites.{AreParts};
+ghost use Rattle.clr_steps.specs.Quiet.{MergeSet};
+ghost use Rattle.clr_merge_sets.specs.MergeSetNames.{merge_set};
+ghost use Rattle.clr_merge_sets.specs.MergeSets.{AreParts};
 ghost use Rattle.clr_plan.specs.Plans.{IsPlan};
 ghost use Rattle.clr_plan.specs.Promises.{IsExact, IsUnfitWhere, Promises, StaysCleared};
 
@@ -11,19 +11,19 @@ use crate::faults::{plan_fault, plan_shared};
 use crate::plans::Plan;
 use crate::scene_plans::plan_scene;
 use clr_engine::Office;
-use clr_sites::{SiteParts, read_site};
+use clr_merge_sets::{MergeSetParts, read_merge_set};
 use std::alloc::Global;
 
-/// Returns the plan that the parts of a site decide.
+/// Returns the plan that the parts of a merge set decide.
 fn plan_parts(
     alloc: Global,
     office: &Office,
-    parts: &SiteParts<'_>,
+    parts: &MergeSetParts<'_>,
     root: &str,
     members: &[&str],
 ) -> Plan
-    requires { AreParts office.now (site root.now (map (λ name. name.now) members.now)) parts.now }
-    ensures { IsPlan office.now (site root.now (map (λ name. name.now) members.now)) result }
+    requires { AreParts office.now (merge_set root.now (map (λ name. name.now) members.now)) parts.now }
+    ensures { IsPlan office.now (merge_set root.now (map (λ name. name.now) members.now)) result }
 {
     match parts.scene(alloc, office) {
         Ok(scene) => match plan_scene(alloc, &scene, root, members) {
@@ -43,14 +43,14 @@ fn plan_parts(
 /// `Blocked`. What was cleared stays cleared for the members that still stand, in whichever order
 /// they are named, after every list of quiet commands.
 pub fn plan(alloc: Global, office: &Office, root: &str, members: &[&str]) -> Plan
-    ensures plan { IsPlan office.now (site root.now (map (λ name. name.now) members.now)) result }
-    ensures unfit { IsUnfitWhere office.now (site root.now (map (λ name. name.now) members.now)) result }
-    ensures promises { Promises office.now (site root.now (map (λ name. name.now) members.now)) result }
-    ensures exact { IsExact office.now (site root.now (map (λ name. name.now) members.now)) result }
-    ensures lasts { StaysCleared office.now (site root.now (map (λ name. name.now) members.now)) result }
+    ensures plan { IsPlan office.now (merge_set root.now (map (λ name. name.now) members.now)) result }
+    ensures unfit { IsUnfitWhere office.now (merge_set root.now (map (λ name. name.now) members.now)) result }
+    ensures promises { Promises office.now (merge_set root.now (map (λ name. name.now) members.now)) result }
+    ensures exact { IsExact office.now (merge_set root.now (map (λ name. name.now) members.now)) result }
+    ensures lasts { StaysCleared office.now (merge_set root.now (map (λ name. name.now) members.now)) result }
 {
     let _rules = office.book();
-    match read_site(alloc, office, root, &members) {
+    match read_merge_set(alloc, office, root, &members) {
         Ok(parts) => plan_parts(alloc, office, &parts, root, members),
         Err(fault) => plan_fault(alloc, fault),
     }

@@ -6,11 +6,11 @@ use Rattle.clr_rows.specs.Contents.{Content, no_rows}
 use Rattle.clr_workspaces.specs.Marks.{Name}
 use Rattle.clr_needs.specs.declared.needs.VersionId.{VersionId}
 use Rattle.clr_steps.specs.Offices.{Office, content_of}
-use Rattle.clr_steps.specs.Quiet.{Site}
+use Rattle.clr_steps.specs.Quiet.{MergeSet}
 use Rattle.clr_steps.specs.Readings.{if_stands}
 use Rattle.clr_clearance.specs.declared.verdicts.Verdict.{Verdict}
 use Rattle.clr_clearance.specs.declared.verdicts.Verdict.TheVariants as verdict
-use Rattle.clr_clearance.specs.Sites.{change_sets}
+use Rattle.clr_clearance.specs.MergeSets.{change_sets}
 use Rattle.clr_plan.specs.declared.plans.Plan.{Plan}
 use Rattle.clr_plan.specs.declared.plans.Plan.TheVariants as plan
 use Rattle.clr_geojson.specs.declared.features.Feature.{Feature}
@@ -63,12 +63,12 @@ abbrev pub rows_of_root : Office → Name → Content
 rows_of_root o root = unwrap_or (if_stands o root (content_of o root)) no_rows
 
 -- what stands and isn't changed, what each member changes, and the place of the cause, if it has one
-abbrev pub plan_features : Office → Site → Plan → Option Spot → List Feature
+abbrev pub plan_features : Office → MergeSet → Plan → Option Spot → List Feature
 plan_features o s p spot =
     standing_features o.schema (cause_cells p) s.root (change_sets o s) (rows_of_root o s.root)
     ++ changed_features o.schema (cause_cells p) s.members (change_sets o s) ++ spot_features spot
 
 -- the text of these features; a plan that blocks nothing has no place of a cause
-abbrev pub AreFeatures : Office → Site → Plan → Option ℕ → List ℕ → Type 0
+abbrev pub AreFeatures : Office → MergeSet → Plan → Option ℕ → List ℕ → Type 0
 AreFeatures o s p system text =
     (spot : Option Spot) × (is_some spot ≡ true → is_blocked p ≡ true) × (text ≡ collection_text system (plan_features o s p spot))

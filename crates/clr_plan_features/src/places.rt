@@ -39,7 +39,7 @@ fn place_between(one: &Shape, other: &Shape) -> Option<Place> {
 /// between them.
 fn marked_place(cause: &Cause) -> Option<Place> {
     match cause.mark {
-        Mark::Ring(site) => Some(site.place),
+        Mark::Ring(ring) => Some(ring.place),
         Mark::Near(_) => {
             let rows = cause.rows.as_slice();
             place_between(&rows.first()?.row.shape, &rows.get(1)?.row.shape)

@@ -1,7 +1,7 @@
 //! The features of a plan.
 
 ghost use Rattle.std.specs.Prelude.{◌≡◌, map, IfOk};
-ghost use Rattle.clr_sites.specs.SiteNames.{site};
+ghost use Rattle.clr_merge_sets.specs.MergeSetNames.{merge_set};
 ghost use Rattle.clr_plan_features.specs.PlanFeatures.{AreFeatures, rows_of_root};
 
 use crate::causes::cause_cells;
@@ -37,7 +37,7 @@ pub fn plan_features(
     plan: &Plan,
     system: Option<u32>,
 ) -> Result<Vec<u8>, AllocError>
-    ensures { IfOk result (λ text. AreFeatures office.now (site root.now (map (λ name. name.now) members.now)) plan.now system text.items) }
+    ensures { IfOk result (λ text. AreFeatures office.now (merge_set root.now (map (λ name. name.now) members.now)) plan.now system text.items) }
 {
     let rows = rows_of(alloc, office, root)?;
     let designs = Members::read(alloc, office, root, members)?;

@@ -8,7 +8,7 @@ use Rattle.clr_rows.specs.declared.tables.TableDef.{TableDef}
 use Rattle.clr_rows.specs.Names.{live_name}
 use Rattle.clr_workspaces.specs.Marks.{Name}
 use Rattle.clr_steps.specs.Offices.{Office}
-use Rattle.clr_steps.specs.Quiet.{Site}
+use Rattle.clr_steps.specs.Quiet.{MergeSet}
 use Rattle.clr_plan.specs.declared.plans.Plan.{Plan}
 use Rattle.clr_plan_lines.specs.Plans.{plan_text}
 use Rattle.clr_html.specs.declared.blocks.Block.{Block}
@@ -59,7 +59,7 @@ pub record IsReportPage (tables : List TableDef) (members : List Name) (root : N
   pub ends : EndsWith foot (command_text members root ++ plan_text tables members root p)
 
 -- the text of such a page, whose picture is the map of the plan
-abbrev pub IsReport : Office → Site → Plan → List ℕ → Type 0
+abbrev pub IsReport : Office → MergeSet → Plan → List ℕ → Type 0
 IsReport o s p text =
     (picture : List ℕ) × (page : Page) × IsMap o.schema s.members s.root p picture × IsReportPage o.schema s.members s.root p picture page
     × (text ≡ html_page_text page)

@@ -4,7 +4,7 @@ use crate::sections::{Builder, row_of, table_of};
 use clr_clearance::Verdict;
 use clr_html::{Block, Row, Table};
 use clr_plan_words::{Members, Setting};
-use clr_site_clashes::{SiteClash, SiteClashes, names_at, site_clashes};
+use clr_merge_clashes::{MergeClash, MergeClashes, names_at, merge_clashes};
 use clr_wording::add_names;
 use std::alloc::{AllocError, Global};
 
@@ -16,7 +16,7 @@ fn listed(alloc: Global, names: &[&str]) -> Result<String, AllocError> {
 }
 
 /// Returns the row of a set: its members, and why they can't be merged together.
-fn clash_row(setting: Setting<'_>, clash: &SiteClash) -> Result<Row, AllocError> {
+fn clash_row(setting: Setting<'_>, clash: &MergeClash) -> Result<Row, AllocError> {
     let alloc = setting.alloc;
     let names = names_at(alloc, setting.members.names, clash.members.as_slice())?;
     let members = Members::read(
@@ -36,7 +36,7 @@ fn clash_row(setting: Setting<'_>, clash: &SiteClash) -> Result<Row, AllocError>
 }
 
 /// Returns the table of sets.
-fn clashes_table(setting: Setting<'_>, clashes: &[SiteClash]) -> Result<Table, AllocError> {
+fn clashes_table(setting: Setting<'_>, clashes: &[MergeClash]) -> Result<Table, AllocError> {
     let mut table = table_of(setting.alloc, &["Designs", "Why not together"])?;
     for clash in clashes {
         table.rows.push(clash_row(setting, clash)?)?;
@@ -48,7 +48,7 @@ fn clashes_table(setting: Setting<'_>, clashes: &[SiteClash]) -> Result<Table, A
 fn add_found(
     section: &mut Builder,
     setting: Setting<'_>,
-    found: &SiteClashes,
+    found: &MergeClashes,
 ) -> Result<(), AllocError> {
     if found.clashes.as_slice().is_empty() {
         return section.add_paragraph("No set of these designs clashes.");
@@ -60,7 +60,7 @@ fn add_found(
 /// Adds the smallest sets of members that can't be merged together; nothing where a name is unfit. Where there was no
 /// memory for the sets, this call fails too.
 pub(crate) fn add_clashes(section: &mut Builder, setting: Setting<'_>) -> Result<(), AllocError> {
-    match site_clashes(
+    match merge_clashes(
         setting.alloc,
         setting.office,
         setting.members.root,

@@ -1,7 +1,7 @@
 //! The report of a plan.
 
 ghost use Rattle.std.specs.Prelude.{◌≡◌, map, IfOk};
-ghost use Rattle.clr_sites.specs.SiteNames.{site};
+ghost use Rattle.clr_merge_sets.specs.MergeSetNames.{merge_set};
 ghost use Rattle.clr_plan_report.specs.Reports.{IsReport, IsReportPage};
 
 use crate::causes::add_cause;
@@ -114,7 +114,7 @@ pub fn plan_report(
     members: &[&str],
     plan: &Plan,
 ) -> Result<Vec<u8>, AllocError>
-    ensures report { IfOk result (λ text. IsReport office.old (site root.now (map (λ name. name.now) members.now)) plan.now text.items) }
+    ensures report { IfOk result (λ text. IsReport office.old (merge_set root.now (map (λ name. name.now) members.now)) plan.now text.items) }
     ensures back { IfOk result (λ text. office.new ≡ office.old) }
 {
     let picture = plan_map(alloc, office, root, members, plan)?;

@@ -20,7 +20,7 @@ fn badge_of_server(
         return format!(in alloc; "its {server} goes");
     }
     match mark {
-        Mark::Ring(site) if !site.is_whole => format!(in alloc; "no {server} can stand here"),
+        Mark::Ring(ring) if !ring.is_whole => format!(in alloc; "no {server} can stand here"),
         _ => format!(in alloc; "no {server} here"),
     }
 }

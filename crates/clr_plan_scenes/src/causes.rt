@@ -94,7 +94,7 @@ fn mark_of(field: Field<'_>, rule: &Rule, need: &Need, rows: &[CauseRow]) -> Mar
         Rule::Unique { .. } => Mark::Link,
         Rule::Near { d, .. } => Mark::Near(*d),
         _ => match place_of_need(field, need, rows) {
-            Some(site) => Mark::Ring(site),
+            Some(ring) => Mark::Ring(ring),
             None => Mark::Nothing,
         },
     }

@@ -59,7 +59,7 @@ pub(crate) fn extent_of_cause(cause: &Cause) -> Option<Bounds> {
     let extent = extent_of_cause_rows(None, cause.rows.as_slice());
     let extent = extent_of_cause_rows(extent, cause.goers.as_slice());
     match cause.mark {
-        Mark::Ring(site) => extent_of(extent, &Shape::At(site.place)),
+        Mark::Ring(ring) => extent_of(extent, &Shape::At(ring.place)),
         _ => extent,
     }
 }

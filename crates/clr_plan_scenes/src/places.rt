@@ -4,7 +4,7 @@ use crate::causes::CauseRow;
 use crate::fields::Field;
 use clr_drawing::middle_of;
 use clr_needs::Need;
-use clr_plan_words::site_of;
+use clr_plan_words::need_place;
 use clr_rows::Place;
 use clr_segments::part;
 use clr_wording::Meeting;
@@ -94,7 +94,7 @@ pub(crate) fn place_of_need(
     need: &Need,
     rows: &[CauseRow],
 ) -> Option<CausePlace> {
-    match site_of(field.office, &field.designs.members, need) {
+    match need_place(field.office, &field.designs.members, need) {
         Meeting::Whole(place) => Some(CausePlace {
             place,
             is_whole: true,

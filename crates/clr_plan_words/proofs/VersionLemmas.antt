@@ -14,8 +14,8 @@ use Rattle.clr_needs.specs.Members.{after_at, after_of, positions}
 use Rattle.clr_needs.specs.Settings.{Lived, first_changer, new_row, new_version, old_version, version}
 use Rattle.clr_versions.proofs.SharedCells.{changes_mapped}
 use Rattle.clr_steps.specs.Offices.{Office, content_of}
-use Rattle.clr_steps.specs.Quiet.{Site, root_content}
-use Rattle.clr_clearance.specs.Sites.{change_sets}
+use Rattle.clr_steps.specs.Quiet.{MergeSet, root_content}
+use Rattle.clr_clearance.specs.MergeSets.{change_sets}
 use Rattle.clr_plan_words.specs.Versions.{change_row, new_row_at, row_by, row_in, row_of_changer}
 
 -- the row of a version that a member of a position brings
@@ -39,14 +39,14 @@ old_is : (at : Option ℕ) (row : Option Row) → option_map (λ (l : Lived ℕ)
 old_is at None = refl
 old_is at (Some row) = refl
 
-pub new_row_is : (o : Office) (s : Site) (v : VersionId) (sets : List Changes) (row : Option Row) → sets ≡ change_sets o s → v.fresh ≡ true
+pub new_row_is : (o : Office) (s : MergeSet) (v : VersionId) (sets : List Changes) (row : Option Row) → sets ≡ change_sets o s → v.fresh ≡ true
     → row ≡ new_row_at sets v.cell → row ≡ row_in o s v
 unfolding version
 new_row_is o s v sets row are fresh e =
     e ∙ ap (λ (ss : List Changes). new_row_at ss v.cell) are ∙ sym (rw fresh (new_is (change_sets o s) v.cell (first_changer (after_of (change_sets o s))
     (positions (change_sets o s)) v.cell)))
 
-pub old_row_is : (o : Office) (s : Site) (v : VersionId) (root : Name) (row : Option Row) → root ≡ s.root → v.fresh ≡ false
+pub old_row_is : (o : Office) (s : MergeSet) (v : VersionId) (root : Name) (row : Option Row) → root ≡ s.root → v.fresh ≡ false
     → row ≡ row_at (content_of o root) v.cell → row ≡ row_in o s v
 unfolding version root_content
 old_row_is o s v root row is stale e =

@@ -1,4 +1,4 @@
 pub mod Counts
 pub mod Servers
-pub mod Sites
+pub mod NeedPlaces
 pub mod Versions

@@ -16,8 +16,8 @@ use Rattle.clr_needs.specs.declared.needs.Need.{Need}
 use Rattle.clr_needs.specs.declared.needs.VersionId.{VersionId}
 use Rattle.clr_needs.specs.Needs.{ask_of}
 use Rattle.clr_steps.specs.Offices.{Office}
-use Rattle.clr_steps.specs.Quiet.{Site}
-use Rattle.clr_clearance.specs.Sites.{change_sets}
+use Rattle.clr_steps.specs.Quiet.{MergeSet}
+use Rattle.clr_clearance.specs.MergeSets.{change_sets}
 use Rattle.clr_plan_words.specs.declared.servers.Asked.{Asked}
 use Rattle.clr_plan_words.specs.declared.servers.ServerChange.{ServerChange}
 use Rattle.clr_plan_words.specs.Versions.{row_in}
@@ -30,17 +30,17 @@ pub record Subjects : Type 0 where
 abbrev pub subjects_of : Asked → Subjects
 subjects_of asked = record { first = held_of asked.first; second = option_map held_of asked.second }
 
--- the row of a version at its cell, if the site has the version
-abbrev pub held_in : Office → Site → VersionId → Option Held
+-- the row of a version at its cell, if the merge set has the version
+abbrev pub held_in : Office → MergeSet → VersionId → Option Held
 held_in o s v = option_map (λ row. (v.cell, row)) (row_in o s v)
 
 -- the subjects, where the second stands too, if there is to be one
-abbrev pub with_second : Office → Site → Option VersionId → Held → Option Subjects
+abbrev pub with_second : Office → MergeSet → Option VersionId → Held → Option Subjects
 with_second o s None first = Some (record { first = first; second = None })
 with_second o s (Some v) first = option_map (λ second. record { first = first; second = Some second }) (held_in o s v)
 
 -- the rows of a need's subjects, if all of them stand
-abbrev pub subjects_in : Office → Site → Need → Option Subjects
+abbrev pub subjects_in : Office → MergeSet → Need → Option Subjects
 subjects_in o s need = option_and_then (with_second o s need.second) (held_in o s need.first)
 
 abbrev pub fits : List TableDef → Held → Bool
@@ -77,6 +77,6 @@ abbrev pub changes_by : Office → Need → List Changes → Option Subjects →
 changes_by o need sets None = []
 changes_by o need sets (Some subjects) = flat_map (changes_of_member o need subjects) (enumerate_from 0 sets)
 
--- the changes of a site's members that bring a row which serves the need, or take one away
-abbrev pub server_changes : Office → Site → Need → List ServerChange
+-- the changes of a merge set's members that bring a row which serves the need, or take one away
+abbrev pub server_changes : Office → MergeSet → Need → List ServerChange
 server_changes o s need = changes_by o need (change_sets o s) (subjects_in o s need)

@@ -10,19 +10,19 @@ use Rattle.clr_needs.specs.declared.needs.VersionId.{VersionId}
 use Rattle.clr_needs.specs.Members.{after_of, positions}
 use Rattle.clr_needs.specs.Settings.{first_changer, version}
 use Rattle.clr_steps.specs.Offices.{Office}
-use Rattle.clr_steps.specs.Quiet.{Site}
-use Rattle.clr_clearance.specs.Sites.{change_sets, setting_by_position}
+use Rattle.clr_steps.specs.Quiet.{MergeSet}
+use Rattle.clr_clearance.specs.MergeSets.{change_sets, setting_by_position}
 use Rattle.clr_plan_words.specs.declared.members.Members.{Members}
 use Rattle.clr_plan_words.specs.declared.members.Standing.{Standing}
 use Rattle.clr_plan_words.specs.declared.members.Standing.TheVariants.{Changed, New, Removed, Stays}
 
--- what is read of the members of a site
-pub record AreMembers (o : Office) (s : Site) (members : Members) : Type 0 where
+-- what is read of the members of a merge set
+pub record AreMembers (o : Office) (s : MergeSet) (members : Members) : Type 0 where
   pub root : members.root.now ≡ s.root
   pub changes : members.changes.items ≡ change_sets o s
 
--- the row of a version of a site, if it has the version
-abbrev pub row_in : Office → Site → VersionId → Option Row
+-- the row of a version of a merge set, if it has the version
+abbrev pub row_in : Office → MergeSet → VersionId → Option Row
 row_in o s v = option_map (λ l. l.row) (version (setting_by_position o s) v)
 
 abbrev pub row_by : (Change → Option Row) → Option Change → Option Row

@@ -2,7 +2,7 @@
 //! and what serves each need.
 //!
 //! - `Members::read` [`members`, `names`], `row_of`: each row that is told of a cause is the version that the cause names.
-//! - `rule_of`, `site_of`: the rule of a need, and where a row that serves it would have to stand; a place where rows meet lies on both parts.
+//! - `rule_of`, `need_place`: the rule of a need, and where a row that serves it would have to stand; a place where rows meet lies on both parts.
 //! - `server_changes`: exactly the changes of members that bring a row which serves a need, or take one away, in order.
 //! - `count_rows`: exactly how many rows a change set adds, changes and removes.
 //! - Which words stand for what is tested.
@@ -17,7 +17,7 @@ mod needs;
 mod rules;
 mod servers;
 mod settings;
-mod sites;
+mod need_places;
 mod unfit;
 
 pub use answers::answer_words;
@@ -27,4 +27,4 @@ pub use members::{Members, Standing};
 pub use needs::NeedWords;
 pub use servers::{ServerChange, server_changes};
 pub use settings::Setting;
-pub use sites::{rule_of, server_side, site_of};
+pub use need_places::{rule_of, server_side, need_place};

@@ -8,7 +8,7 @@ ghost use Rattle.clr_needs.specs.Members.{after_of, positions};
 ghost use Rattle.clr_needs.specs.Settings.{first_changer};
 ghost use Rattle.clr_steps.specs.Offices.{content_of};
 ghost use Rattle.clr_steps.specs.Readings.{changes_in};
-ghost use Rattle.clr_steps.specs.Quiet.{Site};
+ghost use Rattle.clr_steps.specs.Quiet.{MergeSet};
 ghost use Rattle.clr_verdict_lines.specs.Verdicts.{member_name as name_of_member};
 ghost use Rattle.clr_plan_words.specs.Versions.{AreMembers, new_row_at, row_in, set_row, standing_of};
 
@@ -155,7 +155,7 @@ impl<'a> Members<'a> {
 
     /// Returns the row of a version.
     pub fn row_of<'b>(&'b self, office: &'b Office, version: VersionId) -> Option<&'b Row>
-        ensures { (s : Site) → AreMembers office.entry.now s self.entry.now → option_copied result ≡ row_in office.entry.now s version }
+        ensures { (s : MergeSet) → AreMembers office.entry.now s self.entry.now → option_copied result ≡ row_in office.entry.now s version }
     {
         if version.fresh {
             self.new_row(version.cell)

@@ -3,7 +3,7 @@
 use crate::causes::CauseWords;
 use crate::servers::{ServerChange, server_changes};
 use crate::settings::Setting;
-use crate::sites::{rule_of, server_side, site_of};
+use crate::need_places::{rule_of, server_side, need_place};
 use clr_needs::Need;
 use clr_rows::Held;
 use clr_rules::{ColumnList, Rule, Side};
@@ -11,8 +11,8 @@ use clr_wording::{At, Meeting, add_names, field_words, rule_sentence, rule_title
 use std::alloc::AllocError;
 
 /// Returns whether no row can stand where a need asks for one.
-fn is_hopeless(site: Meeting) -> bool {
-    match site {
+fn is_hopeless(place: Meeting) -> bool {
+    match place {
         Meeting::Between => true,
         Meeting::Overlap => true,
         _ => false,
@@ -28,8 +28,8 @@ fn rows_word(need: &Need) -> &'static str {
 }
 
 /// Adds where the rows of a need meet, or where the end of its row is.
-fn add_site(text: &mut String, rule: &Rule, site: Meeting) -> Result<(), AllocError> {
-    match (rule, site) {
+fn add_place(text: &mut String, rule: &Rule, place: Meeting) -> Result<(), AllocError> {
+    match (rule, place) {
         (Rule::EndNode { .. }, Meeting::Whole(place)) => {
             let place = At(place);
             write!(text, "  That end is at {place}.\n")
@@ -61,14 +61,14 @@ impl Setting<'_> {
         let sentence = sentence.as_str();
         write!(&mut cause.reason, "Rule {number}, {title}. {sentence}\n")?;
         self.add_subjects(cause, need)?;
-        let site = site_of(self.office, self.members, need);
-        add_site(&mut cause.place, rule, site)?;
+        let place = need_place(self.office, self.members, need);
+        add_place(&mut cause.place, rule, place)?;
         if let Rule::Unique { subject, columns } = rule {
             return self.add_common(&mut cause.place, need, subject, columns);
         }
         match server_side(rule) {
-            Some(server) if !is_hopeless(site) => {
-                self.add_servers(&mut cause.place, need, site, server)
+            Some(server) if !is_hopeless(place) => {
+                self.add_servers(&mut cause.place, need, place, server)
             }
             _ => Ok(()),
         }
@@ -99,12 +99,12 @@ impl Setting<'_> {
         &self,
         text: &mut String,
         need: &Need,
-        site: Meeting,
+        place: Meeting,
         server: &Side,
     ) -> Result<(), AllocError> {
         let changes = server_changes(self.alloc, self.office, self.members, need)?;
         if changes.as_slice().is_empty() {
-            return self.add_no_server(text, site, server);
+            return self.add_no_server(text, place, server);
         }
         let rows = rows_word(need);
         self.add_changed(text, rows, changes.as_slice(), true)?;
@@ -115,13 +115,13 @@ impl Setting<'_> {
     fn add_no_server(
         &self,
         text: &mut String,
-        site: Meeting,
+        place: Meeting,
         server: &Side,
     ) -> Result<(), AllocError> {
         let root = self.members.root;
         let side = side_words(self.alloc, self.office.schema(), server)?;
         let side = side.as_str();
-        match site {
+        match place {
             Meeting::Whole(_) => write!(
                 text,
                 "  No {side} stands there, in {root} or in one of these designs.\n"

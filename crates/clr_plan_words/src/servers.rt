@@ -5,7 +5,7 @@ ghost use Rattle.std.specs.List.{list_all};
 ghost use Rattle.std.specs.Option.{option_copied};
 ghost use Rattle.clr_rows.specs.Held.{held_of};
 ghost use Rattle.clr_rules.specs.Books.{FitsCell};
-ghost use Rattle.clr_steps.specs.Quiet.{Site};
+ghost use Rattle.clr_steps.specs.Quiet.{MergeSet};
 ghost use Rattle.clr_plan_words.specs.Servers.{changes_by, changes_of_member, fits, held_in, is_served, server_changes, serves_need, subjects_in, subjects_of};
 ghost use Rattle.clr_plan_words.specs.Versions.{AreMembers};
 
@@ -122,7 +122,7 @@ impl Asked<'_> {
 
 /// Finds the row of a version at its cell, if it stands.
 fn held_by<'a>(office: &'a Office, members: &'a Members<'_>, version: VersionId) -> Option<Held<'a>>
-    ensures { (s : Site) → AreMembers office.entry.now s members.entry.now → option_map held_of result ≡ held_in office.entry.now s version }
+    ensures { (s : MergeSet) → AreMembers office.entry.now s members.entry.now → option_map held_of result ≡ held_in office.entry.now s version }
 {
     let row = members.row_of(office, version)?;
     Some(Held {
@@ -134,7 +134,7 @@ fn held_by<'a>(office: &'a Office, members: &'a Members<'_>, version: VersionId)
 /// Finds the rows of a need's subjects, if all of them stand.
 fn asked_by<'a>(office: &'a Office, members: &'a Members<'_>, need: &'a Need) -> Option<Asked<'a>>
     ensures need { IfSome result (λ asked. asked.need.now ≡ need.entry.now) }
-    ensures subjects { (s : Site) → AreMembers office.entry.now s members.entry.now
+    ensures subjects { (s : MergeSet) → AreMembers office.entry.now s members.entry.now
         → option_map subjects_of result ≡ subjects_in office.entry.now s need.entry.now }
 {
     let first = held_by(office, members, need.first)?;
@@ -157,7 +157,7 @@ pub fn server_changes(
     members: &Members<'_>,
     need: &Need,
 ) -> Result<Vec<ServerChange>, AllocError>
-    ensures { IfOk result (λ found. (s : Site) → AreMembers office.now s members.now → found.items ≡ server_changes office.now s need.now) }
+    ensures { IfOk result (λ found. (s : MergeSet) → AreMembers office.now s members.now → found.items ≡ server_changes office.now s need.now) }
 {
     match asked_by(office, members, need) {
         Some(asked) => asked.changes(alloc, office, members.changes.as_slice()),

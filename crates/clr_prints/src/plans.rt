@@ -1,6 +1,6 @@
 //! Plans of members that are printed, and how they ended.
 ghost use Rattle.std.specs.Prelude.{◌≡◌, map};
-ghost use Rattle.clr_sites.specs.SiteNames.{site};
+ghost use Rattle.clr_merge_sets.specs.MergeSetNames.{merge_set};
 ghost use Rattle.clr_plan.specs.Promises.{is_cleared as is_cleared_plan, is_out_of_memory as is_lost_plan};
 ghost use Rattle.clr_office.specs.Outcomes.{IsPlanned};
 
@@ -11,7 +11,7 @@ use std::alloc::Global;
 
 /// Returns the plan of members of a root, with what it promises.
 pub fn plan_members(alloc: Global, office: &Office, root: &str, members: &[&str]) -> Plan
-    ensures { IsPlanned office.now (site root.now (map (λ name. name.now) members.now)) result }
+    ensures { IsPlanned office.now (merge_set root.now (map (λ name. name.now) members.now)) result }
 {
     plan(alloc, office, root, members)
 }

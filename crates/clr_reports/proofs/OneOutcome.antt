@@ -7,10 +7,10 @@ use Rattle.clr_needs.specs.Independence.{IsIndependence}
 use Rattle.clr_needs.specs.Members.{AreApart}
 use Rattle.clr_needs.specs.Settings.{Setting}
 use Rattle.clr_steps.specs.Offices.{Office}
-use Rattle.clr_steps.specs.Quiet.{Site}
+use Rattle.clr_steps.specs.Quiet.{MergeSet}
 use Rattle.clr_clearance.specs.declared.verdicts.Verdict.{Verdict}
 use Rattle.clr_clearance.specs.declared.verdicts.Verdict.TheVariants as verdict
-use Rattle.clr_clearance.specs.Sites.{change_sets, setting_by_position}
+use Rattle.clr_clearance.specs.MergeSets.{change_sets, setting_by_position}
 use Rattle.clr_clearance.specs.Verdicts as verdicts
 use Rattle.clr_clearance.specs.Verdicts.{IsVerdict, member_fault}
 use Rattle.clr_clearance.proofs.VerdictLemmas.{not_apart, not_both, one_verdict}
@@ -60,7 +60,7 @@ one_pairs c (p ∷ ps) (q ∷ qs) same one two =
     let tail : map pair_members ps ≡ map pair_members qs = cc in
     λ i. one_pair c p q head (one p (inl refl)) (two q (inl refl)) i ∷ one_pairs c ps qs tail (λ x h. one x (inr h)) (λ x h. two x (inr h)) i
 
-module _ (o : Office) (s : Site) where
+module _ (o : Office) (s : MergeSet) where
   not_unfit : (v : Verdict) → IsUnfitFor o s v → member_fault o s ≡ None → AreApart (change_sets o s) → ⊥
   not_unfit v (of_member is) none apart = not_both (member_fault o s) v none is
   not_unfit v (of_cell cell i j none_before shared is) none apart = not_apart (change_sets o s) cell i j shared (apart cell)
@@ -90,6 +90,6 @@ module _ (o : Office) (s : Site) where
       (ap text_of_pairs same, ap (list_any (λ (p : Pair). not p.independent)) same)
 
   pub one_independence : IsOne (IsIndependenceOutcome o s)
-  one_independence all other (value, of_site, is) (second, of_site_other, is_other) found found_other =
-      let same = same_text value second of_site of_site_other in
+  one_independence all other (value, of_merge_set, is) (second, of_merge_set_other, is_other) found found_other =
+      let same = same_text value second of_merge_set of_merge_set_other in
       is ∙ parts_are o _ _ _ _ _ _ same.0 same.1 refl ∙ sym is_other

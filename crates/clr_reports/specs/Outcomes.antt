@@ -7,7 +7,7 @@ use Rattle.clr_steps.specs.declared.commands.Reply.{Reply}
 use Rattle.clr_steps.specs.declared.commands.Reply.TheVariants.{Done, NoWorkspace}
 use Rattle.clr_steps.specs.Names.{is_live}
 use Rattle.clr_steps.specs.Offices.{Office, content_of, stands}
-use Rattle.clr_steps.specs.Quiet.{Site}
+use Rattle.clr_steps.specs.Quiet.{MergeSet}
 use Rattle.clr_steps.specs.Readings.{changes_in, conflicts_in}
 use Rattle.clr_independence.specs.declared.independences.Independence.{Independence}
 use Rattle.clr_independence.specs.declared.independences.Independence.TheVariants as said
@@ -84,8 +84,8 @@ has_dependence (said.Unfit v) = true
 has_dependence (said.Pairs pairs) = list_any (λ p. not p.independent) pairs.items
 
 -- the lines of the independence of members of a root; a dependent pair counts as a refusal, and so do members that are unfit
-abbrev pub independence_outcome : Office → Site → Independence → Outcome
+abbrev pub independence_outcome : Office → MergeSet → Independence → Outcome
 independence_outcome o s value = shown (independence_text o.schema s.members s.root value) (has_dependence value) o
 
-abbrev pub IsIndependenceOutcome : Office → Site → Outcome → Type 0
+abbrev pub IsIndependenceOutcome : Office → MergeSet → Outcome → Type 0
 IsIndependenceOutcome o s all = (value : Independence) × IsIndependenceOf o s value × (all ≡ independence_outcome o s value)

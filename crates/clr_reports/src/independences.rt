@@ -1,7 +1,7 @@
 //! Which members are independent, where they are given by their names.
 ghost use Rattle.std.specs.Prelude.{◌≡◌, not, IfOk};
 ghost use Rattle.std.specs.List.{list_any};
-ghost use Rattle.clr_sites.specs.SiteNames.{site};
+ghost use Rattle.clr_merge_sets.specs.MergeSetNames.{merge_set};
 ghost use Rattle.clr_reports.specs.Outcomes.{IsIndependenceOutcome, has_dependence, outcome_of};
 
 use crate::name_texts::texts;
@@ -35,7 +35,7 @@ pub fn independence_output(
     root: &str,
     names: &[Words],
 ) -> Result<Output, AllocError>
-    ensures { IfOk result (λ o. IsIndependenceOutcome office.now (site root.now names.now) (outcome_of o office.now)) }
+    ensures { IfOk result (λ o. IsIndependenceOutcome office.now (merge_set root.now names.now) (outcome_of o office.now)) }
 {
     let members = texts(alloc, names)?;
     let said = independence_of(alloc, office, root, members.as_slice())?;

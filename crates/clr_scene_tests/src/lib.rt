@@ -12,6 +12,6 @@ mod networks;
 #[cfg(test)]
 mod scenes;
 #[cfg(test)]
-mod sites;
+mod merge_sets;
 #[cfg(test)]
 mod streets;

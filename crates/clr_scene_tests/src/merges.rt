@@ -1,7 +1,7 @@
 //! The least need that the changes of one member break.
 
 use crate::networks::{CROSSING, MAINS, PATHS, TWO_NODES, network};
-use crate::sites::first_broken;
+use crate::merge_sets::first_broken;
 use clr_call_test_kit::{Hoard, Memory};
 use clr_engine::Office;
 use clr_lines::add_need;

@@ -3,7 +3,7 @@
 use crate::networks::{
     CROSSING, MAINS, ONE_HYDRANT, PATHS, TWO_MORE_NODES, TWO_NODES, members, network, office_of,
 };
-use crate::sites::{SceneOver, assert_said, site_lines};
+use crate::merge_sets::{SceneOver, assert_said, merge_set_lines};
 use clr_call_test_kit::{Hoard, Memory};
 use std::alloc::Global;
 use std::test::Fail;
@@ -242,7 +242,7 @@ fn paths_once_there_is_memory(rt: HostRuntime) -> Result<(), Fail> {
 /// Returns what is said of three members that change these rows.
 fn lines_of_three(alloc: Global, changes: &[&str]) -> Result<String, Fail> {
     let office = network(alloc, MAINS, CROSSING, changes)?;
-    Ok(site_lines(alloc, &office, "LIVE", members(3), &mut Memory::All)?)
+    Ok(merge_set_lines(alloc, &office, "LIVE", members(3), &mut Memory::All)?)
 }
 
 #[test]
@@ -264,7 +264,7 @@ const KEPT: &str =
 /// Returns what is said of the children of K in the office of a text.
 fn lines_under_k(alloc: Global, text: &str) -> Result<String, Fail> {
     let office = office_of(alloc, text)?;
-    Ok(site_lines(alloc, &office, "K", &["V1", "V2"], &mut Memory::All)?)
+    Ok(merge_set_lines(alloc, &office, "K", &["V1", "V2"], &mut Memory::All)?)
 }
 
 #[test]

@@ -3,7 +3,7 @@
 
 use crate::merges::broken_line;
 use crate::networks::network;
-use crate::sites::{SceneOver, assert_said};
+use crate::merge_sets::{SceneOver, assert_said};
 use clr_call_test_kit::Memory;
 use clr_engine::Office;
 use std::alloc::Global;

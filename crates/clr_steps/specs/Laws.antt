@@ -15,7 +15,7 @@ use Rattle.clr_steps.specs.Refusals.{refusal, depth}
 use Rattle.clr_steps.specs.Positions.{is_top, below_top, content_at, kept_at, depth_at, refusal_at, effect_at}
 use Rattle.clr_steps.specs.Steps.{refused_or_done, step, is_lost, IsAnswer, AreAnswers, run, lost_in}
 use Rattle.clr_steps.specs.Invariants.{HoldsWhereKept, OfficeFits, first_unheld}
-use Rattle.clr_steps.specs.Quiet.{Site, IsRootKept, LeavesSite, is_quiet, is_of_member}
+use Rattle.clr_steps.specs.Quiet.{MergeSet, IsRootKept, LeavesMergeSet, is_quiet, is_of_member}
 
 -- what an office says of a name, by the position at which its tree finds it
 pub record IsSeen (o : Office) (ws : List Workspace) (name : Name) : Type 0 where
@@ -88,5 +88,5 @@ FitLaw = (o : Office) (c : Command) → OfficeFits o → OfficeFits (step o c).o
 
 -- a quiet command that is no merge or refresh of a member leaves the root and the members
 abbrev pub QuietLaw : Type 0
-QuietLaw = (site : Site) (o : Office) (c : Command)
-    → IsRootKept o site → is_quiet o site c ≡ true → is_of_member site c ≡ false → LeavesSite site o (step o c).office
+QuietLaw = (merge_set : MergeSet) (o : Office) (c : Command)
+    → IsRootKept o merge_set → is_quiet o merge_set c ≡ true → is_of_member merge_set c ≡ false → LeavesMergeSet merge_set o (step o c).office

@@ -52,10 +52,10 @@ pub fn none_is_unheld_where_rules_hold()
     ensures { UnheldLaw }
 {}
 
-/// A command that is quiet for a site, and that is no merge or refresh of a member, leaves the
+/// A command that is quiet for a merge set, and that is no merge or refresh of a member, leaves the
 /// root's rows as they are, leaves the root kept, leaves each member's base, rows and parent as
 /// they are, and brings no removed member back.
-pub fn quiet_commands_leave_the_site()
+pub fn quiet_commands_leave_the_merge_set()
     ensures { QuietLaw }
 {}
 

@@ -7,7 +7,7 @@
 //!   by position.
 //! - `steps_keep_offices_sound`: every rule goes on holding in LIVE and in each kept workspace;
 //!   rows go on fitting.
-//! - `quiet_commands_leave_the_site`: a quiet command that is no merge or refresh of a member
+//! - `quiet_commands_leave_the_merge_set`: a quiet command that is no merge or refresh of a member
 //!   leaves the root and the members.
 //! - `answers_make_a_run`, `none_is_unheld_where_rules_hold`, `changes_after_commands` and
 //!   `replies_of_examples`: runs that find no memory, the search for a workspace that breaks a
@@ -23,6 +23,6 @@ pub use clr_workspaces::Keep;
 pub use commands::{Command, Reply};
 pub use laws::{
     answers_make_a_run, changes_after_commands, none_is_unheld_where_rules_hold,
-    quiet_commands_leave_the_site, replies_of_examples, steps_by_position,
+    quiet_commands_leave_the_merge_set, replies_of_examples, steps_by_position,
     steps_keep_offices_sound,
 };

@@ -1,4 +1,4 @@
--- Where no entry is neutral, a layer has just what it needs.
+-- Where no entry is neutral, a delta has just what it needs.
 use Rattle.std.proofs.Common.{◌≡◌, ℕ, ◌+◌, ◌<◌, List, [], ◌∷◌, length, map, refl, ap, sym, subst, ◌∙◌}
 use Rattle.std.specs.declared.option.Option.{Option}
 use Rattle.std.specs.FinMap as finite
@@ -7,17 +7,17 @@ use Rattle.clr_rows.specs.declared.rows.Row.{Row}
 use Rattle.clr_rows.specs.Contents.{Content, row_at}
 use Rattle.clr_differences.specs.Differences.{differences_from, IsOwnOver}
 use Rattle.clr_differences.proofs.SweepLemmas.{own_differences, swept_own}
-use Rattle.clr_layers.specs.Differing.{mark_from}
+use Rattle.clr_deltas.specs.Differing.{mark_from}
 use Rattle.clr_workspaces.specs.Workspaces.{Workspace, workspace_at}
-use Rattle.clr_layers.specs.Layers.{Layer, layer_at, stored_in, whole_mark, wholes, entries_of_mark, AreOwnOver}
-use Rattle.clr_layers.specs.declared.stored_marks.StoredMark.{StoredMark}
-use Rattle.clr_layers.specs.declared.stored_marks.StoredMark.TheVariants as kinds
-use Rattle.clr_layers.proofs.Meaning.{name-wholes, parent-wholes}
+use Rattle.clr_deltas.specs.Deltas.{Delta, delta_at, stored_in, whole_mark, wholes, entries_of_mark, AreOwnOver}
+use Rattle.clr_deltas.specs.declared.stored_marks.StoredMark.{StoredMark}
+use Rattle.clr_deltas.specs.declared.stored_marks.StoredMark.TheVariants as kinds
+use Rattle.clr_deltas.proofs.Meaning.{name-wholes, parent-wholes}
 use Rattle.clr_workspaces.specs.Roots.{IsRooted}
 use Rattle.clr_contents.proofs.ReadLemmas.{current-wholes, kept-wholes, marks-wholes}
 use Rattle.clr_contents.proofs.SweepLemmas.{base_is}
 use Rattle.clr_contents.specs.Lean.{IsLeanOver}
-use Rattle.clr_tree.specs.Trees.{needed, needed_layer, needed_of_marks, stored_of_marks}
+use Rattle.clr_tree.specs.Trees.{needed, needed_delta, needed_of_marks, stored_of_marks}
 use Rattle.clr_contents.specs.Lean.{content_of_parent, swept_marks}
 use Rattle.clr_contents.proofs.LeanLemmas.{base_row}
 use Rattle.clr_tree.proofs.SweepLemmas.{count_swept, count_saved}
@@ -35,12 +35,12 @@ marks_differing base (kinds.Saved name d ∷ ms) own = λ i. kinds.Saved name (o
     ∷ marks_differing base ms (λ q. (own q).1) i
 marks_differing base (kinds.Child name ∷ ms) own = ap (λ (ns : List StoredMark). kinds.Child name ∷ ns) (marks_differing base ms (λ q. (own q).1))
 
-module _ (live : Content) (ls : List Layer) (k : ℕ) (r : IsRooted (wholes live ls)) (some : 0 < k) (lt : k < length ls) where
+module _ (live : Content) (ls : List Delta) (k : ℕ) (r : IsRooted (wholes live ls)) (some : 0 < k) (lt : k < length ls) where
   abbrev ws : List Workspace
   ws = wholes live ls
 
-  abbrev l : Layer
-  l = layer_at ls k
+  abbrev l : Delta
+  l = delta_at ls k
 
   abbrev above : Content
   above = content_of_parent ws k
@@ -48,25 +48,25 @@ module _ (live : Content) (ls : List Layer) (k : ℕ) (r : IsRooted (wholes live
   abbrev base : Content
   base = (workspace_at ws k).base
 
-  module _ (lean : IsLeanOver (wholes live ls) k (layer_at ls k)) where
+  module _ (lean : IsLeanOver (wholes live ls) k (delta_at ls k)) where
     current_own : (q : CellId) → IsOwnOver (row_at base q) (finite.get l.current q)
     current_own q = subst (λ (v : Option Row). IsOwnOver v (finite.get l.current q)) (sym (base_row live ls k r some lt l.base refl q)) (lean q).current
 
     saved_own : (q : CellId) → AreOwnOver (row_at base q) q l.marks
     saved_own q = subst (λ (v : Option Row). AreOwnOver v q l.marks) (sym (base_row live ls k r some lt l.base refl q)) (lean q).saved
 
-    pub lean_count : stored_in (layer_at ls k) ≡ needed (wholes live ls) k
+    pub lean_count : stored_in (delta_at ls k) ≡ needed (wholes live ls) k
     lean_count =
         let same = swept_own above l.base (λ q. (lean q).base) in
         let alike = swept_own base l.current current_own in
         sym (λ i. length (finite.keys (same i)) + length (finite.keys (alike i))) ∙ count_swept live ls k r some lt
 
-    pub lean_saved : stored_of_marks (layer_at ls k) ≡ needed_of_marks (wholes live ls) k
+    pub lean_saved : stored_of_marks (delta_at ls k) ≡ needed_of_marks (wholes live ls) k
     lean_saved = ap (λ (ms : List StoredMark). map entries_of_mark ms) (sym (marks_as_swept base l.marks saved_own)) ∙ count_saved live ls k r some lt
 
-    -- the law of layers without neutral entries: each is what its whole workspace differs in
-    pub lean_layer : layer_at ls k ≡ needed_layer (wholes live ls) k
-    lean_layer =
+    -- the law of deltas without neutral entries: each is what its whole workspace differs in
+    pub lean_delta : delta_at ls k ≡ needed_delta (wholes live ls) k
+    lean_delta =
         let name = sym (name-wholes live ls k) in
         let parent = sym (parent-wholes live ls k) in
         let from_base = own_differences above l.base (λ q. (lean q).base) ∙ ap (differences_from above) (sym (base_is live ls k r some lt)) in

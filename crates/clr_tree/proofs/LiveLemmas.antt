@@ -5,10 +5,10 @@ use Rattle.std.proofs.lemmas.List.{length-map}
 use Rattle.std.specs.List.{list_any}
 use Rattle.clr_rows.specs.Contents.{Content, no_rows}
 use Rattle.clr_workspaces.specs.Marks.{Mark, is_held, is_child_mark, is_saved, mark_at}
-use Rattle.clr_layers.specs.Layers.{Layer, layer_at, wholes, whole_mark}
+use Rattle.clr_deltas.specs.Deltas.{Delta, delta_at, wholes, whole_mark}
 use Rattle.clr_workspaces.specs.Workspaces.{Workspace, live_workspace, workspace_at}
-use Rattle.clr_layers.specs.declared.stored_marks.StoredMark.{StoredMark}
-use Rattle.clr_layers.proofs.Meaning.{live-wholes}
+use Rattle.clr_deltas.specs.declared.stored_marks.StoredMark.{StoredMark}
+use Rattle.clr_deltas.proofs.Meaning.{live-wholes}
 use Rattle.clr_contents.proofs.ReadLemmas.{marks-wholes}
 use Rattle.clr_workspaces.proofs.RootLemmas.{split}
 use Rattle.clr_workspaces.specs.Soundness.{IsSound}
@@ -31,7 +31,7 @@ stored_past base ms ns i e le =
     let long : length ms ≡ length ns = ap (λ (ms : List Mark). length ms) e ∙ length-map ns (whole_mark base) in
     sym (held_past ms i (omega (arith, le, long)))
 
-module _ (live : Content) (ls : List Layer) (t : Tree) (at : ℕ) (is : tree_of live ls ≡ t) (sound : IsSound (wholes live ls)) where
+module _ (live : Content) (ls : List Delta) (t : Tree) (at : ℕ) (is : tree_of live ls ≡ t) (sound : IsSound (wholes live ls)) where
   -- the first workspace of a tree is LIVE
   pub first_is : at ≡ 0 → live_workspace live ≡ workspace_at t.list at
   first_is first =
@@ -54,7 +54,7 @@ module _ (live : Content) (ls : List Layer) (t : Tree) (at : ℕ) (is : tree_of 
   pub first_marks : at ≡ 0 → (workspace_at t.list at).marks ≡ []
   first_marks first = sym (ap (λ (w : Workspace). w.marks) (first_is first))
 
-  pub marks_in : (ns : List StoredMark) → at ≢ 0 → at < length t.list → ns ≡ (layer_at ls at).marks
+  pub marks_in : (ns : List StoredMark) → at ≢ 0 → at < length t.list → ns ≡ (delta_at ls at).marks
       → let w = workspace_at t.list at in w.marks ≡ map (whole_mark w.base) ns
   marks_in ns other lt e =
       let some : 0 < at = omega (arith, other) in

@@ -5,13 +5,13 @@ use Rattle.std.specs.Coded.{Coded, code_by, coded×, coded_list, coded_ℕ}
 use Rattle.clr_rows.specs.Contents.{Content, changes}
 use Rattle.clr_workspaces.specs.Marks.{Mark, Saved, ChildMark}
 use Rattle.clr_workspaces.specs.Workspaces.{Workspace, coded_workspace, workspace_at}
-use Rattle.clr_layers.specs.Differing.{layer_from}
-use Rattle.clr_layers.specs.Layers.{Layer, coded_layer, wholes, stored_in, entries_of_mark}
+use Rattle.clr_deltas.specs.Differing.{delta_from}
+use Rattle.clr_deltas.specs.Deltas.{Delta, coded_delta, wholes, stored_in, entries_of_mark}
 use Rattle.clr_contents.specs.Lean as lean
 
 pub record Tree : Type 0 where
   pub list : List Workspace
-  pub layers : List Layer
+  pub deltas : List Delta
   pub stored : List ℕ
   pub saved : List (List ℕ)
 
@@ -44,18 +44,18 @@ abbrev pub needed_of_marks : List Workspace → ℕ → List ℕ
 needed_of_marks ws at = let w = workspace_at ws at in map (needed_of_mark w.base) w.marks
 
 -- what the workspace at a position differs in from its parent's content, at exactly the cells where it differs
-abbrev pub needed_layer : List Workspace → ℕ → Layer
-needed_layer ws at = layer_from (lean.content_of_parent ws at) (workspace_at ws at)
+abbrev pub needed_delta : List Workspace → ℕ → Delta
+needed_delta ws at = delta_from (lean.content_of_parent ws at) (workspace_at ws at)
 
--- how many entries a layer has in each of its marks
-abbrev pub stored_of_marks : Layer → List ℕ
+-- how many entries a delta has in each of its marks
+abbrev pub stored_of_marks : Delta → List ℕ
 stored_of_marks l = map entries_of_mark l.marks
 
 abbrev pub coded_tree : Coded Tree
 coded_tree =
-    code_by (List Workspace × (List Layer × (List ℕ × List (List ℕ))))
-    (coded× (coded_list coded_workspace) (coded× (coded_list coded_layer) (coded× (coded_list coded_ℕ) (coded_list (coded_list coded_ℕ)))))
-    (λ t. (t.list, (t.layers, (t.stored, t.saved)))) (λ p. record { list = p.0; layers = p.1.0; stored = p.1.1.0; saved = p.1.1.1 }) (λ _. refl)
+    code_by (List Workspace × (List Delta × (List ℕ × List (List ℕ))))
+    (coded× (coded_list coded_workspace) (coded× (coded_list coded_delta) (coded× (coded_list coded_ℕ) (coded_list (coded_list coded_ℕ)))))
+    (λ t. (t.list, (t.deltas, (t.stored, t.saved)))) (λ p. record { list = p.0; deltas = p.1.0; stored = p.1.1.0; saved = p.1.1.1 }) (λ _. refl)
 
-abbrev pub tree_of : Content → List Layer → Tree
-tree_of live ls = record { list = wholes live ls; layers = ls; stored = map stored_in ls; saved = map stored_of_marks ls }
+abbrev pub tree_of : Content → List Delta → Tree
+tree_of live ls = record { list = wholes live ls; deltas = ls; stored = map stored_in ls; saved = map stored_of_marks ls }

@@ -8,12 +8,12 @@
 //!   `held`, `kept`, `read`, `base`, `view`, `live`, `changes`, `rows`, `base_rows`, `saved_rows`
 //!   and `part` show the tree exactly.
 //! - `Tree::build` [`made`, `passed`, `refused`] gives the tree of just these parts, or the first
-//!   fault of their list with its position, or want of memory. `Tree::of_layers` [`made`, `passed`,
+//!   fault of their list with its position, or want of memory. `Tree::of_deltas` [`made`, `passed`,
 //!   `refused`] does so for parts by their differences; its contract speaks of the whole workspaces
 //!   that they mean.
-//! - `Tree::sweep` [`contents`, `layers`, `counts`, `saved`] takes no memory and changes no
-//!   content. Afterwards what is stored of a workspace, which `layer` shows without a copy, is
-//!   exactly what it differs in from its parent's content (`clr_layers: Differing`). Then `stored`
+//! - `Tree::sweep` [`contents`, `deltas`, `counts`, `saved`] takes no memory and changes no
+//!   content. Afterwards what is stored of a workspace, which `delta` shows without a copy, is
+//!   exactly what it differs in from its parent's content (`clr_deltas: Differing`). Then `stored`
 //!   is the number of cells where its base isn't as its parent's current content, and of those that
 //!   it changed; and each savepoint has as many entries as there are cells where its content isn't
 //!   as the base.
@@ -27,7 +27,7 @@ mod tree;
 
 pub use clr_change::{ChangeSet, Edit, EditFault, Edits, first_conflict, stage};
 pub use clr_contents::View;
-pub use clr_layers::{LayerView, StoredPart};
+pub use clr_deltas::{DeltaView, StoredPart};
 pub use clr_parts::{MarkPart, Part, PartFault};
 pub use clr_workspaces::{Keep, MOST_LEVELS, MOST_SAVEPOINTS, MOST_WORKSPACES, Rebase};
 pub use tree::Tree;

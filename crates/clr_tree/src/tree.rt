@@ -4,7 +4,7 @@ ghost use Rattle.std.specs.Prelude.{ℕ, ◌≡◌, ◌<◌, ◌↔◌, [], ◌�
 ghost use Rattle.std.specs.Option.{option_copied};
 ghost use Rattle.clr_rows.specs.Contents.{row_at, changes, taken_over};
 ghost use Rattle.clr_rows.specs.Names.{is_good_name};
-ghost use Rattle.clr_layers.specs.Layers.{layer_at, whole_mark, wholes};
+ghost use Rattle.clr_deltas.specs.Deltas.{delta_at, whole_mark, wholes};
 ghost use Rattle.clr_workspaces.specs.Marks.{find_mark, is_held, is_saved, mark_at, saved_content, saved_count};
 ghost use Rattle.clr_workspaces.specs.Workspaces.{workspace_at, find, parent_of as position_of_parent, children_of, depth_of, live_workspace};
 ghost use Rattle.clr_workspaces.specs.Operations.{after_create, after_remove, after_write, after_mark, after_unmark};
@@ -12,21 +12,21 @@ ghost use Rattle.clr_workspaces.specs.Operations.{after_roll_to, after_roll_all,
 ghost use Rattle.clr_parts.specs.Parts.{workspace_of, list_of, spaces_of, first_fault, workspaces_fault, IsFirstPartFault};
 ghost use Rattle.clr_workspaces.specs.Soundness.{IsSound};
 ghost use Rattle.clr_workspaces.specs.declared.rebases.Rebase.TheVariants as rebase;
-ghost use Rattle.clr_tree.specs.Trees.{tree_of, stored_at, saved_at, needed, needed_layer, needed_of_marks};
+ghost use Rattle.clr_tree.specs.Trees.{tree_of, stored_at, saved_at, needed, needed_delta, needed_of_marks};
 
 use clr_change::ChangeSet;
 use clr_contents::{
     View, base_row_of, base_rows, changes_of, changes_to_base, changes_to_refreshed,
     changes_to_saved, depth_at, row_of, saved_rows, sweep, whole_rows,
 };
-use clr_layers::{
-    LayerView, StoredMark, StoredPart, WorkspaceMap, count_saved, find_saved, has_child_after,
+use clr_deltas::{
+    DeltaView, StoredMark, StoredPart, WorkspaceMap, count_saved, find_saved, has_child_after,
     live_alone,
 };
 use clr_operations::{
     create, mark, merge_changes, rebase, refresh_changes, remove, roll_all, roll_to, write_rows,
 };
-use clr_parts::{Part, PartFault, judge_marks, live_part, part_at, push_layers, push_parts};
+use clr_parts::{Part, PartFault, judge_marks, live_part, part_at, push_deltas, push_parts};
 use clr_rows::{CellId, Row, Sheet};
 use clr_workspaces::{MOST_LEVELS, MOST_SAVEPOINTS, MOST_WORKSPACES, Rebase};
 use std::alloc::{AllocError, Global};
@@ -47,7 +47,7 @@ pub struct Tree {
 impl Model for Tree {
     ghost use Rattle.clr_tree.specs.Trees.{Tree as Whole, coded_tree, tree_of};
     ghost use Rattle.clr_workspaces.specs.Soundness.{IsSound};
-    ghost use Rattle.clr_layers.specs.Layers.{wholes};
+    ghost use Rattle.clr_deltas.specs.Deltas.{wholes};
     ghost use Rattle.clr_contents.specs.Lean.{IsLean};
     ghost use Rattle.std.specs.Prelude.{◌≡◌, true};
 
@@ -101,7 +101,7 @@ impl Tree {
     /// until a sweep. Fails with the position of the first part with a fault and which fault:
     /// `BadName`, `NameTaken`, `NoParent` or `TooMany` part by part, and only then `BadMarks` part
     /// by part. Fails with `OutOfMemory` at 0 if memory runs out.
-    pub fn of_layers(
+    pub fn of_deltas(
         alloc: Global,
         live: Sheet,
         parts: Vec<StoredPart>,
@@ -110,7 +110,7 @@ impl Tree {
         ensures passed { OnOk result (workspaces_fault live (spaces_of live parts.items) ≡ None) }
         ensures refused { IfErr result (IsFirstPartFault (workspaces_fault live (spaces_of live parts.items))) }
     {
-        let map = push_layers(alloc, &live, parts)?;
+        let map = push_deltas(alloc, &live, parts)?;
         judge_marks(&live, &map)?;
         Ok(Tree::of_map(live, map))
     }
@@ -257,12 +257,12 @@ impl Tree {
     }
 
     /// Returns what is stored of the workspace at a position, which isn't LIVE, not copied.
-    pub fn layer(&self, at: usize) -> LayerView<'_>
+    pub fn delta(&self, at: usize) -> DeltaView<'_>
         requires child { 0 < at }
         requires within { at < length self.now.list }
-        ensures { result ≡ layer_at self.now.layers at }
+        ensures { result ≡ delta_at self.now.deltas at }
     {
-        self.map.layer(at)
+        self.map.delta(at)
     }
 
     /// Returns the current content of the workspace at a position, seen by cell.
@@ -502,7 +502,7 @@ impl Tree {
     /// content and a savepoint at exactly the cells where they aren't as the base.
     pub fn sweep(&mut self)
         ensures contents { self.new.list ≡ self.old.list }
-        ensures layers { (at : ℕ) → 0 < at → at < length self.new.list → layer_at self.new.layers at ≡ needed_layer self.new.list at }
+        ensures deltas { (at : ℕ) → 0 < at → at < length self.new.list → delta_at self.new.deltas at ≡ needed_delta self.new.list at }
         ensures counts { (at : ℕ) → 0 < at → at < length self.new.list → stored_at self.new.stored at ≡ needed self.new.list at }
         ensures saved { (at : ℕ) → 0 < at → at < length self.new.list → saved_at self.new.saved at ≡ needed_of_marks self.new.list at }
     {

@@ -145,7 +145,7 @@ C under B base 1=5 3=1 4=3 now 1=5 4=3 5=6 saved s 1=5 3=1 4=3
 D under LIVE base 1=1 2=1 3=9 7=1 now 1=1 2=1 3=9 7=3 saved s 1=1 2=1 3=9 7=1 child E
 E under D base 1=1 2=1 3=9 7=3 now 1=1 2=1 3=9 7=3
 ==
-LIVE layers
+LIVE deltas
 --
 LIVE now 1=1 2=1 3=9 7=4
 A under LIVE base 1=1 2=5 3=9 7=4 now 1=1 2=5 3=2 7=4 saved s 1=1 2=5 3=7 7=4 child B kept

@@ -5,7 +5,7 @@ use clr_change::ChangeSet;
 use clr_rows::Sheet;
 use clr_tree::{Part, PartFault, Tree};
 use clr_tree_test_kit::{
-    act_line, changes_text, find_savepoint, layered_parts, part_text, parts_of, rows_text,
+    act_line, changes_text, find_savepoint, delta_parts, part_text, parts_of, rows_text,
     tree_text,
 };
 use std::alloc::{AllocError, Global};
@@ -91,10 +91,10 @@ fn make(alloc: Global, tree: &Tree, word: &str) -> Result<Answer, AllocError> {
     match word {
         "new" => Ok(Answer::Tree(Tree::new(alloc, tree.live().copy()?)?)),
         "build" => build(alloc, tree),
-        "layers" => answer_of_tree(Tree::of_layers(
+        "deltas" => answer_of_tree(Tree::of_deltas(
             alloc,
             tree.live().copy()?,
-            layered_parts(alloc)?,
+            delta_parts(alloc)?,
         )),
         _ => Ok(Answer::Nothing),
     }

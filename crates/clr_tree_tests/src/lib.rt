@@ -9,7 +9,7 @@ mod calls;
 #[cfg(test)]
 mod cases;
 #[cfg(test)]
-mod layered;
+mod deltas;
 #[cfg(test)]
 mod live;
 #[cfg(test)]

@@ -3,7 +3,7 @@
 use crate::plain_trees::PlainTree;
 use clr_call_test_kit::Dice;
 use clr_tree::{Keep, Tree};
-use clr_tree_test_kit::{Deed, SAME_DEEDS, act, counts_text, deed_in, layered_tree, tree_text};
+use clr_tree_test_kit::{Deed, SAME_DEEDS, act, counts_text, deed_in, delta_tree, tree_text};
 use std::alloc::{AllocError, Global};
 use std::process::Abort;
 use std::test::Fail;
@@ -70,7 +70,7 @@ struct Pair {
 impl Pair {
     /// Trees of parts with neutral entries.
     fn new(alloc: Global) -> Result<Pair, AllocError> {
-        let tree = layered_tree(alloc)?;
+        let tree = delta_tree(alloc)?;
         Ok(Pair {
             last: tree_text(alloc, &tree)?,
             tree,

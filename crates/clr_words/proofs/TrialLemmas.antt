@@ -11,7 +11,7 @@ use Rattle.clr_steps.specs.declared.commands.Command.TheVariants as command
 use Rattle.clr_steps.specs.declared.commands.Reply.{Reply}
 use Rattle.clr_steps.specs.declared.commands.Reply.TheVariants.{Done}
 use Rattle.clr_steps.specs.Offices.{Office}
-use Rattle.clr_steps.specs.Quiet.{Site}
+use Rattle.clr_steps.specs.Quiet.{MergeSet}
 use Rattle.clr_steps.specs.Effects.{effect}
 use Rattle.clr_steps.specs.Refusals.{refusal}
 use Rattle.clr_steps.specs.Steps.{IsAnswer, answer, is_lost, refused_or_done, step, step_or_lost}
@@ -22,17 +22,17 @@ use Rattle.clr_words.specs.Trials.{IsEdited, IsTrial, IsTrialAnswer, TellsIfClea
 use Rattle.clr_words.proofs.Savepoints.{IsBetween, as_before, edited, same}
 
 -- an edit was tried or not, and what was there is there again
-between : (o there : Office) (ws : Name) (edit : Edit) (s : Site) (told : Option Bool) → IsEditJudged o ws edit s told there → IsBetween ws o there
+between : (o there : Office) (ws : Name) (edit : Edit) (s : MergeSet) (told : Option Bool) → IsEditJudged o ws edit s told there → IsBetween ws o there
 between o there ws edit s None e = same e
 between o there ws edit s (Some cleared) (made, judged) = edited (edit ∷ []) made
 
-pub back_to : (o saved there left : Office) (ws savepoint : Name) (edit : Edit) (s : Site) (told : Option Bool)
+pub back_to : (o saved there left : Office) (ws savepoint : Name) (edit : Edit) (s : MergeSet) (told : Option Bool)
     → IsSound (live_workspace o.live ∷ o.workspaces) → step o (command.Mark ws savepoint) ≡ answer Done saved
     → IsEditJudged saved ws edit s told there → IsBack there ws savepoint left → left ≡ o
 back_to o saved there left ws savepoint edit s told sound mark judged (rolled, roll, unmark) =
     as_before o sound ws savepoint saved there rolled left mark (between saved there ws edit s told judged) roll unmark
 
-pub told_of : (o saved there : Office) (ws savepoint : Name) (edit : Edit) (s : Site) (told : Option Bool)
+pub told_of : (o saved there : Office) (ws savepoint : Name) (edit : Edit) (s : MergeSet) (told : Option Bool)
     → step o (command.Mark ws savepoint) ≡ answer Done saved → IsEditJudged saved ws edit s told there
     → IfSome told (λ cleared. (next : Office) × IsEdited o ws edit next × TellsIfCleared next s cleared)
 told_of o saved there ws savepoint edit s None mark e = tt
@@ -40,7 +40,7 @@ told_of o saved there ws savepoint edit s (Some cleared) mark (made, judged) =
     (there, record { savepoint = savepoint; saved = saved; mark = mark; apply = made }, judged)
 
 -- what is told of an edit is told of the action that makes it
-pub told_as : (o : Office) (s : Site) (at : ℕ) (edit : Edit) (ws : Name) → slice_get s.members at ≡ Some ws → (told : Option Bool)
+pub told_as : (o : Office) (s : MergeSet) (at : ℕ) (edit : Edit) (ws : Name) → slice_get s.members at ≡ Some ws → (told : Option Bool)
     → IfSome told (λ cleared. (next : Office) × IsEdited o ws edit next × TellsIfCleared next s cleared) → IfSome told (IsTrialAnswer o s (action.Make at edit))
 told_as o s at edit ws get None h = tt
 told_as o s at edit ws get (Some cleared) (next, made, judged) = (ws, get, next, made, judged)
@@ -60,7 +60,7 @@ undone o c reply left is other = by (is_lost reply) is
 
 -- one more trial -----------------------------------------------------------------------------------
 
-pub more_trials : (o now left : Office) (s : Site) (old new : List Trial) → All (IsTrial o s) old × (now ≡ o)
+pub more_trials : (o now left : Office) (s : MergeSet) (old new : List Trial) → All (IsTrial o s) old × (now ≡ o)
     → AddsTrial now s old new → left ≡ now → All (IsTrial o s) new × (left ≡ o)
 more_trials o now left s old new (all, e) added back = (by (subst (λ (x : Office). AddsTrial x s old new) e added), back ∙ e)
   where
@@ -68,5 +68,5 @@ more_trials o now left s old new (all, e) added back = (by (subst (λ (x : Offic
     by (inl unchanged) = subst (All (IsTrial o s)) (sym unchanged) all
     by (inr (trial, is, more)) = subst (All (IsTrial o s)) (sym more) (All-push (IsTrial o s) old trial all is)
 
-pub no_trials : (o : Office) (s : Site) (trials : List Trial) → trials ≡ [] → All (IsTrial o s) trials
+pub no_trials : (o : Office) (s : MergeSet) (trials : List Trial) → trials ≡ [] → All (IsTrial o s) trials
 no_trials o s trials e = subst (All (IsTrial o s)) (sym e) (λ k d less. absurd (omega (arith, less)))

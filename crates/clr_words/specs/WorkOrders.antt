@@ -2,7 +2,7 @@
 use Rattle.std.specs.Prelude.{◌≡◌, ◌++◌, ◌==◌, ℕ, Bool, true, false, List, [], All, codes, length, if◌then◌else◌}
 use Rattle.std.specs.List.{flat_map}
 use Rattle.clr_steps.specs.Offices.{Office}
-use Rattle.clr_steps.specs.Quiet.{Site}
+use Rattle.clr_steps.specs.Quiet.{MergeSet}
 use Rattle.clr_plan.specs.declared.plans.Plan.{Plan}
 use Rattle.clr_plan.specs.Promises.{is_cleared, is_out_of_memory}
 use Rattle.clr_plan_lines.specs.Plans.{plan_text}
@@ -29,7 +29,7 @@ trials_text trials =
     if length trials == 0 then [] else codes "\nTried, each by itself:\n" ++ flat_map (trial_text true) trials ++ flat_map (trial_text false) trials
 
 -- sentences, then the trials, and then the lines of the plan, whose answer is that of the work order
-pub record IsWorkOrder (o : Office) (s : Site) (order : WorkOrder) : Type 0 where
+pub record IsWorkOrder (o : Office) (s : MergeSet) (order : WorkOrder) : Type 0 where
   pub plan : Plan
   pub planned : IsAnswered o s plan
   pub sentences : List ℕ

@@ -6,7 +6,7 @@ use clr_engine::Office;
 use clr_needs::{Need, VersionId};
 use clr_plan::Plan;
 use clr_plan_words::{
-    Members, ServerChange, Setting, rule_of, server_changes, server_side, site_of,
+    Members, ServerChange, Setting, rule_of, server_changes, server_side, need_place,
 };
 use clr_rows::{
     CellId, Form, GREATEST_KEY, Kind, Place, Row, Shape, Sheet, TableDef, Value, Values, Words,
@@ -205,7 +205,7 @@ fn add_servers_for(
         Some(rule) => server_side(rule),
         None => None,
     };
-    match (side, site_of(setting.office, setting.members, need)) {
+    match (side, need_place(setting.office, setting.members, need)) {
         (Some(side), Meeting::Whole(place)) => add_serving(setting, list, side, place, order),
         _ => Ok(()),
     }

@@ -3,7 +3,7 @@
 ghost use Rattle.std.specs.Prelude.{◌≡◌, ◌<◌, ◌∷◌, [], All, length, map, remove, IfOk, IfSome, OnOk};
 ghost use Rattle.clr_steps.specs.declared.commands.Command.TheVariants as command;
 ghost use Rattle.clr_steps.specs.Offices.{Office as Whole};
-ghost use Rattle.clr_sites.specs.SiteNames.{site};
+ghost use Rattle.clr_merge_sets.specs.MergeSetNames.{merge_set};
 ghost use Rattle.clr_words.specs.declared.trials.TheConstants.{BEFORE_TRIAL as SAVEPOINT};
 ghost use Rattle.clr_words.specs.Making.{AddsTrial, IsBack, IsDone, IsEditJudged};
 ghost use Rattle.clr_words.specs.Trials.{IsEdited, IsTrial, IsTrialAnswer, TellsIfCleared};
@@ -33,7 +33,7 @@ fn are_cleared(
     root: &str,
     names: &[&str],
 ) -> Result<bool, AllocError>
-    ensures { IfOk result (TellsIfCleared office.now (site root.now (map (λ name. name.now) names.now))) }
+    ensures { IfOk result (TellsIfCleared office.now (merge_set root.now (map (λ name. name.now) names.now))) }
 {
     match plan(alloc, office, root, names) {
         Plan::Cleared(_) => Ok(true),
@@ -130,7 +130,7 @@ fn judge_edit(
     ws: &str,
     edit: Edit,
 ) -> Result<Option<bool>, AllocError>
-    ensures { IfOk result (λ told. IsEditJudged office.old ws.now edit (site root.now (map (λ name. name.now) names.now)) told office.new) }
+    ensures { IfOk result (λ told. IsEditJudged office.old ws.now edit (merge_set root.now (map (λ name. name.now) names.now)) told office.new) }
 {
     if !make_edit(alloc, office, ws, edit)? {
         return Ok(None);
@@ -150,7 +150,7 @@ fn try_edit(
     edit: Edit,
 ) -> Result<Option<bool>, AllocError>
     ensures told { IfOk result (λ told. IfSome told (λ cleared. (next : Whole)
-        × IsEdited office.old ws.now edit next × TellsIfCleared next (site root.now (map (λ name. name.now) names.now)) cleared)) }
+        × IsEdited office.old ws.now edit next × TellsIfCleared next (merge_set root.now (map (λ name. name.now) names.now)) cleared)) }
     ensures back { IfOk result (λ told. office.new ≡ office.old) }
 {
     let _sound = office.len();
@@ -185,7 +185,7 @@ fn try_action(
     names: &[&str],
     action: Action,
 ) -> Result<Option<bool>, AllocError>
-    ensures told { IfOk result (λ told. IfSome told (IsTrialAnswer office.old (site root.now (map (λ name. name.now) names.now)) action)) }
+    ensures told { IfOk result (λ told. IfSome told (IsTrialAnswer office.old (merge_set root.now (map (λ name. name.now) names.now)) action)) }
     ensures back { IfOk result (λ told. office.new ≡ office.old) }
 {
     match action {
@@ -211,7 +211,7 @@ fn add_trial(
     remedy: Remedy,
     trials: &mut Vec<Trial>,
 ) -> Result<(), AllocError>
-    ensures added { OnOk result (AddsTrial office.old (site root.now (map (λ name. name.now) names.now)) trials.old.items trials.new.items) }
+    ensures added { OnOk result (AddsTrial office.old (merge_set root.now (map (λ name. name.now) names.now)) trials.old.items trials.new.items) }
     ensures back { OnOk result (office.new ≡ office.old) }
 {
     let Remedy { words, action } = remedy;
@@ -230,7 +230,7 @@ fn try_all(
     names: &[&str],
     remedies: Vec<Remedy>,
 ) -> Result<Vec<Trial>, AllocError>
-    ensures tried { IfOk result (λ trials. All (IsTrial office.old (site root.now (map (λ name. name.now) names.now))) trials.items) }
+    ensures tried { IfOk result (λ trials. All (IsTrial office.old (merge_set root.now (map (λ name. name.now) names.now))) trials.items) }
     ensures back { IfOk result (λ trials. office.new ≡ office.old) }
 {
     let mut trials = Vec::new(alloc);
@@ -251,7 +251,7 @@ pub fn try_remedies(
     names: &[&str],
     plan: &Plan,
 ) -> Result<Vec<Trial>, AllocError>
-    ensures tried { IfOk result (λ trials. All (IsTrial office.old (site root.now (map (λ name. name.now) names.now))) trials.items) }
+    ensures tried { IfOk result (λ trials. All (IsTrial office.old (merge_set root.now (map (λ name. name.now) names.now))) trials.items) }
     ensures back { IfOk result (λ trials. office.new ≡ office.old) }
 {
     let remedies = plan_remedies(alloc, office, root, names, plan)?;

@@ -1,7 +1,7 @@
 //! A plan as a work order.
 
 ghost use Rattle.std.specs.Prelude.{◌≡◌, ◌++◌, codes, map, IfOk};
-ghost use Rattle.clr_sites.specs.SiteNames.{site};
+ghost use Rattle.clr_merge_sets.specs.MergeSetNames.{merge_set};
 ghost use Rattle.clr_plan.specs.Promises.{is_cleared as is_cleared_plan, is_out_of_memory as is_lost_plan};
 ghost use Rattle.clr_words.specs.WorkOrders.{IsWorkOrder, trials_text};
 
@@ -69,7 +69,7 @@ pub fn work_order(
     root: &str,
     names: &[&str],
 ) -> Result<WorkOrder, AllocError>
-    ensures order { IfOk result (IsWorkOrder office.old (site root.now (map (λ name. name.now) names.now))) }
+    ensures order { IfOk result (IsWorkOrder office.old (merge_set root.now (map (λ name. name.now) names.now))) }
     ensures back { IfOk result (λ order. office.new ≡ office.old) }
 {
     let planned = plan(alloc, office, root, names);

@@ -143,7 +143,7 @@ pub(super) fn flag_answer(alloc: Global, case: &str) -> Option<String> {
     let text = with_part(alloc, format, part.as_str())?;
     match read_office(alloc, text.as_str().as_bytes()) {
         Ok(parts) => {
-            let kept = parts.workspaces.first()?.layer.kept;
+            let kept = parts.workspaces.first()?.delta.kept;
             format!(in alloc; "{} {kept}", parts.workspaces.len()).ok()
         }
         Err(fault) => format!(in alloc; "{fault:?}").ok(),

@@ -3,7 +3,7 @@
 use crate::questions::check;
 use crate::texts::{add_part, change_text};
 use clr_differences::Differences;
-use clr_layers::StoredMark;
+use clr_deltas::StoredMark;
 use clr_office_text::{StoredPart, read_office};
 use clr_rows::{CellId, Row};
 use std::alloc::Global;
@@ -61,11 +61,11 @@ fn marks_text(alloc: Global, marks: &[StoredMark]) -> Option<String> {
 }
 
 fn part_text(alloc: Global, part: &StoredPart) -> Option<String> {
-    let (name, parent) = (part.name.as_str(), part.layer.parent.as_str());
-    let base = differences_text(alloc, &part.layer.base)?;
-    let rows = differences_text(alloc, &part.layer.current)?;
-    let marks = marks_text(alloc, part.layer.marks.as_slice())?;
-    let (base, rows, kept) = (base.as_str(), rows.as_str(), part.layer.kept);
+    let (name, parent) = (part.name.as_str(), part.delta.parent.as_str());
+    let base = differences_text(alloc, &part.delta.base)?;
+    let rows = differences_text(alloc, &part.delta.current)?;
+    let marks = marks_text(alloc, part.delta.marks.as_slice())?;
+    let (base, rows, kept) = (base.as_str(), rows.as_str(), part.delta.kept);
     format!(in alloc;
         "{name} under {parent} {kept} base [{base}] rows [{rows}] marks [{}]",
         marks.as_str()

@@ -1,6 +1,6 @@
 use Rattle.std.proofs.Common.{subst, sym}
 use Rattle.clr_check.specs.Answers.{IsCheckAnswer}
-use Rattle.clr_sites.specs.Certificates.{entries_in}
+use Rattle.clr_merge_sets.specs.Certificates.{entries_in}
 use Rattle.clr_check.proofs.AnswerLemmas.{clear_answers, scene_answers, uncovered_answers}
 use Rattle.clr_check.proofs.checks.judge_parts.Goals as goal
 

@@ -4,9 +4,9 @@ use Rattle.clr_foot.specs.Scenes.{setting_in}
 use Rattle.clr_needs.specs.Settings.{Lived}
 use Rattle.clr_needs.proofs.BreakLaws.{touched_possible}
 use Rattle.clr_needs.proofs.Reading.{read_of}
-use Rattle.clr_sites.specs.Certificates.{entries_in}
+use Rattle.clr_merge_sets.specs.Certificates.{entries_in}
 use Rattle.clr_check.specs.Entries.{HasCover}
-use Rattle.clr_sites.specs.Told.{IsTold}
+use Rattle.clr_merge_sets.specs.Told.{IsTold}
 use Rattle.clr_cert.specs.declared.certificates.Entry.{Entry}
 use Rattle.clr_check.proofs.JudgeLemmas.{AreJudged, all_before, first_after, need_covered, need_uncovered, no_need, none_before, one_before}
 use Rattle.clr_check.proofs.covers.first_uncovered.Goals as goal

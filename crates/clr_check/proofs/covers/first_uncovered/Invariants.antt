@@ -1,5 +1,5 @@
 use Rattle.clr_foot.specs.Scenes.{setting_in}
-use Rattle.clr_sites.specs.Certificates.{entries_in}
+use Rattle.clr_merge_sets.specs.Certificates.{entries_in}
 use Rattle.clr_check.proofs.JudgeLemmas.{AllBefore}
 use Rattle.clr_check.proofs.covers.first_uncovered.Given as goal
 

@@ -2,7 +2,7 @@ use Rattle.std.proofs.Common.{◌∙◌, ap, refl, sym}
 use Rattle.std.specs.Prelude.{slice_get}
 use Rattle.std.specs.Str.{bytes_eq}
 use Rattle.std.proofs.lemmas.Option.{slice_get_read}
-use Rattle.clr_sites.proofs.RepeatLemmas.{found_in, not_earlier}
+use Rattle.clr_merge_sets.proofs.RepeatLemmas.{found_in, not_earlier}
 use Rattle.clr_check.proofs.quiet.is_member.Goals as goal
 
 pub returns-then-eq : goal.returns-then-eq

@@ -7,19 +7,19 @@ use Rattle.clr_steps.specs.declared.commands.Reply.{Reply}
 use Rattle.clr_steps.specs.Steps.{AreAnswers, lost_in}
 use Rattle.clr_clearance.specs.Runs.{AreQuiet}
 use Rattle.clr_clearance.proofs.CheckLemmas.{one_more}
-use Rattle.clr_sites.specs.Certificates.{site_of}
+use Rattle.clr_merge_sets.specs.Certificates.{merge_set_of}
 use Rattle.clr_check.proofs.runs.perform_quiet.Goals as goal
 
 pub loop-command-preserved : goal.loop-command-preserved
 loop-command-preserved c =
     let first = c.args.office.now in
-    let site = site_of c.args.certificate.now in
+    let merge_set = merge_set_of c.args.certificate.now in
     let at = c.loop-command.command-index in
     let commands = c.args.commands.now in
     let left = c.perform-reply.new.self in
     let all = c.loop-command.replies.items ++ c.perform-reply.result ∷ [] in
     let quiet : _ ≡ true = sym c.is_quiet.ensures ∙ c.if-not-is_quiet.false in
-    let more = one_more first site (take at commands) c.loop-command.replies.items c.loop-command.office c.command-item.result c.perform-reply.result left
+    let more = one_more first merge_set (take at commands) c.loop-command.replies.items c.loop-command.office c.command-item.result c.perform-reply.result left
     c.loop-command.invariant.answers c.loop-command.invariant.quiet quiet
     c.perform-reply.ensures.answer in
     let performed : take at commands ++ c.command-item.result ∷ [] ≡ take (at + 1) commands = ap (λ command. take at commands ++ command ∷ []) c.command-item.is
@@ -29,8 +29,8 @@ loop-command-preserved c =
     record {
       answers = subst (λ (replies : List Reply). AreAnswers first (take (at + 1) commands) replies left) (sym pushed)
           (subst (λ (cs : List Command). AreAnswers first cs all left) performed more.0);
-      quiet = subst (λ (replies : List Reply). AreQuiet first site (take (at + 1) commands) (lost_in replies)) (sym pushed)
-          (subst (λ (cs : List Command). AreQuiet first site cs (lost_in all)) performed more.1);
+      quiet = subst (λ (replies : List Reply). AreQuiet first merge_set (take (at + 1) commands) (lost_in replies)) (sym pushed)
+          (subst (λ (cs : List Command). AreQuiet first merge_set cs (lost_in all)) performed more.1);
       count = grind (arith, common_steps);
       room = grind (arith, common_steps);
     }

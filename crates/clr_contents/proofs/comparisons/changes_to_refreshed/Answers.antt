@@ -2,7 +2,7 @@ use Rattle.std.proofs.Common.{ap, sym, ◌∙◌, arith}
 use Rattle.std.specs.FinMap as finite
 use Rattle.clr_rows.specs.Contents.{Changes, no_changes, row_at, taken_over}
 use Rattle.clr_differences.specs.Differences.{Differences}
-use Rattle.clr_layers.specs.Layers.{Layer, layer_at, wholes}
+use Rattle.clr_deltas.specs.Deltas.{Delta, delta_at, wholes}
 use Rattle.clr_workspaces.specs.Workspaces.{workspace_at}
 use Rattle.clr_contents.specs.Comparing.{set_at}
 use Rattle.clr_contents.proofs.ComparedLemmas.{all_set, no_entry, own_row}
@@ -21,7 +21,7 @@ returns c =
     let w = workspace_at ws c.args.at in
     let above = (workspace_at ws c.args.above).current in
     let earlier = parent_earlier c.args.live.now c.args.map.now c.args.at c.args.above c.requires.rooted c.requires.child c.requires.within c.requires.above in
-    let l : Layer = layer_at c.args.map.now c.args.at in
+    let l : Delta = delta_at c.args.map.now c.args.at in
     let cells = c.as_slice.ensures.value ∙ c.in_ok-cells.ensures ∙ ap (λ (d : Differences). finite.keys d) c.base.ensures in
     let after = c.new-after.ensures ∙ (λ i. taken_over (c.new-parent.ensures i) c.args.own.now) in
     c.in_ok-set.ensures ∙ (λ i. set_at (c.new-before.ensures i) (after i) no_changes (cells i))

@@ -5,7 +5,7 @@ use Rattle.clr_rows.specs.declared.cells.CellId.{CellId}
 use Rattle.clr_rows.specs.declared.rows.Row.{Row}
 use Rattle.clr_rows.specs.Contents.{no_changes, row_at}
 use Rattle.clr_differences.specs.Differences.{is_among}
-use Rattle.clr_layers.specs.Layers.{Layer, layer_at, saved_differences, stored_at, wholes}
+use Rattle.clr_deltas.specs.Deltas.{Delta, delta_at, saved_differences, stored_at, wholes}
 use Rattle.clr_workspaces.specs.Marks.{mark_at, saved_content}
 use Rattle.clr_workspaces.specs.Workspaces.{workspace_at}
 use Rattle.clr_contents.specs.Comparing.{set_at}
@@ -20,7 +20,7 @@ cells_of_both-requires-clause-marked c = saved_stored c.args.live.now c.args.map
 pub returns : goal.returns
 returns c =
     let w = workspace_at (wholes c.args.live.now c.args.map.now) c.args.at in
-    let l : Layer = layer_at c.args.map.now c.args.at in
+    let l : Delta = delta_at c.args.map.now c.args.at in
     let d = saved_differences (stored_at l.marks c.args.mark) in
     let cells = c.as_slice.ensures.value ∙ c.in_ok-cells.ensures in
     let agree : (q : CellId) → is_among (finite.keys l.current ++ finite.keys d) q ≡ false →

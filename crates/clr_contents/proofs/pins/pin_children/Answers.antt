@@ -2,7 +2,7 @@ use Rattle.std.proofs.Common.{◌≡◌, ◌≢◌, ⊎_elim, ◌∙◌, sym, su
 use Rattle.std.proofs.lemmas.Bool.{cases_eq}
 use Rattle.clr_differences.specs.Differences.{HasEntries}
 use Rattle.clr_differences.proofs.DifferenceLemmas.{entries_keep}
-use Rattle.clr_layers.specs.Layers.{layer_at, IsUnder}
+use Rattle.clr_deltas.specs.Deltas.{delta_at, IsUnder}
 use Rattle.clr_contents.proofs.PinLemmas.{extends_both, but_children_both}
 use Rattle.clr_contents.proofs.pins.pin_children.Goals as goal
 
@@ -13,19 +13,19 @@ loop-k-preserved c =
     let e = c.in_ok-pin_child.ensures in
     let i = c.loop-k.invariant in
     let k = c.loop-k.k in
-    let name = (layer_at c.args.map.now c.args.at).name in
+    let name = (delta_at c.args.map.now c.args.at).name in
     record {
       seen = e.seen ∙ i.seen;
       extends = extends_both _ old new i.extends e.extends;
       elsewhere = but_children_both c.args.at c.args.cells.now c.args.map.now old new i.extends i.elsewhere e.elsewhere;
       pinned = λ j some lt under. ⊎_elim
           (λ (same : j ≡ k).
-          subst (λ n. HasEntries (layer_at new n).base c.args.cells.now) (sym same)
-          (e.pinned (subst (λ n. IsUnder n (layer_at new k)) (sym (i.extends.each c.args.at).name) (subst (λ n. IsUnder name (layer_at new n)) same under))))
+          subst (λ n. HasEntries (delta_at new n).base c.args.cells.now) (sym same)
+          (e.pinned (subst (λ n. IsUnder n (delta_at new k)) (sym (i.extends.each c.args.at).name) (subst (λ n. IsUnder name (delta_at new n)) same under))))
           (λ (other : j ≢ k).
           let more = e.extends.each j in
-          entries_keep (layer_at old j).base (layer_at new j).base _ more.base
-          (i.pinned j some (omega arith) (subst (λ n. IsUnder name (record (layer_at old j) { parent = n })) more.parent under)))
+          entries_keep (delta_at old j).base (delta_at new j).base _ more.base
+          (i.pinned j some (omega arith) (subst (λ n. IsUnder name (record (delta_at old j) { parent = n })) more.parent under)))
           (cases_eq j k);
     }
 

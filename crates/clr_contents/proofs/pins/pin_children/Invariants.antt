@@ -1,6 +1,6 @@
 use Rattle.std.proofs.Common.{◌≡◌, ◌<◌, ℕ}
 use Rattle.clr_differences.specs.Differences.{HasEntries}
-use Rattle.clr_layers.specs.Layers.{wholes, layer_at, IsUnder}
+use Rattle.clr_deltas.specs.Deltas.{wholes, delta_at, IsUnder}
 use Rattle.clr_contents.specs.Pinning.{Extends, StayOwnButChildren}
 use Rattle.clr_contents.proofs.pins.pin_children.Given as goal
 
@@ -8,6 +8,6 @@ abbrev pub invariant-loop-k : goal.invariant-loop-k
 invariant-loop-k l = record {
   seen : wholes l.live l.map ≡ wholes l.live l.fn.map;
   extends : Extends l.fn.map l.map;
-  elsewhere : StayOwnButChildren (layer_at l.fn.map l.at).name l.cells l.fn.map l.map;
-  pinned : (j : ℕ) → 0 < j → j < l.k → IsUnder (layer_at l.fn.map l.at).name (layer_at l.map j) → HasEntries (layer_at l.map j).base l.cells;
+  elsewhere : StayOwnButChildren (delta_at l.fn.map l.at).name l.cells l.fn.map l.map;
+  pinned : (j : ℕ) → 0 < j → j < l.k → IsUnder (delta_at l.fn.map l.at).name (delta_at l.map j) → HasEntries (delta_at l.map j).base l.cells;
 }

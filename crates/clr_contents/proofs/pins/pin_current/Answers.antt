@@ -1,5 +1,5 @@
 use Rattle.std.proofs.Common.{ap, sym, subst, ◌∙◌, ◌∷◌, []}
-use Rattle.clr_layers.specs.Layers.{wholes}
+use Rattle.clr_deltas.specs.Deltas.{wholes}
 use Rattle.clr_contents.specs.Pinning.{StayOwnBut}
 use Rattle.clr_contents.proofs.PinLemmas.{current_pinned, but_current}
 use Rattle.clr_contents.proofs.pins.pin_current.Goals as goal

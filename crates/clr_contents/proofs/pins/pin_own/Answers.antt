@@ -1,6 +1,6 @@
 use Rattle.std.proofs.Common.{◌∙◌, arith}
 use Rattle.clr_differences.proofs.DifferenceLemmas.{entries_keep, entries_next}
-use Rattle.clr_layers.specs.Layers.{layer_at}
+use Rattle.clr_deltas.specs.Deltas.{delta_at}
 use Rattle.clr_contents.proofs.PinLemmas.{extends_both, own_both, apart_at}
 use Rattle.clr_contents.proofs.pins.pin_own.Goals as goal
 
@@ -13,10 +13,10 @@ loop-cell-preserved c =
     record {
       seen = e.seen ∙ i.seen;
       extends = extends_both _ old new i.extends e.extends;
-      elsewhere = λ k q apart. own_both q (layer_at c.args.map.now k) (layer_at old k) (layer_at new k) (i.elsewhere k q apart)
+      elsewhere = λ k q apart. own_both q (delta_at c.args.map.now k) (delta_at old k) (delta_at new k) (i.elsewhere k q apart)
           (e.elsewhere k q (λ same. apart_at c.args.cells.now c.loop-cell.cell-index _ q (omega arith) (apart same)));
-      pinned = entries_next (layer_at new c.args.at).current _ _ _ (omega arith)
-          (entries_keep (layer_at old c.args.at).current (layer_at new c.args.at).current _ (e.extends.each c.args.at).current i.pinned) e.pinned;
+      pinned = entries_next (delta_at new c.args.at).current _ _ _ (omega arith)
+          (entries_keep (delta_at old c.args.at).current (delta_at new c.args.at).current _ (e.extends.each c.args.at).current i.pinned) e.pinned;
     }
 
 pub returns-in_err-pin_current-clause-elsewhere : goal.returns-in_err-pin_current-clause-elsewhere
@@ -24,5 +24,5 @@ returns-in_err-pin_current-clause-elsewhere c = λ k q apart.
     let old = c.loop-cell.map in
     let new = c.pin_current.new.map in
     let lt = c.loop-cell-test.true in
-    own_both q (layer_at c.args.map.now k) (layer_at old k) (layer_at new k) (c.loop-cell.invariant.elsewhere k q apart)
+    own_both q (delta_at c.args.map.now k) (delta_at old k) (delta_at new k) (c.loop-cell.invariant.elsewhere k q apart)
     (c.pin_current.ensures.elsewhere k q (λ same. apart_at c.args.cells.now c.loop-cell.cell-index _ q (omega (arith, lt)) (apart same)))

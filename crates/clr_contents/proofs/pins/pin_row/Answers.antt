@@ -1,5 +1,5 @@
 use Rattle.std.proofs.Common.{◌∷◌, []}
-use Rattle.clr_layers.proofs.Answered.{on_ok}
+use Rattle.clr_deltas.proofs.Answered.{on_ok}
 use Rattle.clr_contents.proofs.PinLemmas.{but_both}
 use Rattle.clr_contents.proofs.pins.pin_row.Goals as goal
 

@@ -1,5 +1,5 @@
 use Rattle.std.proofs.Common.{◌≡◌, ◌∙◌, ap, arith}
-use Rattle.clr_layers.specs.Layers.{wholes}
+use Rattle.clr_deltas.specs.Deltas.{wholes}
 use Rattle.clr_workspaces.specs.Workspaces.{depth_of}
 use Rattle.clr_workspaces.proofs.DepthLemmas.{depth_step, depth_zero}
 use Rattle.clr_contents.proofs.ReadLemmas.{within_wholes}

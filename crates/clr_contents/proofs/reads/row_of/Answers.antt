@@ -3,9 +3,9 @@ use Rattle.std.specs.FinMap as finite
 use Rattle.std.specs.Option.{option_copied}
 use Rattle.clr_rows.specs.Contents.{Content, row_at}
 use Rattle.clr_differences.specs.Differences.{Differences}
-use Rattle.clr_layers.specs.Layers.{wholes}
+use Rattle.clr_deltas.specs.Deltas.{wholes}
 use Rattle.clr_workspaces.specs.Workspaces.{workspace_at}
-use Rattle.clr_layers.proofs.Meaning.{live-wholes}
+use Rattle.clr_deltas.proofs.Meaning.{live-wholes}
 use Rattle.clr_contents.proofs.ReadLemmas.{found_current, none_current, found_base, none_base}
 use Rattle.clr_contents.proofs.reads.row_of.Goals as goal
 

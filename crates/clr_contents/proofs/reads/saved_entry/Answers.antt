@@ -1,7 +1,7 @@
 use Rattle.std.proofs.Common.{ap, sym, ◌∙◌}
 use Rattle.std.specs.FinMap as finite
 use Rattle.clr_rows.specs.Cells.{cell_cmp}
-use Rattle.clr_layers.specs.Layers.{saved_differences}
+use Rattle.clr_deltas.specs.Deltas.{saved_differences}
 use Rattle.clr_contents.proofs.reads.saved_entry.Goals as goal
 
 pub returns-in-Child : goal.returns-in-Child

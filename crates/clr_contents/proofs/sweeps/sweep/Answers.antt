@@ -1,7 +1,7 @@
 use Rattle.std.proofs.Common.{◌≡◌, ◌≢◌, ⊎_elim, List, length, refl, ap, sym, subst, ◌∙◌, arith}
 use Rattle.std.proofs.lemmas.Bool.{cases_eq}
 use Rattle.std.proofs.lemmas.List.{length-set, get_or-set_other}
-use Rattle.clr_layers.specs.Layers.{Layer, no_layer, layer_at, wholes}
+use Rattle.clr_deltas.specs.Deltas.{Delta, no_delta, delta_at, wholes}
 use Rattle.clr_workspaces.specs.Workspaces.{Workspace}
 use Rattle.clr_workspaces.specs.Roots.{IsRooted}
 use Rattle.clr_contents.specs.Lean.{IsLeanOver}
@@ -27,12 +27,12 @@ loop-at-preserved c =
     let e = c.sweep_one.ensures in
     record {
       seen = e.seen ∙ i.seen;
-      long = ap (λ (ms : List Layer). length ms) e.others ∙ length-set old at _ ∙ i.long;
+      long = ap (λ (ms : List Delta). length ms) e.others ∙ length-set old at _ ∙ i.long;
       lean = λ j some lt. ⊎_elim
-          (λ (same : j ≡ at). subst (λ n. IsLeanOver (wholes live ls) n (layer_at new n)) (sym same)
-          (subst (λ (ws : List Workspace). IsLeanOver ws at (layer_at new at)) i.seen e.lean))
-          (λ (n : j ≢ at). subst (IsLeanOver (wholes live ls) j) (sym (ap (λ (ns : List Layer). layer_at ns j) e.others
-          ∙ get_or-set_other old at j _ no_layer n)) (i.lean j some (omega (arith, n, lt))))
+          (λ (same : j ≡ at). subst (λ n. IsLeanOver (wholes live ls) n (delta_at new n)) (sym same)
+          (subst (λ (ws : List Workspace). IsLeanOver ws at (delta_at new at)) i.seen e.lean))
+          (λ (n : j ≢ at). subst (IsLeanOver (wholes live ls) j) (sym (ap (λ (ns : List Delta). delta_at ns j) e.others
+          ∙ get_or-set_other old at j _ no_delta n)) (i.lean j some (omega (arith, n, lt))))
           (cases_eq j at);
     }
 
@@ -41,4 +41,4 @@ returns-clause-lean c = λ j some lt.
     let i = c.loop-at.invariant in
     let long = i.long in
     let all = c.len-at-end.ensures in
-    subst (λ (ws : List Workspace). IsLeanOver ws j (layer_at c.loop-at.map j)) (sym i.seen) (i.lean j some (omega (arith, long, all, lt)))
+    subst (λ (ws : List Workspace). IsLeanOver ws j (delta_at c.loop-at.map j)) (sym i.seen) (i.lean j some (omega (arith, long, all, lt)))

@@ -1,6 +1,6 @@
 use Rattle.std.proofs.Common.{◌≡◌, List, refl, ap, sym, subst, ◌∙◌, slice_set}
 use Rattle.clr_differences.specs.Differences.{Differences, swept_at}
-use Rattle.clr_layers.specs.Layers.{Layer, layer_at, layer_changed, wholes}
+use Rattle.clr_deltas.specs.Deltas.{Delta, delta_at, delta_changed, wholes}
 use Rattle.clr_workspaces.specs.Workspaces.{workspace_at}
 use Rattle.clr_workspaces.specs.Roots.{IsRooted}
 use Rattle.clr_contents.specs.Lean.{content_of_parent}
@@ -11,8 +11,8 @@ pub new-requires-clause-rooted : goal.new-requires-clause-rooted
 new-requires-clause-rooted c =
     let live = c.args.live.now in
     let ls = c.args.map.now in
-    let out : Layer = record (layer_at ls c.args.at) { base = c.new-none.result } in
-    subst (λ (ms : List Layer). IsRooted (wholes live ms)) (sym c.replace_base-base.ensures.new)
+    let out : Delta = record (delta_at ls c.args.at) { base = c.new-none.result } in
+    subst (λ (ms : List Delta). IsRooted (wholes live ms)) (sym c.replace_base-base.ensures.new)
     (rooted_still ls c.args.at out refl refl live c.requires.rooted)
 
 pub returns : goal.returns
@@ -20,16 +20,16 @@ returns c =
     let live = c.args.live.now in
     let ls = c.args.map.now in
     let at = c.args.at in
-    let stored = layer_at ls at in
-    let out : Layer = record stored { base = c.new-none.result } in
+    let stored = delta_at ls at in
+    let out : Delta = record stored { base = c.new-none.result } in
     let above = content_of_parent (wholes live ls) at in
     let seen : c.new.result ≡ above =
-    c.new.ensures ∙ ap (λ (ms : List Layer). (workspace_at (wholes live ms) c.parent_of-above.result).current) c.replace_base-base.ensures.new
+    c.new.ensures ∙ ap (λ (ms : List Delta). (workspace_at (wholes live ms) c.parent_of-above.result).current) c.replace_base-base.ensures.new
     ∙ parent_stays live ls at c.requires.rooted c.requires.child c.requires.within c.new-none.result c.parent_of-above.result c.parent_of-above.ensures.found
     c.parent_of-above.ensures.earlier in
     let is : c.sweep_at.new.self ≡ swept_at above c.args.cells.now stored.base = c.sweep_at.ensures
     ∙ (λ i. swept_at (seen i) c.args.cells.now (c.replace_base-base.ensures.before i)) in
     c.replace_base-none.ensures.new
-    ∙ ap (λ (ms : List Layer). layer_changed ms at (λ l. record l { base = c.sweep_at.new.self })) c.replace_base-base.ensures.new
+    ∙ ap (λ (ms : List Delta). delta_changed ms at (λ l. record l { base = c.sweep_at.new.self })) c.replace_base-base.ensures.new
     ∙ set_again ls at out c.requires.within (λ l. record l { base = c.sweep_at.new.self })
-    ∙ ap (λ (d : Differences). let l : Layer = record stored { base = d } in slice_set ls at l) is
+    ∙ ap (λ (d : Differences). let l : Delta = record stored { base = d } in slice_set ls at l) is

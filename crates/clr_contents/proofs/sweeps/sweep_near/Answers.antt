@@ -1,6 +1,6 @@
 use Rattle.std.proofs.Common.{sym, subst, ◌∙◌}
 use Rattle.std.proofs.lemmas.Bool.{both_ways, eqb-false, or_parts}
-use Rattle.clr_layers.specs.Layers.{wholes}
+use Rattle.clr_deltas.specs.Deltas.{wholes}
 use Rattle.clr_contents.specs.Lean.{IsLeanOver}
 use Rattle.clr_contents.proofs.LeanLemmas.{lean_apart, lean_swept_at}
 use Rattle.clr_contents.proofs.sweeps.sweep_near.Goals as goal

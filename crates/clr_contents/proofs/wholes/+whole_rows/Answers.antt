@@ -3,9 +3,9 @@ use Rattle.std.specs.Prelude.{IfOk}
 use Rattle.std.specs.FinMap as finite
 use Rattle.clr_rows.specs.Contents.{Content, over}
 use Rattle.clr_differences.specs.Differences.{Differences}
-use Rattle.clr_layers.specs.Layers.{wholes}
+use Rattle.clr_deltas.specs.Deltas.{wholes}
 use Rattle.clr_workspaces.specs.Workspaces.{workspace_at}
-use Rattle.clr_layers.proofs.Meaning.{live-wholes}
+use Rattle.clr_deltas.proofs.Meaning.{live-wholes}
 use Rattle.clr_contents.proofs.ReadLemmas.{current_parts}
 use Rattle.clr_contents.proofs.wholes.+whole_rows.Goals as goal
 

@@ -2,7 +2,7 @@ use Rattle.std.proofs.Common.{ap, sym, ◌∙◌}
 use Rattle.std.specs.FinMap as finite
 use Rattle.clr_rows.specs.Contents.{changes, no_changes}
 use Rattle.clr_differences.specs.Differences.{Differences, RowEntries}
-use Rattle.clr_layers.specs.Layers.{layer_at, wholes}
+use Rattle.clr_deltas.specs.Deltas.{delta_at, wholes}
 use Rattle.clr_workspaces.specs.Workspaces.{workspace_at}
 use Rattle.clr_contents.specs.Pinning.{set_each}
 use Rattle.clr_contents.proofs.ChangeLemmas.{changes_found}
@@ -14,5 +14,5 @@ returns c =
     let base = (workspace_at (wholes c.args.live.now c.args.map.now) c.args.at).base in
     let rows = c.in_ok-rows.ensures ∙ ap (λ (d : Differences). finite.entries d) c.current.ensures in
     c.in_ok-set.ensures ∙ ap (λ (es : RowEntries). set_each base no_changes es) rows
-    ∙ changes_found base (layer_at c.args.map.now c.args.at).current
+    ∙ changes_found base (delta_at c.args.map.now c.args.at).current
     ∙ ap (changes base) (sym (current-wholes c.args.live.now c.args.map.now c.args.at c.requires.child c.requires.within))

@@ -1,7 +1,7 @@
 use Rattle.std.proofs.Common.{◌≡◌}
 use Rattle.std.specs.Vec.Iter.{into_iter_items}
 use Rattle.clr_rows.specs.Contents.{no_changes}
-use Rattle.clr_layers.specs.Layers.{wholes}
+use Rattle.clr_deltas.specs.Deltas.{wholes}
 use Rattle.clr_workspaces.specs.Workspaces.{workspace_at}
 use Rattle.clr_contents.specs.Pinning.{set_each}
 use Rattle.clr_contents.proofs.wholes.changes_to.Given as goal

@@ -1,5 +1,5 @@
 use Rattle.std.proofs.Common.{◌∙◌, [], sym}
-use Rattle.clr_sites.proofs.NameLemmas.{child_by_parent, none_without_parent, root_is_none}
+use Rattle.clr_merge_sets.proofs.NameLemmas.{child_by_parent, none_without_parent, root_is_none}
 use Rattle.clr_desk.proofs.children.is_child.Goals as goal
 
 pub returns-then-eq : goal.returns-then-eq

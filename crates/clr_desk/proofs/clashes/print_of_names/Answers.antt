@@ -1,8 +1,8 @@
 use Rattle.std.proofs.Common.{◌≡◌, ◌∙◌, IfOk, List, map, rules, subst}
 use Rattle.clr_workspaces.specs.Marks.{Name}
-use Rattle.clr_sites.specs.SiteNames.{site}
+use Rattle.clr_merge_sets.specs.MergeSetNames.{merge_set}
 use Rattle.clr_desk.specs.Choices.{members_or_children}
-use Rattle.clr_desk.specs.Clashes.{IsSitePrint}
+use Rattle.clr_desk.specs.Clashes.{IsMergeSetPrint}
 use Rattle.clr_prints.specs.Printing.{printed}
 use Rattle.clr_desk.proofs.clashes.print_of_names.Goals as goal
 
@@ -14,4 +14,4 @@ returns c =
     let asked : c.as_slice.result.now ≡ members_or_children o root names = search rules in
     let given : map (λ text. text.now) c.as_slice-2.result.now ≡ members_or_children o root names =
     rw c.as_slice-2.ensures.value (c.in_ok-members.ensures ∙ asked) in
-    subst (λ (members : List Name). IfOk c.print_of_site.result (λ print. IsSitePrint (site root members) o (printed print))) given c.print_of_site.ensures
+    subst (λ (members : List Name). IfOk c.print_of_merge_set.result (λ print. IsMergeSetPrint (merge_set root members) o (printed print))) given c.print_of_merge_set.ensures

@@ -3,7 +3,7 @@ use Rattle.std.proofs.lemmas.Result.{IfOk-weaker}
 use Rattle.clr_steps.specs.Offices.{Office}
 use Rattle.clr_clearance.specs.ClearedRuns.{IsClearedRun, IsQuietStart}
 use Rattle.clr_clearance.specs.Plans.{merges}
-use Rattle.clr_sites.specs.Certificates.{site_of}
+use Rattle.clr_merge_sets.specs.Certificates.{merge_set_of}
 use Rattle.clr_verdict_lines.specs.Verdicts.{verdict_text}
 use Rattle.clr_office.specs.Clearances.{AreMerged}
 use Rattle.clr_desk.specs.Merges.{of_merges, of_verdict}
@@ -20,8 +20,8 @@ returns-in-Ok c =
     let are : c.as_slice.result.now ≡ merges names = c.as_slice.ensures.value ∙ c.in_ok-commands.ensures in
     let all : AreMerged o certificate names run.replies.items run.stopped left = record {
       clear = performed.clear;
-      start = subst (λ cs. IsQuietStart o (site_of certificate) cs run.replies.items left run.stopped) are performed.start;
-      run = subst (λ cs. IsClearedRun o (site_of certificate) (take (length run.replies.items) cs) run.replies.items left) are performed.run;
+      start = subst (λ cs. IsQuietStart o (merge_set_of certificate) cs run.replies.items left run.stopped) are performed.start;
+      run = subst (λ cs. IsClearedRun o (merge_set_of certificate) (take (length run.replies.items) cs) run.replies.items left) are performed.run;
     } in
     IfOk-weaker c.run_print.result _ _ (λ print is. of_merges run.replies.items run.stopped left all is) c.run_print.ensures
 

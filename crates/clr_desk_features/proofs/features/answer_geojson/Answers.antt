@@ -1,6 +1,6 @@
 use Rattle.std.proofs.Common.{◌≡◌, ◌∙◌, ◌∷◌, Some, None, ap, sym}
 use Rattle.std.specs.Option.{option_copied}
-use Rattle.clr_sites.specs.SiteNames.{site}
+use Rattle.clr_merge_sets.specs.MergeSetNames.{merge_set}
 use Rattle.clr_drafts.specs.Drafts.{draft_in}
 use Rattle.clr_prints.specs.NameHints.{IsHinted}
 use Rattle.clr_prints.specs.Printing.{IsPrintoutIn}
@@ -11,7 +11,7 @@ use Rattle.clr_desk_features.proofs.features.answer_geojson.Goals as goal
 pub returns-in_default : goal.returns-in_default
 returns-in_default c =
     let none : option_copied c.args.system ≡ None = ap option_copied c.in_default.is in
-    let s = site c.args.root.now c.args.names.now in
+    let s = merge_set c.args.root.now c.args.names.now in
     let names = c.args.root.now ∷ c.args.names.now in
     let given = draft_in c.args.office.now in
     made_as (IsPrintoutIn (IsHinted (IsFeaturesPrint s None) names) given) (IsFeaturesAnswer s names (option_copied c.args.system) given)
@@ -22,7 +22,7 @@ returns-in-Some-system_of c =
     let code = c.in-Some-system_of.code in
     let named : option_copied c.args.system ≡ Some (system_name code) =
     ap option_copied c.in-Some.is ∙ ap Some (sym c.as_str.ensures ∙ c.in-Some-system_of.ensures.named) in
-    let s = site c.args.root.now c.args.names.now in
+    let s = merge_set c.args.root.now c.args.names.now in
     let names = c.args.root.now ∷ c.args.names.now in
     let given = draft_in c.args.office.now in
     made_as (IsPrintoutIn (IsHinted (IsFeaturesPrint s (Some code)) names) given) (IsFeaturesAnswer s names (option_copied c.args.system) given)

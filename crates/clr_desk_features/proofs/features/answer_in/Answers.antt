@@ -1,5 +1,5 @@
 use Rattle.std.proofs.Common.{◌∷◌}
-use Rattle.clr_sites.specs.SiteNames.{site}
+use Rattle.clr_merge_sets.specs.MergeSetNames.{merge_set}
 use Rattle.clr_drafts.specs.Drafts.{draft_in}
 use Rattle.clr_desk_features.specs.Features.{IsFeaturesPrint}
 use Rattle.clr_prints.specs.NameHints.{IsHinted}
@@ -15,5 +15,5 @@ pub returns-in-Err : goal.returns-in-Err
 returns-in-Err c =
     let root = c.args.root.now in
     let names = c.args.names.now in
-    office_fault (IsHinted (IsFeaturesPrint (site root names) c.args.system) (root ∷ names)) (draft_in c.args.office.now) c.in-Err.answer c.notes_of.result
+    office_fault (IsHinted (IsFeaturesPrint (merge_set root names) c.args.system) (root ∷ names)) (draft_in c.args.office.now) c.in-Err.answer c.notes_of.result
     c.in-Err.ensures.answer c.notes_of.ensures

@@ -1,6 +1,6 @@
 use Rattle.std.proofs.Common.{◌≡◌, List, map, subst}
 use Rattle.clr_workspaces.specs.Marks.{Name}
-use Rattle.clr_sites.specs.SiteNames.{site}
+use Rattle.clr_merge_sets.specs.MergeSetNames.{merge_set}
 use Rattle.clr_office.specs.Outcomes.{IsPlanned}
 use Rattle.clr_plan_map.specs.Maps.{IsMap}
 use Rattle.clr_desk_pages.proofs.maps.print_of_members.Goals as goal
@@ -16,7 +16,7 @@ returns c =
     let second : map (λ text. text.now) c.as_slice-2.result.now ≡ names = rw c.as_slice-2.ensures.value c.in_ok-members.ensures in (
       p,
       text,
-      subst (λ (members : List Name). IsPlanned o (site root members) p) first c.plan_members-plan.ensures,
+      subst (λ (members : List Name). IsPlanned o (merge_set root members) p) first c.plan_members-plan.ensures,
       subst (λ (members : List Name). IsMap o.schema members root p text) second c.in_ok-text.ensures.map,
       c.print_of_map.ensures,
     )

@@ -1,6 +1,6 @@
 use Rattle.std.proofs.Common.{◌≤◌, length, map, refl, arith}
 use Rattle.std.proofs.lemmas.List.{length-map}
-use Rattle.clr_layers.specs.Entries.{stored_layer}
+use Rattle.clr_deltas.specs.Entries.{stored_delta}
 use Rattle.clr_workspaces.specs.declared.limits.TheConstants.{MOST_WORKSPACES}
 use Rattle.clr_office_text.specs.Offices.{office_read}
 use Rattle.clr_drafts.specs.Drafts.{whole_office}
@@ -10,18 +10,18 @@ use Rattle.clr_drafts.proofs.reading.draft_of.Goals as goal
 
 pub returns-then-len-ge-MOST_WORKSPACES : goal.returns-then-len-ge-MOST_WORKSPACES
 returns-then-len-ge-MOST_WORKSPACES c =
-    let layers = map stored_layer c.args.read.workspaces.items in
-    let count = length-map c.args.read.workspaces.items stored_layer in
-    let many : MOST_WORKSPACES ≤ length layers = omega (arith, count, c.len.ensures, c.if-len-ge-MOST_WORKSPACES.true) in
-    too_many (whole_office (office_read c.args.read)) c.args.read.live layers refl refl many
+    let deltas = map stored_delta c.args.read.workspaces.items in
+    let count = length-map c.args.read.workspaces.items stored_delta in
+    let many : MOST_WORKSPACES ≤ length deltas = omega (arith, count, c.len.ensures, c.if-len-ge-MOST_WORKSPACES.true) in
+    too_many (whole_office (office_read c.args.read)) c.args.read.live deltas refl refl many
 
-pub draft_of_layers-requires : goal.draft_of_layers-requires
-draft_of_layers-requires c =
+pub draft_of_deltas-requires : goal.draft_of_deltas-requires
+draft_of_deltas-requires c =
     record {
       book = c.requires.book;
       rows = record {
         live = c.requires.live;
-        workspaces = all_fit c.args.read.schema c.args.read.live (map stored_layer c.args.read.workspaces.items)
-            c.requires.live c.requires.layers;
+        workspaces = all_fit c.args.read.schema c.args.read.live (map stored_delta c.args.read.workspaces.items)
+            c.requires.live c.requires.deltas;
       };
     }

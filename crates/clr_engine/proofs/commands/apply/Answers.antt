@@ -2,7 +2,7 @@ use Rattle.std.proofs.Common.{◌≡◌, ap, refl, sym, subst, ◌∙◌}
 use Rattle.std.specs.Option.{option_map}
 use Rattle.clr_rows.specs.Contents.{Content, changes, taken_over}
 use Rattle.clr_change.specs.Edits.{after_edits, first_bad_edit}
-use Rattle.clr_layers.proofs.Answered.{on_ok}
+use Rattle.clr_deltas.proofs.Answered.{on_ok}
 use Rattle.clr_workspaces.specs.Workspaces.{workspace_at}
 use Rattle.clr_steps.specs.Laws.{refused}
 use Rattle.clr_steps.specs.declared.commands.Reply.TheVariants.{RuleBroken}

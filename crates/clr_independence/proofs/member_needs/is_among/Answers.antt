@@ -1,8 +1,8 @@
 use Rattle.std.proofs.Common.{Contains, subst, sym}
 use Rattle.clr_needs.specs.Orders.{need_cmp}
 use Rattle.clr_needs.proofs.NeedOrder.{need_exact, need_total}
-use Rattle.clr_sites.specs.Told.{IsTold}
-use Rattle.clr_sites.proofs.SearchLemmas.{found_or_not}
+use Rattle.clr_merge_sets.specs.Told.{IsTold}
+use Rattle.clr_merge_sets.proofs.SearchLemmas.{found_or_not}
 use Rattle.clr_independence.proofs.member_needs.is_among.Goals as goal
 
 pub returns : goal.returns

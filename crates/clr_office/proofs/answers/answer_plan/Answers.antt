@@ -1,5 +1,5 @@
 use Rattle.std.proofs.Common.{Ok, refl}
-use Rattle.clr_sites.specs.SiteNames.{site}
+use Rattle.clr_merge_sets.specs.MergeSetNames.{merge_set}
 use Rattle.clr_drafts.specs.Drafts.{draft_in}
 use Rattle.clr_office.specs.Answers.{IsPlanPrint}
 use Rattle.clr_reports.specs.Outcomes.{outcome_of}
@@ -10,5 +10,5 @@ pub returns-in_ok-plan_members-in-Ok : goal.returns-in_ok-plan_members-in-Ok
 returns-in_ok-plan_members-in-Ok c =
     let o = c.in-Ok.office in
     let output = c.in_ok-plan_members-in-Ok.field-0 in
-    held_made (IsPlanPrint (site c.args.root.now c.args.names.now)) (draft_in c.args.office.now) o c.in-Ok.ensures.meant c.in-Ok.ensures.held (Ok output)
+    held_made (IsPlanPrint (merge_set c.args.root.now c.args.names.now)) (draft_in c.args.office.now) o c.in-Ok.ensures.meant c.in-Ok.ensures.held (Ok output)
     (outcome_of output o, c.in_ok-plan_members-in-Ok.ensures, refl)

@@ -1,7 +1,7 @@
 use Rattle.std.proofs.Common.{◌≡◌, List, map, not, ap, subst}
 use Rattle.clr_rows.specs.declared.tables.TableDef.{TableDef}
 use Rattle.clr_workspaces.specs.Marks.{Name}
-use Rattle.clr_sites.specs.SiteNames.{site}
+use Rattle.clr_merge_sets.specs.MergeSetNames.{merge_set}
 use Rattle.clr_plan.specs.Plans.{IsPlan}
 use Rattle.clr_plan.specs.Promises.{IsExact, Promises}
 use Rattle.clr_plan_lines.specs.Plans.{plan_text}
@@ -17,10 +17,10 @@ returns c =
     let p = c.plan-plan.result in
     let given : map (λ text. text.now) c.as_slice.result.now ≡ names = rw c.as_slice.ensures.value c.in_ok-members.ensures in
     let again : map (λ text. text.now) c.as_slice-2.result.now ≡ names = rw c.as_slice-2.ensures.value c.in_ok-members.ensures in
-    let all : IsPlanned o (site root names) p = record {
-      plan = subst (λ (members : List Name). IsPlan o (site root members) p) given c.plan-plan.ensures.plan;
-      promises = subst (λ (members : List Name). Promises o (site root members) p) given c.plan-plan.ensures.promises;
-      exact = subst (λ (members : List Name). IsExact o (site root members) p) given c.plan-plan.ensures.exact;
+    let all : IsPlanned o (merge_set root names) p = record {
+      plan = subst (λ (members : List Name). IsPlan o (merge_set root members) p) given c.plan-plan.ensures.plan;
+      promises = subst (λ (members : List Name). Promises o (merge_set root members) p) given c.plan-plan.ensures.promises;
+      exact = subst (λ (members : List Name). IsExact o (merge_set root members) p) given c.plan-plan.ensures.exact;
     } in
     let lines = c.in_ok-lines.lines.items in
     let named : lines ≡ plan_text c.schema.result.now names root p = subst (λ (members : List Name). lines ≡ plan_text c.schema.result.now members root p) again

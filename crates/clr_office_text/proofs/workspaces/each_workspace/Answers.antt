@@ -1,7 +1,7 @@
 use Rattle.std.proofs.Common.{[], ◌∷◌, map, refl}
 use Rattle.std.proofs.lemmas.Result.{err_from_is_err_and}
 use Rattle.std.proofs.lemmas.List.{map-append}
-use Rattle.clr_layers.specs.Entries.{stored_layer}
+use Rattle.clr_deltas.specs.Entries.{stored_delta}
 use Rattle.clr_office_text.proofs.NameTurns.{none_read}
 use Rattle.clr_office_text.proofs.WorkspaceTurns.{goes_on, ends, is_done}
 use Rattle.clr_office_text.proofs.workspaces.each_workspace.Goals as goal
@@ -23,10 +23,10 @@ loop-item-preserved g c =
     rw c.in_ok-push.ensures.items record {
       so_far = goes_on g.J.JsonValue.stands_for c.args.format c.args.schema.now c.loop-item.parts.items c.args.items.now c.loop-item.item-index _
           c.in_ok-one.one _ c.loop-item-test.true c.item-item.is (rw c.as_slice.ensures.value at c.in_ok-one.ensures) c.loop-item.invariant.so_far;
-      named = rw (map-append stored_layer c.loop-item.parts.items (c.in_ok-one.one ∷ []))
-          (c.in_ok-note_name.ensures.noted (map stored_layer c.loop-item.parts.items) (stored_layer c.in_ok-one.one) c.loop-item.invariant.named refl);
+      named = rw (map-append stored_delta c.loop-item.parts.items (c.in_ok-one.one ∷ []))
+          (c.in_ok-note_name.ensures.noted (map stored_delta c.loop-item.parts.items) (stored_delta c.in_ok-one.one) c.loop-item.invariant.named refl);
     }
 
 pub returns : goal.returns
-returns g c = is_done g.J.JsonValue.stands_for c.args.format c.args.schema.now (map stored_layer c.loop-item.parts.items) c.args.items.now
+returns g c = is_done g.J.JsonValue.stands_for c.args.format c.args.schema.now (map stored_delta c.loop-item.parts.items) c.args.items.now
     c.loop-item.item-index _ c.loop-item-test.false c.loop-item.invariant.so_far

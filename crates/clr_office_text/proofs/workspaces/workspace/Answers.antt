@@ -1,6 +1,6 @@
 use Rattle.std.proofs.Common.{refl, ◌∙◌}
 use Rattle.std.proofs.lemmas.Result.{err_from_is_err_and}
-use Rattle.clr_office_text.proofs.LayerParts.{behind_head, fails_behind}
+use Rattle.clr_office_text.proofs.DeltaParts.{behind_head, fails_behind}
 use Rattle.clr_office_text.proofs.workspaces.workspace.Goals as goal
 
 pub returns-in_err-contents : goal.returns-in_err-contents

@@ -1,14 +1,14 @@
 use Rattle.std.proofs.Common.{◌++◌, ◌∷◌, [], ap, sym, subst, remove, ◌∙◌, arith}
-use Rattle.clr_layers.specs.declared.stored_marks.StoredMark.TheVariants as stored
-use Rattle.clr_layers.specs.Layers.{wholes, layer_at, layer_changed, leaf, find_layer}
-use Rattle.clr_layers.proofs.Meaning.{find-wholes}
+use Rattle.clr_deltas.specs.declared.stored_marks.StoredMark.TheVariants as stored
+use Rattle.clr_deltas.specs.Deltas.{wholes, delta_at, delta_changed, leaf, find_delta}
+use Rattle.clr_deltas.proofs.Meaning.{find-wholes}
 use Rattle.clr_operations.proofs.CreateLemmas.{created_live, created_under, pushed_rooted, p_pushed, remove_last}
 use Rattle.clr_contents.specs.Lean.{IsLean}
 use Rattle.clr_operations.proofs.LeanLemmas.{lean_child, lean_leaf}
 use Rattle.clr_operations.proofs.operations.create.Goals as goal
 
 pub push_leaf-requires : goal.push_leaf-requires
-push_leaf-requires c = ap (find_layer c.args.map.now) c.in_ok-name.ensures.ok ∙ sym (find-wholes c.args.live.now c.args.map.now c.args.name.now)
+push_leaf-requires c = ap (find_delta c.args.map.now) c.in_ok-name.ensures.ok ∙ sym (find-wholes c.args.live.now c.args.map.now c.args.name.now)
     ∙ c.requires.absent
 
 pub returns-in_default-clause-ok : goal.returns-in_default-clause-ok
@@ -21,7 +21,7 @@ returns-in_default-clause-ok c =
     let pushed = c.in_ok-push_leaf.ensures.ok ∙ (λ i. ls ++ leaf (own i) (above i) ∷ []) in
     let child = c.new-child.ensures ∙ c.in_ok-from_str-2.ensures.ok in
     ap (wholes live) c.in_default.ensures.ok
-    ∙ (λ i. wholes live (layer_changed (pushed i) p (λ l. record l { marks = l.marks ++ stored.Child (child i) ∷ [] })))
+    ∙ (λ i. wholes live (delta_changed (pushed i) p (λ l. record l { marks = l.marks ++ stored.Child (child i) ∷ [] })))
     ∙ created_under live ls c.args.name.now p c.requires.rooted c.requires.within c.requires.absent c.requires.good (omega arith)
 
 pub returns-else-parent-gt0-clause-ok : goal.returns-else-parent-gt0-clause-ok
@@ -47,8 +47,8 @@ returns-in_default-clause-lean c = λ lean.
     let lt = c.requires.within in
     let absent = c.requires.absent in
     let good = c.requires.good in
-    subst (IsLean live) (sym (c.in_default.ensures.ok ∙ (λ i. layer_changed (pushed i) p (λ l. record l { marks = l.marks ++ stored.Child (child i) ∷ [] }))))
-    (lean_child live (ls ++ leaf name (layer_at ls p).name ∷ []) p (pushed_rooted live ls name p r lt absent good) (omega arith)
+    subst (IsLean live) (sym (c.in_default.ensures.ok ∙ (λ i. delta_changed (pushed i) p (λ l. record l { marks = l.marks ++ stored.Child (child i) ∷ [] }))))
+    (lean_child live (ls ++ leaf name (delta_at ls p).name ∷ []) p (pushed_rooted live ls name p r lt absent good) (omega arith)
     (p_pushed live ls name p r lt absent good) name (lean_leaf live ls name p r lt lean))
 
 pub returns-else-parent-gt0-clause-lean : goal.returns-else-parent-gt0-clause-lean

@@ -1,6 +1,6 @@
 use Rattle.std.proofs.Common.{◌≡◌, Some, ap, sym, subst, ◌∙◌, ◌∷◌, [], arith, length, List}
 use Rattle.std.proofs.lemmas.List.{length-set}
-use Rattle.clr_layers.specs.Layers.{Layer, wholes}
+use Rattle.clr_deltas.specs.Deltas.{Delta, wholes}
 use Rattle.clr_workspaces.specs.Workspaces.{Workspace, parent_of}
 use Rattle.clr_workspaces.specs.Operations.{after_resolve}
 use Rattle.clr_workspaces.specs.Roots.{IsRooted}
@@ -25,7 +25,7 @@ returns-clause-ok c =
     ∙ ap (λ (vs : List Workspace). after_resolve vs at c.args.above c.args.cell Child) e.seen
 
 pub returns-clause-long : goal.returns-clause-long
-returns-clause-long c = ap (λ (ms : List Layer). length ms) c.take_base.ensures ∙ length-set c.pin_row.new.map c.args.at _
+returns-clause-long c = ap (λ (ms : List Delta). length ms) c.take_base.ensures ∙ length-set c.pin_row.new.map c.args.at _
     ∙ c.in_ok-pin_row.ensures.extends.long
 
 pub returns-in_err-pin_row-clause-elsewhere : goal.returns-in_err-pin_row-clause-elsewhere

@@ -2,14 +2,14 @@ use Rattle.std.proofs.Common.{◌∙◌, ◌<◌, ap, sym, subst, refl, arith, L
 use Rattle.clr_rows.specs.declared.cells.CellId.{CellId}
 use Rattle.clr_rows.specs.Contents.{Changes, rows_after}
 use Rattle.clr_differences.specs.Differences.{RowEntries, cells_in}
-use Rattle.clr_layers.specs.Layers.{wholes}
+use Rattle.clr_deltas.specs.Deltas.{wholes}
 use Rattle.clr_workspaces.specs.Workspaces.{workspace_at}
-use Rattle.clr_layers.proofs.Answered.{on_ok, on_err}
+use Rattle.clr_deltas.proofs.Answered.{on_ok, on_err}
 use Rattle.clr_workspaces.specs.Roots.{IsRooted}
 use Rattle.clr_contents.specs.Lean.{IsLeanBut, StayOwnButNear}
 use Rattle.clr_workspaces.specs.Operations.{own_changes, with_base_merged, after_write}
 use Rattle.clr_operations.proofs.LeanLemmas.{lean_merged, lean_still}
-use Rattle.clr_layers.proofs.Answered.{either}
+use Rattle.clr_deltas.proofs.Answered.{either}
 use Rattle.clr_workspaces.proofs.RootLemmas.{rooted_set}
 use Rattle.clr_operations.proofs.operations.merge.Goals as goal
 

@@ -2,7 +2,7 @@ use Rattle.std.proofs.Common.{◌∙◌, ap, sym, subst, refl, arith, filter, le
 use Rattle.std.proofs.lemmas.List.{length-set}
 use Rattle.clr_rows.specs.Contents.{over, rows_after}
 use Rattle.clr_differences.specs.Differences.{RowEntries, no_differences, put_each, cells_in, HasEntries}
-use Rattle.clr_layers.specs.Layers.{Layer, wholes, layer_at, layer_changed, is_stored_child, IsUnder}
+use Rattle.clr_deltas.specs.Deltas.{Delta, wholes, delta_at, delta_changed, is_stored_child, IsUnder}
 use Rattle.clr_workspaces.specs.Workspaces.{workspace_at}
 use Rattle.clr_contents.specs.Pinning.{StayOwnBut}
 use Rattle.clr_workspaces.specs.Roots.{IsRooted}
@@ -21,10 +21,10 @@ take_over-requires-clause-pinned c =
     let hs = c.put_rows.new.map in
     let at = c.args.at in
     let e = c.in_ok-put_rows.ensures in
-    let name = (layer_at ls c.args.above).name in
-    let under : IsUnder name (layer_at hs at) = subst (λ n. IsUnder name (record (layer_at ls at) { parent = n })) (sym (e.extends.each at).parent)
+    let name = (delta_at ls c.args.above).name in
+    let under : IsUnder name (delta_at hs at) = subst (λ n. IsUnder name (record (delta_at ls at) { parent = n })) (sym (e.extends.each at).parent)
     (under_its_parent c.args.live.now ls at c.args.above c.requires.parent) in
-    subst (λ (rs : RowEntries). HasEntries (layer_at hs at).base (cells_in rs)) (c.requires.rows ∙ sym c.requires.own)
+    subst (λ (rs : RowEntries). HasEntries (delta_at hs at).base (cells_in rs)) (c.requires.rows ∙ sym c.requires.own)
     (e.children at c.requires.child (omega (arith, c.requires.within, e.extends.long)) under)
 
 pub returns-clause-ok : goal.returns-clause-ok
@@ -40,11 +40,11 @@ returns-clause-ok c =
     (with_current (over (workspace_at ws c.args.above).current (rows_after changed)) (workspace_at ws c.args.above)) refl refl c.requires.rooted) in
     ap (wholes live) c.take_over.ensures
     ∙ ap (λ (rs : RowEntries). wholes live
-    (layer_changed hs c.args.at (λ l. record l { base = put_each l.base rs; current = no_differences; marks = filter is_stored_child l.marks }))) c.requires.own
+    (delta_changed hs c.args.at (λ l. record l { base = put_each l.base rs; current = no_differences; marks = filter is_stored_child l.marks }))) c.requires.own
     ∙ merged_is live hs ws c.args.at c.args.above changed rooted c.requires.child (omega (arith, c.requires.within, e.extends.long)) c.requires.earlier put refl
 
 pub returns-clause-long : goal.returns-clause-long
-returns-clause-long c = ap (λ (ms : List Layer). length ms) c.take_over.ensures ∙ length-set c.put_rows.new.map c.args.at _
+returns-clause-long c = ap (λ (ms : List Delta). length ms) c.take_over.ensures ∙ length-set c.put_rows.new.map c.args.at _
     ∙ c.in_ok-put_rows.ensures.extends.long
 
 pub returns-in_err-put_rows-clause-elsewhere : goal.returns-in_err-put_rows-clause-elsewhere

@@ -1,6 +1,6 @@
 use Rattle.std.proofs.Common.{◌≡◌, Some, refl, ap, sym, subst, ◌∙◌, ◌∷◌, [], arith, length, List}
 use Rattle.std.proofs.lemmas.List.{length-set}
-use Rattle.clr_layers.specs.Layers.{Layer, wholes, layer_at}
+use Rattle.clr_deltas.specs.Deltas.{Delta, wholes, delta_at}
 use Rattle.clr_workspaces.specs.Workspaces.{Workspace, parent_of}
 use Rattle.clr_contents.specs.Pinning.{ChildrenPin, StayOwnBut}
 use Rattle.clr_operations.proofs.LeanLemmas.{near_children, near_own, but_row_moved}
@@ -24,7 +24,7 @@ returns-clause-ok c =
     let rooted = subst IsRooted (sym seen) c.requires.rooted in
     let parent = subst (λ (vs : List Workspace). parent_of vs at ≡ Some c.args.above) (sym seen) c.requires.parent in
     let children = subst (λ n. ChildrenPin hs n (c.args.cell ∷ [])) (sym (both.each at).name)
-    (children_keep gs hs (layer_at ls at).name (c.args.cell ∷ []) f.extends e.children) in
+    (children_keep gs hs (delta_at ls at).name (c.args.cell ∷ []) f.extends e.children) in
     ap (wholes live) c.move_row.ensures
     ∙ row_set live hs at rooted c.requires.child (omega (arith, c.requires.within, both.long)) c.args.above parent c.requires.earlier c.args.cell c.args.row
     children f.current f.saved
@@ -32,7 +32,7 @@ returns-clause-ok c =
 
 pub returns-clause-long : goal.returns-clause-long
 returns-clause-long c =
-    ap (λ (ms : List Layer). length ms) c.move_row.ensures ∙ length-set c.pin_row.new.map c.args.at _
+    ap (λ (ms : List Delta). length ms) c.move_row.ensures ∙ length-set c.pin_row.new.map c.args.at _
     ∙ c.in_ok-pin_row.ensures.extends.long ∙ c.in_ok-pin_cell.ensures.extends.long
 
 pub returns-in_err-pin_cell-clause-elsewhere : goal.returns-in_err-pin_cell-clause-elsewhere

@@ -2,7 +2,7 @@ use Rattle.std.proofs.Common.{◌≡◌, refl, ◌∙◌, ap, sym, subst, arith,
 use Rattle.clr_rows.specs.declared.cells.CellId.{CellId}
 use Rattle.clr_rows.specs.Contents.{Content}
 use Rattle.clr_differences.specs.Differences.{cells_in, HasEntries}
-use Rattle.clr_layers.specs.Layers.{wholes, layer_at}
+use Rattle.clr_deltas.specs.Deltas.{wholes, delta_at}
 use Rattle.clr_contents.specs.Pinning.{Extends, ChildrenPin}
 use Rattle.clr_operations.specs.Moves.{put_into}
 use Rattle.clr_workspaces.specs.Roots.{IsRooted}
@@ -20,10 +20,10 @@ returns-then-at-eq0-clause-ok c =
     let e = c.in_ok-pin_children.ensures in
     let rows = c.args.rows.items in
     let zero : c.args.at ≡ 0 = omega arith in
-    let name = (layer_at ls c.args.at).name in
+    let name = (delta_at ls c.args.at).name in
     let cells = c.as_slice-2.ensures.value ∙ c.in_ok-cells.ensures ∙ ap cells_in c.as_slice.ensures.value in
     let held : ChildrenPin hs name (cells_in rows) = subst (λ (qs : List CellId). ChildrenPin hs name qs) cells e.children in
-    let named = sym (e.extends.each c.args.at).name ∙ ap (λ k. (layer_at hs k).name) zero in
+    let named = sym (e.extends.each c.args.at).name ∙ ap (λ k. (delta_at hs k).name) zero in
     ap (λ (m : Content). wholes m hs) c.in_ok-put_all.ensures.ok
     ∙ live_put c.args.live.now hs rows (omega (arith, c.requires.within, e.extends.long)) (subst (λ n. ChildrenPin hs n (cells_in rows)) named held)
     ∙ (λ i. put_into (e.seen i) (sym zero i) rows)
@@ -31,14 +31,14 @@ returns-then-at-eq0-clause-ok c =
 pub returns-then-at-eq0-clause-children : goal.returns-then-at-eq0-clause-children
 returns-then-at-eq0-clause-children c =
     let hs = c.pin_children.new.map in
-    let name = (layer_at c.args.map.now c.args.at).name in
+    let name = (delta_at c.args.map.now c.args.at).name in
     let cells = c.as_slice-2.ensures.value ∙ c.in_ok-cells.ensures ∙ ap cells_in c.as_slice.ensures.value in
     subst (λ (qs : List CellId). ChildrenPin hs name qs) cells c.in_ok-pin_children.ensures.children
 
 pub set_current-requires-clause-pinned : goal.set_current-requires-clause-pinned
 set_current-requires-clause-pinned c =
     let cells = c.as_slice-3.ensures.value ∙ c.in_ok-cells.ensures ∙ ap cells_in c.as_slice.ensures.value in
-    subst (λ (qs : List CellId). HasEntries (layer_at c.pin_own.new.map c.args.at).current qs) cells c.in_ok-pin_own.ensures.pinned
+    subst (λ (qs : List CellId). HasEntries (delta_at c.pin_own.new.map c.args.at).current qs) cells c.in_ok-pin_own.ensures.pinned
 
 pub returns-clause-ok : goal.returns-clause-ok
 returns-clause-ok c =
@@ -48,12 +48,12 @@ returns-clause-ok c =
     let e = c.in_ok-pin_children.ensures in
     let f = c.in_ok-pin_own.ensures in
     let rows = c.args.rows.items in
-    let name = (layer_at ls c.args.at).name in
+    let name = (delta_at ls c.args.at).name in
     let seen = f.seen ∙ e.seen in
     let both = extends_both ls gs hs e.extends f.extends in
     let cells = c.as_slice-2.ensures.value ∙ c.in_ok-cells.ensures ∙ ap cells_in c.as_slice.ensures.value in
     let held : ChildrenPin gs name (cells_in rows) = subst (λ (qs : List CellId). ChildrenPin gs name qs) cells e.children in
-    let more : ChildrenPin hs (layer_at hs c.args.at).name (cells_in rows) = subst (λ n. ChildrenPin hs n (cells_in rows)) (sym (both.each c.args.at).name)
+    let more : ChildrenPin hs (delta_at hs c.args.at).name (cells_in rows) = subst (λ n. ChildrenPin hs n (cells_in rows)) (sym (both.each c.args.at).name)
     (children_keep gs hs name (cells_in rows) f.extends held) in
     ap (wholes c.args.live.now) c.set_current.ensures
     ∙ put c.args.live.now hs c.args.at (subst IsRooted (sym seen) c.requires.rooted) (omega arith) (omega (arith, c.requires.within, both.long)) rows more
@@ -73,7 +73,7 @@ returns-clause-children c =
     let gs = c.pin_children.new.map in
     let hs = c.pin_own.new.map in
     let rows = c.args.rows.items in
-    let name = (layer_at ls c.args.at).name in
+    let name = (delta_at ls c.args.at).name in
     let both = extends_both ls gs hs c.in_ok-pin_children.ensures.extends c.in_ok-pin_own.ensures.extends in
     let cells = c.as_slice-2.ensures.value ∙ c.in_ok-cells.ensures ∙ ap cells_in c.as_slice.ensures.value in
     let held : ChildrenPin gs name (cells_in rows) = subst (λ (qs : List CellId). ChildrenPin gs name qs) cells c.in_ok-pin_children.ensures.children in

@@ -3,17 +3,17 @@ use Rattle.std.specs.FinMap as finite
 use Rattle.clr_rows.specs.declared.cells.CellId.{CellId}
 use Rattle.clr_rows.specs.Contents.{Changes, rows_after}
 use Rattle.clr_differences.specs.Differences.{Differences, cells_in, is_among}
-use Rattle.clr_layers.specs.Layers.{layer_at, wholes}
+use Rattle.clr_deltas.specs.Deltas.{delta_at, wholes}
 use Rattle.clr_workspaces.specs.Marks.{mark_last}
 use Rattle.clr_workspaces.specs.Workspaces.{workspace_at}
-use Rattle.clr_layers.proofs.Answered.{on_ok, on_err}
+use Rattle.clr_deltas.proofs.Answered.{on_ok, on_err}
 use Rattle.clr_workspaces.specs.Roots.{IsRooted}
 use Rattle.clr_contents.specs.Lean.{IsLeanBut, StayOwnButNear}
 use Rattle.clr_workspaces.specs.Operations.{change_marks, own_changes, refresh}
 use Rattle.clr_workspaces.proofs.RootLemmas.{below_rooted}
 use Rattle.clr_contents.proofs.ComparedLemmas.{among_neither, no_entry}
 use Rattle.clr_operations.proofs.LeanLemmas.{lean_refreshed, lean_still}
-use Rattle.clr_layers.proofs.Answered.{either}
+use Rattle.clr_deltas.proofs.Answered.{either}
 use Rattle.clr_workspaces.proofs.RootLemmas.{rooted_set}
 use Rattle.clr_operations.proofs.operations.refresh.Goals as goal
 
@@ -22,8 +22,8 @@ refresh_base-done-requires-clause-rows c = c.in_ok-rows.ensures ∙ ap (λ (x : 
 
 pub refresh_base-done-requires-clause-cells : goal.refresh_base-done-requires-clause-cells
 refresh_base-done-requires-clause-cells c =
-    let under = (layer_at c.args.map.now c.args.at).base in
-    let now = (layer_at c.args.map.now c.args.at).current in
+    let under = (delta_at c.args.map.now c.args.at).base in
+    let now = (delta_at c.args.map.now c.args.at).current in
     let new = c.in_ok-new.ensures ∙ ap cells_in c.as_slice.ensures.value in
     let base = c.in_ok-base.ensures ∙ ap (λ (d : Differences). finite.keys d) c.base.ensures in
     let old = c.in_ok-old.ensures ∙ ap (λ (d : Differences). finite.keys d) c.current.ensures in
@@ -58,8 +58,8 @@ returns-clause-lean c = λ lean.
     let at = c.args.at in
     let p = c.args.above in
     let rows = rows_after (own_changes (workspace_at (wholes live ls) at)) in
-    let under = (layer_at ls at).base in
-    let now = (layer_at ls at).current in
+    let under = (delta_at ls at).base in
+    let now = (delta_at ls at).current in
     let all = cells_in rows ++ (finite.keys under ++ finite.keys now) in
     let e = c.refresh_base-done.ensures in
     let after = c.in_ok-rows.ensures ∙ ap (λ (x : Changes). rows_after x) c.requires.changed in

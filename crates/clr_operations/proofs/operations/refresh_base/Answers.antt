@@ -2,9 +2,9 @@ use Rattle.std.proofs.Common.{◌<◌, ◌≡◌, ◌++◌, None, false, refl, a
 use Rattle.std.specs.FinMap as finite
 use Rattle.clr_rows.specs.declared.cells.CellId.{CellId}
 use Rattle.clr_differences.specs.Differences.{Differences, no_differences, cells_in, is_among}
-use Rattle.clr_layers.specs.Layers.{Layer, wholes, layer_at, layer_changed, is_stored_child}
+use Rattle.clr_deltas.specs.Deltas.{Delta, wholes, delta_at, delta_changed, is_stored_child}
 use Rattle.clr_workspaces.specs.Marks.{mark_last}
-use Rattle.clr_layers.proofs.Meaning.{name-wholes}
+use Rattle.clr_deltas.proofs.Meaning.{name-wholes}
 use Rattle.clr_contents.specs.Pinning.{Extends, ChildrenPin}
 use Rattle.clr_workspaces.specs.Operations.{change_marks, own_changes}
 use Rattle.clr_workspaces.specs.Workspaces.{workspace_at}
@@ -46,31 +46,31 @@ returns-clause-ok c =
     let named = c.new-name.ensures ∙ c.in_ok-from_str.ensures.ok ∙ c.name_at.ensures ∙ sym (name-wholes live ls at) in
     let end = ap (wholes live) c.in_ok-move_mark.ensures.ok ∙ moved_is live hs p child rooted p_in ∙ (λ i. change_marks (h.seen i) p (mark_last (named i))) in
     let same_name = (more.each at).name ∙ (h.extends.each at).name in
-    let keep = λ (qs : List CellId). λ (held : ChildrenPin hs (layer_at ls at).name qs). subst (λ n. ChildrenPin gs n qs) (sym same_name)
-    (children_keep hs gs (layer_at ls at).name qs more held) in
-    let name = (layer_at ls at).name in
-    let base = finite.keys (layer_at ls at).base in
-    let old = finite.keys (layer_at ls at).current in
+    let keep = λ (qs : List CellId). λ (held : ChildrenPin hs (delta_at ls at).name qs). subst (λ n. ChildrenPin gs n qs) (sym same_name)
+    (children_keep hs gs (delta_at ls at).name qs more held) in
+    let name = (delta_at ls at).name in
+    let base = finite.keys (delta_at ls at).base in
+    let old = finite.keys (delta_at ls at).current in
     let both = children_both hs name (cells_in rows) (base ++ old) (subst (λ (qs : List CellId). ChildrenPin hs name qs) c.requires.cells h.children) in
     let under = children_both hs name base old both.1 in
     let held_rows = keep (cells_in rows) both.0 in
     let pinned_base = keep base under.0 in
     let held_old = keep old under.1 in
     ap (wholes live) c.restart.ensures
-    ∙ ap (λ (d : Differences). wholes live (layer_changed gs at (λ l. record l { base = no_differences; current = d; marks = filter is_stored_child l.marks })))
+    ∙ ap (λ (d : Differences). wholes live (delta_changed gs at (λ l. record l { base = no_differences; current = d; marks = filter is_stored_child l.marks })))
     c.in_ok-differences.ensures
     ∙ refreshed_is live ls gs at p rows changed c.requires.rooted c.requires.child lt lt_new c.requires.parent c.requires.earlier end held_rows pinned_base
     held_old c.requires.rows refl
 
 pub returns-in_err-move_mark-clause-long : goal.returns-in_err-move_mark-clause-long
-returns-in_err-move_mark-clause-long c = ap (λ (ms : List Layer). length ms) c.in_err-move_mark.ensures.err ∙ c.pin_children.ensures.extends.long
+returns-in_err-move_mark-clause-long c = ap (λ (ms : List Delta). length ms) c.in_err-move_mark.ensures.err ∙ c.pin_children.ensures.extends.long
 
 pub returns-clause-long : goal.returns-clause-long
 returns-clause-long c =
     let hs = c.pin_children.new.map in
     let p_in : c.args.above < length hs = omega (arith, c.requires.within, c.requires.earlier, c.in_ok-pin_children.ensures.extends.long) in
     let more : Extends hs c.move_mark.new.map = subst (Extends hs) (sym c.in_ok-move_mark.ensures.ok) (moved_extends hs c.args.above c.new-name.result p_in) in
-    ap (λ (ms : List Layer). length ms) c.restart.ensures ∙ length-set c.move_mark.new.map c.args.at _ ∙ more.long ∙ c.pin_children.ensures.extends.long
+    ap (λ (ms : List Delta). length ms) c.restart.ensures ∙ length-set c.move_mark.new.map c.args.at _ ∙ more.long ∙ c.pin_children.ensures.extends.long
 
 pub returns-in_err-pin_children-clause-elsewhere : goal.returns-in_err-pin_children-clause-elsewhere
 returns-in_err-pin_children-clause-elsewhere c =
@@ -110,12 +110,12 @@ returns-clause-elsewhere c =
     let p_in : p < length hs = omega (arith, c.requires.within, c.requires.earlier, long) in
     let more : Extends hs gs = subst (Extends hs) (sym c.in_ok-move_mark.ensures.ok) (moved_extends hs p c.new-name.result p_in) in
     let moved : StayOwnBut p [] hs gs = subst (StayOwnBut p [] hs) (sym c.in_ok-move_mark.ensures.ok) (but_mark_moved hs p c.new-name.result p_in) in
-    let none : (q : CellId) → is_among all q ≡ false → (is_among (cells_in c.args.rows.items) q ≡ false) × (finite.get (layer_at ls at).base q ≡ None) =
+    let none : (q : CellId) → is_among all q ≡ false → (is_among (cells_in c.args.rows.items) q ≡ false) × (finite.get (delta_at ls at).base q ≡ None) =
     λ q apart.
-    let base = finite.keys (layer_at ls at).base in
-    let old = finite.keys (layer_at ls at).current in
+    let base = finite.keys (delta_at ls at).base in
+    let old = finite.keys (delta_at ls at).current in
     let both = among_neither (cells_in c.args.rows.items) (base ++ old) q (ap (λ (qs : List CellId). is_among qs q) (sym c.requires.cells) ∙ apart) in
-    (both.0, no_entry (layer_at ls at).base q (among_neither base old q both.1).0) in
+    (both.0, no_entry (delta_at ls at).base q (among_neither base old q both.1).0) in
     subst (StayOwnButNear at all ls) (sym c.restart.ensures)
     (near_restarted at all ls gs _ c.args.rows.items (omega (arith, c.requires.within, long, more.long)) (near_none at p all ls hs gs held moved)
     c.in_ok-differences.ensures none)

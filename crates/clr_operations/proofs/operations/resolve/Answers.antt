@@ -1,10 +1,10 @@
 use Rattle.std.proofs.Common.{◌∙◌, ◌∷◌, [], sym, subst, arith}
-use Rattle.clr_layers.specs.Layers.{wholes}
-use Rattle.clr_layers.proofs.Answered.{on_ok, on_err}
+use Rattle.clr_deltas.specs.Deltas.{wholes}
+use Rattle.clr_deltas.proofs.Answered.{on_ok, on_err}
 use Rattle.clr_workspaces.specs.Roots.{IsRooted}
 use Rattle.clr_contents.specs.Lean.{IsLeanBut}
 use Rattle.clr_operations.proofs.LeanLemmas.{lean_resolved, lean_still, rooted_resolved}
-use Rattle.clr_layers.proofs.Answered.{either}
+use Rattle.clr_deltas.proofs.Answered.{either}
 use Rattle.clr_operations.proofs.operations.resolve.Goals as goal
 
 pub sweep_cell-requires-clause-within : goal.sweep_cell-requires-clause-within

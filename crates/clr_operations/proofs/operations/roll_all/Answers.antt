@@ -1,5 +1,5 @@
 use Rattle.std.proofs.Common.{ap, sym, subst, ◌∙◌}
-use Rattle.clr_layers.specs.Layers.{wholes}
+use Rattle.clr_deltas.specs.Deltas.{wholes}
 use Rattle.clr_operations.proofs.LeafLemmas.{no_child}
 use Rattle.clr_operations.proofs.OperationLemmas.{all_rolled}
 use Rattle.clr_contents.specs.Lean.{IsLean}

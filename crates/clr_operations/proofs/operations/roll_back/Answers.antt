@@ -2,7 +2,7 @@ use Rattle.std.proofs.Common.{◌≡◌, ◌++◌, refl, false, None, ◌<◌, s
 use Rattle.std.specs.FinMap as finite
 use Rattle.clr_rows.specs.declared.cells.CellId.{CellId}
 use Rattle.clr_differences.specs.Differences.{Differences, seen_over}
-use Rattle.clr_layers.specs.Layers.{Layer, wholes, layer_at, layer_changed, stored_at, saved_differences}
+use Rattle.clr_deltas.specs.Deltas.{Delta, wholes, delta_at, delta_changed, stored_at, saved_differences}
 use Rattle.clr_workspaces.specs.Workspaces.{Workspace, workspace_at}
 use Rattle.clr_contents.specs.Pinning.{ChildrenPin}
 use Rattle.clr_workspaces.specs.Operations.{change_at}
@@ -37,12 +37,12 @@ returns-clause-ok c =
     let i = c.args.mark in
     let lt = c.requires.within in
     let e = c.in_ok-pin_children.ensures in
-    let d = saved_differences (stored_at (layer_at ls at).marks i) in
-    let old = (layer_at ls at).current in
-    let name = (layer_at hs at).name in
+    let d = saved_differences (stored_at (delta_at ls at).marks i) in
+    let old = (delta_at ls at).current in
+    let name = (delta_at hs at).name in
     let cells = c.requires.cells ∙ ap (λ (x : Differences). finite.keys x ++ finite.keys old) c.requires.differences in
     let held : ChildrenPin hs name (finite.keys d ++ finite.keys old) = subst (λ n. ChildrenPin hs n (finite.keys d ++ finite.keys old))
-    (sym (e.extends.each at).name) (subst (λ (qs : List CellId). ChildrenPin hs (layer_at ls at).name qs) cells e.children) in
+    (sym (e.extends.each at).name) (subst (λ (qs : List CellId). ChildrenPin hs (delta_at ls at).name qs) cells e.children) in
     let both = children_both hs name (finite.keys d) (finite.keys old) held in
     let rooted = subst IsRooted (sym e.seen) c.requires.rooted in
     let was : (workspace_at (wholes live hs) at).current ≡ seen_over (workspace_at (wholes live hs) at).base old =
@@ -50,13 +50,13 @@ returns-clause-ok c =
     (current-wholes live ls at c.requires.child lt) in
     let marks = marks-wholes live ls at c.requires.child lt in
     ap (wholes live) c.roll_to.ensures
-    ∙ (λ k. wholes live (layer_changed hs at (λ l. record l { current = c.requires.differences k; marks = take (suc i) l.marks })))
+    ∙ (λ k. wholes live (delta_changed hs at (λ l. record l { current = c.requires.differences k; marks = take (suc i) l.marks })))
     ∙ rolled live hs at rooted c.requires.child (omega (arith, lt, e.extends.long)) d old (suc i) was both.0 both.1
     ∙ ap (λ (vs : List Workspace). change_at vs at (λ w. record w { current = seen_over w.base d; marks = take (suc i) w.marks })) e.seen
-    ∙ rolled_is ws at i (layer_at ls at).marks marks c.requires.saved c.requires.free
+    ∙ rolled_is ws at i (delta_at ls at).marks marks c.requires.saved c.requires.free
 
 pub returns-clause-long : goal.returns-clause-long
-returns-clause-long c = ap (λ (ms : List Layer). length ms) c.roll_to.ensures ∙ length-set c.pin_children.new.map c.args.at _
+returns-clause-long c = ap (λ (ms : List Delta). length ms) c.roll_to.ensures ∙ length-set c.pin_children.new.map c.args.at _
     ∙ c.pin_children.ensures.extends.long
 
 pub returns-in_err-pin_children-clause-elsewhere : goal.returns-in_err-pin_children-clause-elsewhere
@@ -71,7 +71,7 @@ returns-clause-elsewhere c =
     let hs = c.pin_children.new.map in
     let long = c.pin_children.ensures.extends.long in
     let none : (q : CellId) → is_among all q ≡ false → finite.get c.args.differences q ≡ None = λ q apart.
-    no_entry c.args.differences q (among_neither (finite.keys c.args.differences) (finite.keys (layer_at ls at).current) q
+    no_entry c.args.differences q (among_neither (finite.keys c.args.differences) (finite.keys (delta_at ls at).current) q
     (ap (λ (cs : List CellId). is_among cs q) (sym c.requires.cells) ∙ apart)).0 in
     near_own at all all ls hs c.roll_to.new.self refl (near_children at all all ls hs refl c.pin_children.ensures.elsewhere)
     (subst (StayOwnBut at all hs) (sym c.roll_to.ensures) (but_rolled hs at c.args.differences (suc c.args.mark) all (omega (arith, c.requires.within, long))

@@ -2,15 +2,15 @@ use Rattle.std.proofs.Common.{◌≡◌, ◌∙◌, ◌++◌, ap, sym, subst, re
 use Rattle.std.specs.FinMap as finite
 use Rattle.clr_rows.specs.declared.cells.CellId.{CellId}
 use Rattle.clr_differences.specs.Differences.{Differences, is_among}
-use Rattle.clr_layers.specs.Layers.{layer_at, saved_differences, stored_at, wholes}
+use Rattle.clr_deltas.specs.Deltas.{delta_at, saved_differences, stored_at, wholes}
 use Rattle.clr_workspaces.specs.Workspaces.{workspace_at}
-use Rattle.clr_layers.proofs.Answered.{on_ok, on_err}
+use Rattle.clr_deltas.proofs.Answered.{on_ok, on_err}
 use Rattle.clr_workspaces.specs.Roots.{IsRooted}
 use Rattle.clr_contents.specs.Lean.{IsLeanBut, StayOwnButNear}
 use Rattle.clr_workspaces.specs.Operations.{roll_to}
 use Rattle.clr_contents.proofs.ComparedLemmas.{among_neither, no_entry}
 use Rattle.clr_operations.proofs.LeanLemmas.{lean_rolled, lean_still}
-use Rattle.clr_layers.proofs.Answered.{either}
+use Rattle.clr_deltas.proofs.Answered.{either}
 use Rattle.clr_workspaces.proofs.RootLemmas.{rooted_set}
 use Rattle.clr_operations.proofs.operations.roll_to.Goals as goal
 
@@ -41,8 +41,8 @@ returns-clause-lean c = λ lean.
     let ls = c.args.map.now in
     let ms = c.roll_back-done.new.map in
     let at = c.args.at in
-    let d = saved_differences (stored_at (layer_at ls at).marks c.args.mark) in
-    let now = (layer_at ls at).current in
+    let d = saved_differences (stored_at (delta_at ls at).marks c.args.mark) in
+    let now = (delta_at ls at).current in
     let all = finite.keys d ++ finite.keys now in
     let e = c.roll_back-done.ensures in
     let new = c.in_ok-new.ensures ∙ ap (λ (x : Differences). finite.keys x) c.in_ok-differences.ensures in

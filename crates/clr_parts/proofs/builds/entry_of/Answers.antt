@@ -1,6 +1,6 @@
 use Rattle.std.proofs.Common.{List, refl, ap, ◌∙◌}
-use Rattle.clr_layers.specs.Entries.{layer_of}
-use Rattle.clr_layers.specs.declared.workspace_maps.Layer.{Layer as Parts}
+use Rattle.clr_deltas.specs.Entries.{delta_of}
+use Rattle.clr_deltas.specs.declared.workspace_maps.Delta.{Delta as Parts}
 use Rattle.clr_parts.specs.Parts.{marks_of}
 use Rattle.clr_parts.specs.declared.parts.MarkPart.{MarkPart}
 use Rattle.clr_parts.proofs.BuildLemmas.{whole_part}
@@ -16,6 +16,6 @@ returns c =
           c.in_ok-marks.marks;
       kept = c.args.part.now.kept;
     } in
-    whole_part c.args.above.now (layer_of (c.into_string.result, parts)) c.args.part.now (c.into_string.ensures ∙ c.in_ok-name.ensures) c.in_ok-parent.ensures
+    whole_part c.args.above.now (delta_of (c.into_string.result, parts)) c.args.part.now (c.into_string.ensures ∙ c.in_ok-name.ensures) c.in_ok-parent.ensures
     c.in_ok-base.ensures c.in_ok-current.ensures
     (c.in_ok-marks.ensures ∙ ap (λ (ms : List MarkPart). marks_of ms) c.as_slice.ensures.value) refl

@@ -1,16 +1,16 @@
 use Rattle.std.proofs.Common.{ap, ◌∙◌}
-use Rattle.clr_layers.specs.Entries.{layer_of}
-use Rattle.clr_layers.specs.Layers.{wholes}
-use Rattle.clr_parts.proofs.BuildLemmas.{new_layer, part_pushed}
+use Rattle.clr_deltas.specs.Entries.{delta_of}
+use Rattle.clr_deltas.specs.Deltas.{wholes}
+use Rattle.clr_parts.proofs.BuildLemmas.{new_delta, part_pushed}
 use Rattle.clr_parts.proofs.builds.push_entry.Goals as goal
 
 pub push-requires : goal.push-requires
 push-requires c =
-    new_layer c.args.live.now c.args.map.now c.args.above.now (layer_of (c.in_ok-name.name, c.in_ok-name.layer)) c.args.part.now c.in_ok-name.ensures
+    new_delta c.args.live.now c.args.map.now c.args.above.now (delta_of (c.in_ok-name.name, c.in_ok-name.delta)) c.args.part.now c.in_ok-name.ensures
     c.requires.absent
 
 pub returns : goal.returns
 returns c =
     ap (wholes c.args.live.now) c.in_ok-push.ensures.ok
-    ∙ part_pushed c.args.live.now c.args.map.now c.args.above.now (layer_of (c.in_ok-name.name, c.in_ok-name.layer)) c.args.part.now c.in_ok-name.ensures
+    ∙ part_pushed c.args.live.now c.args.map.now c.args.above.now (delta_of (c.in_ok-name.name, c.in_ok-name.delta)) c.args.part.now c.in_ok-name.ensures
     c.args.at c.requires.filled c.requires.found c.requires.above

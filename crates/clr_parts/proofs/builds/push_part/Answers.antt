@@ -1,5 +1,5 @@
 use Rattle.std.proofs.Common.{◌≡◌, suc, ◌++◌, ◌∷◌, [], List, take, ap, sym, ◌∙◌, arith}
-use Rattle.clr_layers.specs.Layers.{wholes}
+use Rattle.clr_deltas.specs.Deltas.{wholes}
 use Rattle.clr_workspaces.specs.Workspaces.{Workspace, workspace_at}
 use Rattle.clr_parts.specs.Parts.{workspace_of, list_of, place_fault, name_fault, name_fault_at}
 use Rattle.clr_parts.proofs.FaultLemmas.{part_at, take_next, length-parts}

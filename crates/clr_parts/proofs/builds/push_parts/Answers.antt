@@ -1,9 +1,9 @@
 use Rattle.std.proofs.Common.{◌≡◌, ℕ, suc, ◌+◌, ◌<◌, take, length, map, ap, sym, ◌∙◌, subst, arith}
 use Rattle.std.proofs.lemmas.List.{length-map}
-use Rattle.clr_layers.specs.Layers.{wholes}
+use Rattle.clr_deltas.specs.Deltas.{wholes}
 use Rattle.clr_parts.specs.Parts.{workspace_of, list_of, name_fault_at, first_name_fault, IsFirstPartFault}
 use Rattle.clr_workspaces.specs.Roots.{IsRooted}
-use Rattle.clr_layers.proofs.Meaning.{root_made}
+use Rattle.clr_deltas.proofs.Meaning.{root_made}
 use Rattle.clr_parts.proofs.FaultLemmas.{below_none, below_next, below_all, length-parts, shaped_take}
 use Rattle.clr_parts.proofs.BuildLemmas.{refused_at}
 use Rattle.clr_parts.proofs.builds.push_parts.Goals as goal

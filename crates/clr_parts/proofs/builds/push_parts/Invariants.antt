@@ -1,5 +1,5 @@
 use Rattle.std.proofs.Common.{◌≡◌, suc, take, None}
-use Rattle.clr_layers.specs.Layers.{wholes}
+use Rattle.clr_deltas.specs.Deltas.{wholes}
 use Rattle.clr_parts.specs.Parts.{list_of, name_fault_at, first_below}
 use Rattle.clr_parts.proofs.builds.push_parts.Given as goal
 

@@ -1,5 +1,5 @@
 use Rattle.std.proofs.Common.{◌≡◌, map, take}
-use Rattle.clr_layers.specs.Layers.{whole_mark}
+use Rattle.clr_deltas.specs.Deltas.{whole_mark}
 use Rattle.clr_parts.specs.Parts.{marks_of}
 use Rattle.clr_parts.proofs.builds.stored_marks.Given as goal
 

@@ -1,8 +1,8 @@
 use Rattle.std.proofs.Common.{◌≡◌, suc, ◌+◌, true, take, ap, sym, ◌∙◌, subst, arith}
 use Rattle.std.specs.List.{list_all}
-use Rattle.clr_layers.specs.Layers.{wholes}
+use Rattle.clr_deltas.specs.Deltas.{wholes}
 use Rattle.clr_workspaces.specs.Workspaces.{no_workspace}
-use Rattle.clr_layers.proofs.Meaning.{length-wholes}
+use Rattle.clr_deltas.proofs.Meaning.{length-wholes}
 use Rattle.clr_parts.specs.Parts.{bare_marks, is_marked_once}
 use Rattle.clr_parts.proofs.PartLemmas.{all_next, all_fails, take_all}
 use Rattle.clr_parts.proofs.part_checks.are_marked_once.Goals as goal

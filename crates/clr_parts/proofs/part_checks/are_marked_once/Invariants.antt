@@ -1,6 +1,6 @@
 use Rattle.std.proofs.Common.{◌≡◌, true, take}
 use Rattle.std.specs.List.{list_all}
-use Rattle.clr_layers.specs.Layers.{wholes}
+use Rattle.clr_deltas.specs.Deltas.{wholes}
 use Rattle.clr_parts.specs.Parts.{bare_marks, is_marked_once}
 use Rattle.clr_parts.proofs.part_checks.are_marked_once.Given as goal
 

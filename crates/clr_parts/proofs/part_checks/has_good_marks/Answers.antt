@@ -1,11 +1,11 @@
 use Rattle.std.proofs.Common.{◌≡◌, ℕ, ◌<◌, ◌&&◌, List, length, ap, sym, ◌∙◌}
 use Rattle.std.specs.List.{list_all}
 use Rattle.clr_rows.specs.Contents.{Content, no_rows}
-use Rattle.clr_layers.specs.Layers.{Layer, layer_at, wholes}
+use Rattle.clr_deltas.specs.Deltas.{Delta, delta_at, wholes}
 use Rattle.clr_workspaces.specs.Marks.{Mark, Name, saved_names}
 use Rattle.clr_workspaces.specs.Workspaces.{workspace_at}
-use Rattle.clr_layers.specs.declared.stored_marks.StoredMark.{StoredMark}
-use Rattle.clr_layers.proofs.Meaning.{name-wholes}
+use Rattle.clr_deltas.specs.declared.stored_marks.StoredMark.{StoredMark}
+use Rattle.clr_deltas.proofs.Meaning.{name-wholes}
 use Rattle.clr_contents.proofs.ReadLemmas.{marks-wholes}
 use Rattle.clr_parts.specs.Parts.{bare_mark, bare_marks, is_childs, is_marked_once, has_child_marks, has_good_marks}
 use Rattle.clr_workspaces.specs.Soundness.{are_good_savepoints}
@@ -13,8 +13,8 @@ use Rattle.std.proofs.Math.Bool.{and-false}
 use Rattle.clr_parts.proofs.PartLemmas.{all_map, good_alike}
 use Rattle.clr_parts.proofs.part_checks.has_good_marks.Goals as goal
 
--- the marks of a workspace are good where the bare marks of its layer are
-bare : (live : Content) (ls : List Layer) (at : ℕ) (name : Name) (ms : List StoredMark) → name ≡ (layer_at ls at).name → ms ≡ (layer_at ls at).marks
+-- the marks of a workspace are good where the bare marks of its delta are
+bare : (live : Content) (ls : List Delta) (at : ℕ) (name : Name) (ms : List StoredMark) → name ≡ (delta_at ls at).name → ms ≡ (delta_at ls at).marks
     → 0 < at → at < length ls
     → (let ws = wholes live ls in
     has_good_marks ws (workspace_at ws at) ≡ (are_good_savepoints (saved_names (bare_marks ms))
@@ -24,7 +24,7 @@ bare live ls at name ms named are some lt =
     let w = workspace_at ws at in
     let same : w.name ≡ name = name-wholes live ls at ∙ sym named in
     ap (λ (ns : List Mark). are_good_savepoints (saved_names ns) && has_child_marks ws w.name ns) (marks-wholes live ls at some lt)
-    ∙ good_alike ws w.name w.base no_rows (layer_at ls at).marks
+    ∙ good_alike ws w.name w.base no_rows (delta_at ls at).marks
     ∙ (λ i. are_good_savepoints (saved_names (bare_marks (sym are i))) && has_child_marks ws (same i) (bare_marks (sym are i)))
     ∙ ap (λ b. are_good_savepoints (saved_names (bare_marks ms)) && (b && list_all (is_marked_once name (bare_marks ms)) ws))
     (all_map bare_mark (is_childs ws name) ms)

@@ -6,7 +6,7 @@ use Rattle.clr_rows.specs.Contents.{no_rows}
 use Rattle.clr_workspaces.specs.Marks.{saved_count}
 use Rattle.clr_parts.specs.Parts.{bare_mark, bare_marks, has_new_name}
 use Rattle.clr_workspaces.specs.declared.limits.TheConstants.{MOST_SAVEPOINTS}
-use Rattle.clr_layers.specs.declared.stored_marks.StoredMark.{StoredMark}
+use Rattle.clr_deltas.specs.declared.stored_marks.StoredMark.{StoredMark}
 use Rattle.clr_parts.proofs.PartLemmas.{drop_at, rest_is, past_all, are_new, new_skip, not_new, good_from}
 use Rattle.clr_parts.proofs.MarkLemmas.{saved_as_stored}
 use Rattle.clr_parts.proofs.part_checks.has_good_savepoints.Goals as goal

@@ -2,9 +2,9 @@ use Rattle.std.proofs.Common.{◌||◌, ◌==◌, not, ap, sym, ◌∙◌}
 use Rattle.std.specs.Str.{bytes_eq}
 use Rattle.clr_rows.specs.Contents.{no_rows}
 use Rattle.clr_workspaces.specs.Marks.{mark_count}
-use Rattle.clr_layers.specs.Layers.{wholes}
+use Rattle.clr_deltas.specs.Deltas.{wholes}
 use Rattle.clr_workspaces.specs.Workspaces.{workspace_at}
-use Rattle.clr_layers.proofs.Meaning.{name-wholes, parent-wholes}
+use Rattle.clr_deltas.proofs.Meaning.{name-wholes, parent-wholes}
 use Rattle.clr_parts.specs.Parts.{bare_marks}
 use Rattle.clr_parts.proofs.MarkLemmas.{marks_as_stored}
 use Rattle.clr_parts.proofs.part_checks.is_marked_once.Goals as goal

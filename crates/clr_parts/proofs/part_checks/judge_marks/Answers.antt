@@ -1,5 +1,5 @@
 use Rattle.std.proofs.Common.{◌≡◌, ℕ, suc, ◌+◌, ◌-◌, cond, Some, None, length, ap, sym, subst, ◌∙◌, arith}
-use Rattle.clr_layers.specs.Layers.{wholes}
+use Rattle.clr_deltas.specs.Deltas.{wholes}
 use Rattle.clr_workspaces.specs.Workspaces.{workspace_at}
 use Rattle.clr_parts.specs.Parts.{first_below, has_good_marks, marks_fault_at}
 use Rattle.clr_parts.specs.declared.parts.PartFault.TheVariants.{BadMarks}

@@ -1,5 +1,5 @@
 use Rattle.std.proofs.Common.{◌≡◌, ◌-◌, ◌<◌, ◌≤◌, length, None}
-use Rattle.clr_layers.specs.Layers.{wholes}
+use Rattle.clr_deltas.specs.Deltas.{wholes}
 use Rattle.clr_parts.specs.Parts.{marks_fault_at, first_below}
 use Rattle.clr_parts.proofs.part_checks.judge_marks.Given as goal
 

@@ -1,6 +1,6 @@
 use Rattle.std.proofs.Common.{◌<◌, ◌≤◌, is_some, ap, sym, ◌∙◌, subst, arith}
-use Rattle.clr_layers.specs.Layers.{wholes}
-use Rattle.clr_layers.proofs.Meaning.{length-wholes, find-wholes}
+use Rattle.clr_deltas.specs.Deltas.{wholes}
+use Rattle.clr_deltas.proofs.Meaning.{length-wholes, find-wholes}
 use Rattle.clr_workspaces.specs.declared.limits.TheConstants.{MOST_LEVELS}
 use Rattle.clr_parts.proofs.PartLemmas.{none_found, taken, orphan, fits, too_many, too_deep}
 use Rattle.clr_parts.proofs.part_checks.judge_place.Goals.{else-len-lt-MOST_WORKSPACES-via-then-len-lt-MOST_WORKSPACES+else-depth_at-lt-MOST_LEVELS}

@@ -1,5 +1,5 @@
 use Rattle.std.proofs.Common.{sym, ◌∙◌}
-use Rattle.clr_layers.proofs.Meaning.{name-wholes, parent-wholes}
+use Rattle.clr_deltas.proofs.Meaning.{name-wholes, parent-wholes}
 use Rattle.clr_contents.proofs.ReadLemmas.{kept-wholes}
 use Rattle.clr_parts.proofs.part_reads.part_at.Goals as goal
 

@@ -4,7 +4,7 @@ use Rattle.std.proofs.Math.ListN.{get_or-map}
 use Rattle.clr_needs.specs.Picks.{Picks}
 use Rattle.clr_foot.specs.Scenes.{model_of, setting_of}
 use Rattle.clr_clearance.specs.Plans.{ArePicked, IsFirstUnpicked}
-use Rattle.clr_sites.specs.Certificates.{entries_in}
+use Rattle.clr_merge_sets.specs.Certificates.{entries_in}
 use Rattle.clr_plan.specs.GroupNeeds.{AreReady}
 use Rattle.clr_plan.proofs.EntryLaws.{all_entries, first_unpicked, no_entries, one_entry}
 use Rattle.clr_plan.proofs.GroupLaws.{all_touched, are_ready, grouped_by, need_in, part_at, picked_at, possible_at, ready_at, unread, within}

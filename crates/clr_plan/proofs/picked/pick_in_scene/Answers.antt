@@ -4,7 +4,7 @@ use Rattle.clr_needs.specs.Picks.{Picks}
 use Rattle.clr_foot.specs.Scenes.{model_of, setting_of}
 use Rattle.clr_needs.proofs.BreakLaws.{touched_possible}
 use Rattle.clr_needs.proofs.Reading.{read_of}
-use Rattle.clr_sites.specs.Certificates.{entries_in}
+use Rattle.clr_merge_sets.specs.Certificates.{entries_in}
 use Rattle.clr_clearance.specs.Plans.{ArePicked}
 use Rattle.clr_plan.proofs.EntryLaws.{all_entries, first_unpicked, no_entries, one_entry, unread}
 use Rattle.clr_plan.proofs.picked.pick_in_scene.Goals as goal

@@ -1,7 +1,7 @@
 use Rattle.std.proofs.Common.{◌∙◌, sym}
 use Rattle.clr_steps.specs.Readings.{changes_in}
-use Rattle.clr_sites.proofs.NameLemmas.{unshown}
-use Rattle.clr_sites.proofs.SiteLemmas.{unchanged}
+use Rattle.clr_merge_sets.proofs.NameLemmas.{unshown}
+use Rattle.clr_merge_sets.proofs.MergeSetLemmas.{unchanged}
 use Rattle.clr_plan_words.proofs.members.changes_of.Goals as goal
 
 pub returns-in-None : goal.returns-in-None

@@ -3,7 +3,7 @@ use Rattle.std.specs.Prelude.{IfOk, IfSome, slice_get}
 use Rattle.std.specs.Option.{option_map}
 use Rattle.std.proofs.lemmas.Option.{slice_get-map, slice_get_read}
 use Rattle.std.proofs.lemmas.Result.{IfOk-weaker}
-use Rattle.clr_sites.specs.SiteNames.{site}
+use Rattle.clr_merge_sets.specs.MergeSetNames.{merge_set}
 use Rattle.clr_words.specs.declared.remedies.Action.{Action}
 use Rattle.clr_words.specs.Trials.{IsTrialAnswer}
 use Rattle.clr_words.proofs.TrialLemmas.{told_as}
@@ -13,7 +13,7 @@ pub returns-in-Some-clause-told : goal.returns-in-Some-clause-told
 returns-in-Some-clause-told c =
     let names = c.args.names.now in
     let o = c.args.office.now in
-    let s = site c.args.root.now (map (λ name. name.now) names) in
+    let s = merge_set c.args.root.now (map (λ name. name.now) names) in
     let (some, item, stands, at, d) = c.in-Some.ensures.lookup in
     let there : slice_get names c.in-Make.member ≡ Some c.in-Some.ws.now = slice_get_read names (length names) c.in-Make.member c.in-Some.ws.now refl at.0
     item in

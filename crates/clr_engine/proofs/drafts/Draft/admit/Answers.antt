@@ -19,7 +19,7 @@ of_parts-requires c =
     record {
       admitted = subst (λ (ws : List Workspace). IsAdmitted (office_of inside.schema inside.judge ws)) same admitted;
       are = subst (λ (ws : List Workspace). AreFinders inside.judge (kept_contents ws) c.in-Ok.finders) same c.in-Ok.ensures;
-      swept = record { layers = c.sweep.ensures.layers; counts = c.sweep.ensures.counts };
+      swept = record { deltas = c.sweep.ensures.deltas; counts = c.sweep.ensures.counts };
     }
 
 pub returns-in-Ok-clause-office : goal.returns-in-Ok-clause-office

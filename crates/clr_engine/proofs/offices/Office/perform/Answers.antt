@@ -23,7 +23,7 @@ invariant_of-self c =
     let same = sym c.sweep.ensures.contents in (
       subst (λ (ws : List Workspace). IsAdmitted (office_of inside.schema inside.judge ws)) same admitted,
       subst (λ (ws : List Workspace). AreFinders inside.judge (kept_contents ws) c.perform-reply.new.finders) same c.perform-reply.ensures.finders,
-      record { layers = c.sweep.ensures.layers; counts = c.sweep.ensures.counts },
+      record { deltas = c.sweep.ensures.deltas; counts = c.sweep.ensures.counts },
     )
 
 pub returns-clause-answer : goal.returns-clause-answer

@@ -2,11 +2,11 @@ use Rattle.std.proofs.Common.{List, map, ap, sym, subst, ◌∙◌}
 use Rattle.std.proofs.lemmas.Result.{err_from_is_err_and}
 use Rattle.clr_parts.specs.Parts.{workspace_of, first_fault, IsFirstPartFault}
 use Rattle.clr_parts.specs.declared.parts.Part.{Part}
-use Rattle.clr_parts.proofs.BuildLemmas.{sound_layers, none_wrong, marks_wrong}
+use Rattle.clr_parts.proofs.BuildLemmas.{sound_deltas, none_wrong, marks_wrong}
 use Rattle.clr_tree.proofs.tree.Tree.build.Goals as goal
 
 pub of_map-requires : goal.of_map-requires
-of_map-requires c = sound_layers c.args.live c.in_ok-map.map (map workspace_of c.as_slice.result.now) c.in_ok-map.ensures.made c.in_ok-map.ensures.passed
+of_map-requires c = sound_deltas c.args.live c.in_ok-map.map (map workspace_of c.as_slice.result.now) c.in_ok-map.ensures.made c.in_ok-map.ensures.passed
     c.in_ok-judge_marks.ensures.passed
 
 pub returns-clause-passed : goal.returns-clause-passed

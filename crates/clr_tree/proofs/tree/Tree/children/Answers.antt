@@ -1,7 +1,7 @@
 use Rattle.std.proofs.Common.{ap, sym, ◌∙◌}
-use Rattle.clr_layers.specs.Layers.{wholes}
+use Rattle.clr_deltas.specs.Deltas.{wholes}
 use Rattle.clr_workspaces.specs.Workspaces.{workspace_at, children_of}
-use Rattle.clr_layers.proofs.Meaning.{name-wholes}
+use Rattle.clr_deltas.proofs.Meaning.{name-wholes}
 use Rattle.clr_tree.specs.Trees.{Tree}
 use Rattle.clr_operations.proofs.LeafLemmas.{children-wholes}
 use Rattle.clr_tree.proofs.ModelLemmas.{within_tree}

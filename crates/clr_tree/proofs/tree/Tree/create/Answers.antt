@@ -4,12 +4,12 @@ use Rattle.clr_workspaces.specs.Workspaces.{find, depth_of}
 use Rattle.clr_workspaces.specs.Operations.{after_create}
 use Rattle.clr_workspaces.specs.declared.limits.TheConstants.{MOST_WORKSPACES, MOST_LEVELS}
 use Rattle.clr_workspaces.proofs.TreeLemmas.{sound_created}
-use Rattle.clr_layers.specs.Layers.{wholes}
+use Rattle.clr_deltas.specs.Deltas.{wholes}
 use Rattle.clr_workspaces.specs.Soundness.{IsSound}
 use Rattle.clr_contents.proofs.ReadLemmas.{within_wholes}
 use Rattle.clr_tree.proofs.ModelLemmas.{within_tree, became}
-use Rattle.clr_layers.proofs.Answered.{either}
-use Rattle.clr_layers.proofs.Answered.{on_ok, on_err}
+use Rattle.clr_deltas.proofs.Answered.{either}
+use Rattle.clr_deltas.proofs.Answered.{on_ok, on_err}
 use Rattle.clr_tree.proofs.tree.Tree.create.Goals as goal
 
 pub create-requires-clause-within : goal.create-requires-clause-within

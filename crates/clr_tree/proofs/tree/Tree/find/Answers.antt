@@ -1,7 +1,7 @@
 use Rattle.std.proofs.Common.{◌<◌, ap, sym, subst, ◌∙◌, length}
 use Rattle.std.specs.Prelude.{IfSome}
 use Rattle.clr_workspaces.specs.Workspaces.{find}
-use Rattle.clr_layers.proofs.Meaning.{length-wholes, find-wholes}
+use Rattle.clr_deltas.proofs.Meaning.{length-wholes, find-wholes}
 use Rattle.clr_tree.specs.Trees.{Tree}
 use Rattle.clr_tree.proofs.tree.Tree.find.Goals as goal
 

@@ -1,5 +1,5 @@
 use Rattle.std.proofs.Common.{true, ap, sym, subst, ◌∙◌}
-use Rattle.clr_layers.specs.Layers.{wholes}
+use Rattle.clr_deltas.specs.Deltas.{wholes}
 use Rattle.clr_workspaces.specs.Operations.{set_kept}
 use Rattle.clr_workspaces.specs.Soundness.{IsSound}
 use Rattle.clr_contents.proofs.ReadLemmas.{within_wholes}

@@ -6,12 +6,12 @@ use Rattle.clr_workspaces.specs.Operations.{after_mark}
 use Rattle.clr_workspaces.specs.declared.limits.TheConstants.{MOST_SAVEPOINTS}
 use Rattle.clr_workspaces.proofs.NameLemmas.{good_more, absent_name, count_names}
 use Rattle.clr_workspaces.proofs.TreeLemmas.{sound_saved}
-use Rattle.clr_layers.specs.Layers.{wholes}
+use Rattle.clr_deltas.specs.Deltas.{wholes}
 use Rattle.clr_workspaces.specs.Soundness.{IsSound}
 use Rattle.clr_contents.proofs.ReadLemmas.{within_wholes}
 use Rattle.clr_tree.proofs.ModelLemmas.{within_tree, became}
-use Rattle.clr_layers.proofs.Answered.{either}
-use Rattle.clr_layers.proofs.Answered.{on_ok, on_err}
+use Rattle.clr_deltas.proofs.Answered.{either}
+use Rattle.clr_deltas.proofs.Answered.{on_ok, on_err}
 use Rattle.clr_tree.proofs.tree.Tree.mark.Goals as goal
 
 pub mark-requires-clause-within : goal.mark-requires-clause-within

@@ -1,6 +1,6 @@
 use Rattle.std.proofs.Common.{ap, sym, ◌∙◌}
 use Rattle.clr_workspaces.specs.Workspaces.{workspace_at}
-use Rattle.clr_layers.proofs.Meaning.{name-wholes}
+use Rattle.clr_deltas.proofs.Meaning.{name-wholes}
 use Rattle.clr_tree.specs.Trees.{Tree}
 use Rattle.clr_tree.proofs.ModelLemmas.{within_tree}
 use Rattle.clr_tree.proofs.tree.Tree.name_at.Goals as goal

@@ -1,8 +1,8 @@
 use Rattle.std.proofs.Common.{ap, sym, subst, ◌∙◌}
-use Rattle.clr_layers.specs.Layers.{wholes}
+use Rattle.clr_deltas.specs.Deltas.{wholes}
 use Rattle.clr_workspaces.specs.Soundness.{IsSound}
 use Rattle.clr_tree.specs.Trees.{Tree}
-use Rattle.clr_layers.proofs.Meaning.{root_made}
+use Rattle.clr_deltas.proofs.Meaning.{root_made}
 use Rattle.clr_workspaces.proofs.TreeLemmas.{root_sound}
 use Rattle.clr_tree.proofs.tree.Tree.new.Goals as goal
 

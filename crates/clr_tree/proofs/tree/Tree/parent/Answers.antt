@@ -1,5 +1,5 @@
 use Rattle.std.proofs.Common.{◌≡◌, ap, sym, ◌∙◌}
-use Rattle.clr_layers.specs.Layers.{find_layer, wholes}
+use Rattle.clr_deltas.specs.Deltas.{find_delta, wholes}
 use Rattle.clr_workspaces.specs.Workspaces.{parent_of}
 use Rattle.clr_tree.specs.Trees.{Tree}
 use Rattle.clr_contents.proofs.ReadLemmas.{parent_here, within_wholes}
@@ -11,13 +11,13 @@ pub parent_name-requires : goal.parent_name-requires
 parent_name-requires c = within_tree c.self.inside.live c.self.inside.map c.args.self.now c.args.at c.self.view_is c.requires
 
 pub returns-clause-found : goal.returns-clause-found
-returns-clause-found c = c.find.ensures.found ∙ ap (find_layer c.self.inside.map) c.parent_name.ensures
+returns-clause-found c = c.find.ensures.found ∙ ap (find_delta c.self.inside.map) c.parent_name.ensures
     ∙ sym (parent_here c.self.inside.live c.self.inside.map c.args.at) ∙ ap (λ (t : Tree). parent_of t.list c.args.at) c.self.view_is
 
 pub returns-clause-earlier : goal.returns-clause-earlier
 returns-clause-earlier c =
     let ws = wholes c.self.inside.live c.self.inside.map in
-    let found : c.find.result ≡ parent_of ws c.args.at = c.find.ensures.found ∙ ap (find_layer c.self.inside.map) c.parent_name.ensures
+    let found : c.find.result ≡ parent_of ws c.args.at = c.find.ensures.found ∙ ap (find_delta c.self.inside.map) c.parent_name.ensures
     ∙ sym (parent_here c.self.inside.live c.self.inside.map c.args.at) in
     rw found (parent_earlier ws c.args.at c.self.invariant.0.rooted (within_wholes c.self.inside.live c.self.inside.map c.args.at
     (within_tree c.self.inside.live c.self.inside.map c.args.self.now c.args.at c.self.view_is c.requires)))
@@ -25,7 +25,7 @@ returns-clause-earlier c =
 pub returns-clause-child : goal.returns-clause-child
 returns-clause-child c =
     let ws = wholes c.self.inside.live c.self.inside.map in
-    let found : c.find.result ≡ parent_of ws c.args.at = c.find.ensures.found ∙ ap (find_layer c.self.inside.map) c.parent_name.ensures
+    let found : c.find.result ≡ parent_of ws c.args.at = c.find.ensures.found ∙ ap (find_delta c.self.inside.map) c.parent_name.ensures
     ∙ sym (parent_here c.self.inside.live c.self.inside.map c.args.at) in
     rw found (parent_found ws c.args.at c.self.invariant.0.rooted (within_wholes c.self.inside.live c.self.inside.map c.args.at
     (within_tree c.self.inside.live c.self.inside.map c.args.self.now c.args.at c.self.view_is c.requires)))

@@ -4,7 +4,7 @@ use Rattle.clr_workspaces.specs.Workspaces.{workspace_at, children_of}
 use Rattle.clr_workspaces.specs.Operations.{after_remove, after_remove_under, at_position}
 use Rattle.clr_operations.proofs.LeafLemmas.{no_child_whole}
 use Rattle.clr_workspaces.proofs.TreeLemmas.{sound_removed}
-use Rattle.clr_layers.specs.Layers.{wholes}
+use Rattle.clr_deltas.specs.Deltas.{wholes}
 use Rattle.clr_workspaces.specs.Soundness.{IsSound}
 use Rattle.clr_contents.proofs.ReadLemmas.{within_wholes}
 use Rattle.clr_tree.proofs.ModelLemmas.{within_tree, became}

@@ -3,7 +3,7 @@ use Rattle.clr_tree.specs.Trees.{Tree}
 use Rattle.clr_workspaces.specs.Workspaces.{workspace_at, children_of}
 use Rattle.clr_workspaces.specs.Operations.{after_roll_all}
 use Rattle.clr_workspaces.proofs.TreeLemmas.{sound_unsaved}
-use Rattle.clr_layers.specs.Layers.{wholes}
+use Rattle.clr_deltas.specs.Deltas.{wholes}
 use Rattle.clr_workspaces.specs.Soundness.{IsSound}
 use Rattle.clr_contents.proofs.ReadLemmas.{within_wholes}
 use Rattle.clr_tree.proofs.ModelLemmas.{within_tree, became}

@@ -4,12 +4,12 @@ use Rattle.clr_workspaces.specs.Workspaces.{workspace_at}
 use Rattle.clr_workspaces.specs.Marks.{is_saved, is_held, mark_at}
 use Rattle.clr_workspaces.specs.Operations.{after_roll_to}
 use Rattle.clr_workspaces.proofs.TreeLemmas.{sound_rolled_to}
-use Rattle.clr_layers.specs.Layers.{wholes}
+use Rattle.clr_deltas.specs.Deltas.{wholes}
 use Rattle.clr_workspaces.specs.Soundness.{IsSound}
 use Rattle.clr_contents.proofs.ReadLemmas.{within_wholes}
 use Rattle.clr_tree.proofs.ModelLemmas.{within_tree, became}
-use Rattle.clr_layers.proofs.Answered.{either}
-use Rattle.clr_layers.proofs.Answered.{on_ok, on_err}
+use Rattle.clr_deltas.proofs.Answered.{either}
+use Rattle.clr_deltas.proofs.Answered.{on_ok, on_err}
 use Rattle.clr_tree.proofs.tree.Tree.roll_to.Goals as goal
 
 pub roll_to-requires-clause-within : goal.roll_to-requires-clause-within

@@ -1,7 +1,7 @@
 use Rattle.std.proofs.Common.{ap, sym, ◌∙◌}
 use Rattle.clr_tree.specs.Trees.{Tree, stored_at}
 use Rattle.clr_tree.proofs.ModelLemmas.{within_tree}
-use Rattle.clr_layers.specs.Layers.{stored_in}
+use Rattle.clr_deltas.specs.Deltas.{stored_in}
 use Rattle.clr_tree.proofs.SweepLemmas.{told_at}
 use Rattle.clr_tree.proofs.tree.Tree.stored.Goals as goal
 

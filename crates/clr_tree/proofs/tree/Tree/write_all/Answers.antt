@@ -3,12 +3,12 @@ use Rattle.clr_differences.specs.Differences.{RowEntries}
 use Rattle.clr_operations.specs.Moves.{put_into}
 use Rattle.clr_workspaces.specs.Operations.{after_write}
 use Rattle.clr_workspaces.proofs.TreeLemmas.{sound_current}
-use Rattle.clr_layers.specs.Layers.{wholes}
+use Rattle.clr_deltas.specs.Deltas.{wholes}
 use Rattle.clr_workspaces.specs.Soundness.{IsSound}
 use Rattle.clr_contents.proofs.ReadLemmas.{within_wholes}
 use Rattle.clr_tree.proofs.ModelLemmas.{within_tree, became}
-use Rattle.clr_layers.proofs.Answered.{either}
-use Rattle.clr_layers.proofs.Answered.{on_ok, on_err}
+use Rattle.clr_deltas.proofs.Answered.{either}
+use Rattle.clr_deltas.proofs.Answered.{on_ok, on_err}
 use Rattle.clr_tree.proofs.tree.Tree.write_all.Goals as goal
 
 pub write_rows-requires-clause-within : goal.write_rows-requires-clause-within

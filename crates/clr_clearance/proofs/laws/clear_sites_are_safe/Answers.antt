@@ -1,5 +1,0 @@
-use Rattle.clr_clearance.proofs.RunLemmas.{clear_is_safe}
-use Rattle.clr_clearance.proofs.laws.clear_sites_are_safe.Goals as goal
-
-pub returns : goal.returns
-returns c = clear_is_safe

@@ -1,5 +1,0 @@
-use Rattle.clr_clearance.proofs.SafeLemmas.{safe_law}
-use Rattle.clr_clearance.proofs.laws.covered_sites_are_safe.Goals as goal
-
-pub returns : goal.returns
-returns c = safe_law

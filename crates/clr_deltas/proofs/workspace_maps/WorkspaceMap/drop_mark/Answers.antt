@@ -1,0 +1,11 @@
+use Rattle.std.specs.Prelude.{remove}
+use Rattle.clr_deltas.specs.Deltas.{Delta}
+use Rattle.clr_deltas.specs.Entries.{delta_of}
+use Rattle.clr_deltas.proofs.EntryLemmas.{changed}
+use Rattle.clr_deltas.proofs.workspace_maps.WorkspaceMap.drop_mark.Goals as goal
+
+pub returns : goal.returns
+returns c =
+    let k = c.pair_mut-delta.result.0.now in let v = c.pair_mut-delta.result.1.now in let l = delta_of (k, v) in
+    changed c.self.inside.map.entries c.args.self.now c.args.at k v _ (λ (l : Delta). record l { marks = remove l.marks c.args.mark }) c.self.view_is
+    c.pair_mut-delta.ensures.value (λ i. record l { marks = c.drop_mark.ensures i })

@@ -1,0 +1,21 @@
+use Rattle.std.proofs.Common.{◌++◌, ◌∷◌, []}
+use Rattle.clr_deltas.specs.declared.stored_marks.StoredMark.TheVariants.{Child}
+use Rattle.clr_deltas.specs.Deltas.{stored_without_mark_of}
+use Rattle.clr_deltas.specs.Deltas.{Delta}
+use Rattle.clr_deltas.specs.Entries.{delta_of}
+use Rattle.clr_deltas.proofs.Answered.{on_ok, on_err}
+use Rattle.clr_deltas.proofs.EntryLemmas.{changed, stays}
+use Rattle.clr_deltas.proofs.workspace_maps.WorkspaceMap.move_mark_last.Goals as goal
+
+pub returns-clause-ok : goal.returns-clause-ok
+returns-clause-ok c =
+    let k = c.pair_mut-delta.result.0.now in let v = c.pair_mut-delta.result.1.now in let l = delta_of (k, v) in
+    on_ok c.move_last.result _ _ (λ is. changed c.self.inside.map.entries c.args.self.now c.args.at k v _
+    (λ (l : Delta). record l { marks = stored_without_mark_of c.args.child l.marks ++ Child c.args.child ∷ [] }) c.self.view_is
+    c.pair_mut-delta.ensures.value (λ i. record l { marks = is i })) c.move_last.ensures.ok
+
+pub returns-clause-err : goal.returns-clause-err
+returns-clause-err c =
+    let k = c.pair_mut-delta.result.0.now in let v = c.pair_mut-delta.result.1.now in let l = delta_of (k, v) in
+    on_err c.move_last.result _ _ (λ is. stays c.self.inside.map.entries c.args.self.now c.args.at k v _ c.self.view_is c.pair_mut-delta.ensures.value
+    (λ i. record l { marks = is i })) c.move_last.ensures.err

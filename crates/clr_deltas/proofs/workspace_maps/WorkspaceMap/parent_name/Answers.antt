@@ -1,0 +1,9 @@
+use Rattle.std.proofs.Common.{[], ap, sym, ◌∙◌}
+use Rattle.clr_deltas.specs.Deltas.{Delta, delta_at}
+use Rattle.clr_deltas.proofs.EntryLemmas.{value_at}
+use Rattle.clr_deltas.proofs.workspace_maps.WorkspaceMap.parent_name.Goals as goal
+
+pub returns : goal.returns
+returns c =
+    c.as_str.ensures ∙ sym (ap (λ (l : Delta). l.parent) (value_at c.self.inside.map.entries c.args.at _ [] c.index-delta.ensures))
+    ∙ ap (λ ls. (delta_at ls c.args.at).parent) c.self.view_is

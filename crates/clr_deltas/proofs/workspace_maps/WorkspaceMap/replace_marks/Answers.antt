@@ -1,0 +1,10 @@
+use Rattle.clr_deltas.specs.Deltas.{Delta}
+use Rattle.clr_deltas.specs.Entries.{delta_of}
+use Rattle.clr_deltas.proofs.EntryLemmas.{changed}
+use Rattle.clr_deltas.proofs.workspace_maps.WorkspaceMap.replace_marks.Goals as goal
+
+pub returns-clause-new : goal.returns-clause-new
+returns-clause-new c =
+    let k = c.pair_mut-delta.result.0.now in let v = c.pair_mut-delta.result.1.now in let l = delta_of (k, v) in
+    changed c.self.inside.map.entries c.args.self.now c.args.at k v _ (λ (l : Delta). record l { marks = c.args.marks.items }) c.self.view_is
+    c.pair_mut-delta.ensures.value (λ i. record l { marks = (c.replace.ensures.after i).items })

@@ -1,7 +1,0 @@
-use Rattle.std.proofs.Common.{rules}
-use Rattle.std.proofs.lemmas.Fn.{filter_same}
-use Rattle.clr_layers.specs.Layers.{is_stored_child}
-use Rattle.clr_layers.proofs.stored_marks.drop_saved.Goals as goal
-
-pub returns : goal.returns
-returns c = filter_same _ is_stored_child _ (λ x b g call. search rules) _ _ c.retain.ensures.filtered

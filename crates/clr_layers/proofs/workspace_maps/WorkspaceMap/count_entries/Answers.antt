@@ -1,9 +1,0 @@
-use Rattle.std.proofs.Common.{◌+◌, [], List, ap, sym, ◌∙◌}
-use Rattle.clr_layers.specs.Layers.{Layer, layer_at, stored_in}
-use Rattle.clr_layers.proofs.EntryLemmas.{value_at}
-use Rattle.clr_layers.proofs.workspace_maps.WorkspaceMap.count_entries.Goals as goal
-
-pub returns : goal.returns
-returns c =
-    (λ i. c.len.ensures.count i + c.len-2.ensures.count i) ∙ sym (ap stored_in (value_at c.self.inside.map.entries c.args.at _ [] c.index-layer.ensures))
-    ∙ ap (λ (ls : List Layer). stored_in (layer_at ls c.args.at)) c.self.view_is

@@ -1,0 +1,5 @@
+pub mod Lists
+mod LookedLaw
+mod PartMergeSets
+mod PlanLaw
+mod Sharing

@@ -1,0 +1,5 @@
+pub mod Conflicts
+pub mod Laws
+pub mod SharedCells
+pub mod MergeClashes
+pub mod ClashSets

@@ -1,0 +1,6 @@
+pub mod MemberLemmas
+pub mod NameLemmas
+pub mod RepeatLemmas
+pub mod RootLemmas
+pub mod SearchLemmas
+pub mod MergeSetLemmas

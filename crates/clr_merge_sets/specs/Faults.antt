@@ -1,0 +1,12 @@
+-- Why the parts of a merge set aren't read: a test of members that fails, or want of memory where no test of names fails.
+use Rattle.std.specs.Prelude.{◌≡◌, Some, None}
+use Rattle.clr_steps.specs.Offices.{Office}
+use Rattle.clr_steps.specs.Quiet.{MergeSet}
+use Rattle.clr_clearance.specs.declared.verdicts.Verdict.{Verdict}
+use Rattle.clr_clearance.specs.declared.verdicts.Verdict.TheVariants as verdict
+use Rattle.clr_clearance.specs.Verdicts.{member_fault, names_fault}
+
+-- the first that fails of the tests that look at one member at a time
+pub data IsMergeSetFault (o : Office) (s : MergeSet) (v : Verdict) : Type 0 where
+  of_member : member_fault o s ≡ Some v → IsMergeSetFault o s v
+  without_memory : names_fault o s ≡ None → v ≡ verdict.OutOfMemory → IsMergeSetFault o s v

@@ -1,0 +1,5 @@
+pub mod Certificates
+pub mod Faults
+pub mod MergeSetNames
+pub mod MergeSets
+pub mod Told

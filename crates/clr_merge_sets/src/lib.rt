@@ -1,0 +1,23 @@
+//! What checks and plans read of a merge set, a root and its members, in an office.
+//!
+//! - `name_fault` [`fault`, `admitted`]: the first test of names that fails, or none. Each test is
+//!   made over the whole list before the next: the root stands and is kept, no name stands twice,
+//!   each is that of a workspace, and each is a child of the root. The answer is never want of
+//!   memory.
+//! - `read_merge_set` [`parts`, `fault`, `admitted`]: where no test of names and no test for conflicts
+//!   fails, the rows of the root, which aren't copied, and what each member changed; else the first
+//!   test that fails, or want of memory where no test of names does.
+//! - `MergeSetParts::scene` [`scene`, `shared`]: the scene of those rows and changes, or the least cell
+//!   that two members change, or want of memory.
+#![tactic(auto)]
+
+mod name_lists;
+mod name_tests;
+mod repeats;
+mod merge_set_parts;
+mod merge_sets;
+
+pub use name_lists::NameList;
+pub use name_tests::name_fault;
+pub use merge_set_parts::MergeSetParts;
+pub use merge_sets::read_merge_set;

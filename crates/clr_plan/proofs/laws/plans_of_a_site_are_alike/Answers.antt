@@ -1,5 +1,0 @@
-use Rattle.clr_plan.proofs.OnePlanLemmas.{one_plan}
-use Rattle.clr_plan.proofs.laws.plans_of_a_site_are_alike.Goals as goal
-
-pub returns : goal.returns
-returns c = one_plan

@@ -1,5 +1,0 @@
-pub mod Lists
-mod LookedLaw
-mod PartSites
-mod PlanLaw
-mod Sharing

@@ -1,6 +1,0 @@
-pub mod MemberLemmas
-pub mod NameLemmas
-pub mod RepeatLemmas
-pub mod RootLemmas
-pub mod SearchLemmas
-pub mod SiteLemmas

@@ -1,6 +1,0 @@
-use Rattle.std.proofs.Common.{◌≡◌, map, take}
-use Rattle.clr_sites.proofs.sites.references.Given as goal
-
--- references to the sets so far
-abbrev pub invariant-loop-set : goal.invariant-loop-set
-invariant-loop-set l = map (λ set. set.now) l.list.items ≡ take l.set-index l.sets

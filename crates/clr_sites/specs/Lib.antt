@@ -1,5 +1,0 @@
-pub mod Certificates
-pub mod Faults
-pub mod SiteNames
-pub mod Sites
-pub mod Told
