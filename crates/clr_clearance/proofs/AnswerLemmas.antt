@@ -19,7 +19,7 @@ use Rattle.clr_steps.specs.Names.{is_live}
 use Rattle.clr_steps.specs.Offices.{Office, content_of, find_name, is_kept, workspace}
 use Rattle.clr_steps.specs.Effects.{after_merge, after_refresh, after_remove, effect, merged_content}
 use Rattle.clr_steps.specs.Quiet.{Member, MergeSet, is_member, member_of}
-use Rattle.clr_steps.specs.Refusals.{breaks, first_broken, first_of, has_child, name_in, refusal, refusals_of, when}
+use Rattle.clr_steps.specs.Refusals.{breaks, first_broken, first_of, has_child, name_in, refusal, refusal_on, refusals_of, when}
 use Rattle.clr_steps.specs.Steps.{Answer, answer, refused_or_done, step}
 use Rattle.clr_steps.proofs.FindLemmas.{found_name}
 use Rattle.clr_steps.proofs.NeedLemmas.{none_if_holds}
@@ -33,9 +33,6 @@ use Rattle.clr_clearance.proofs.EffectLemmas.{member_refreshed, refresh_steps, s
 use Rattle.clr_clearance.proofs.MemberLemmas.{it, merge_lasts, merged_rows, no_conflict_now, not_root, part_with, refresh_lasts, remove_lasts}
 
 -- refusals of a command on a workspace -----------------------------------------------------------------
-
-abbrev pub refusal_on : Office → Command → Option Reply
-refusal_on o c = cond (is_live (name_in c)) (Some LiveIsFixed) (option_map_or (λ w. first_of (refusals_of o w c)) (workspace o (name_in c)) (Some NoWorkspace))
 
 not_live : (o : Office) (name : Name) (w : Workspace) → workspace o name ≡ Some w → is_live name ≡ false
 unfolding workspace

@@ -102,36 +102,6 @@ extends_set ls at m lt one = record {
       (cases_eq k at);
 }
 
-pub extends_base : (ls : List Delta) (at : ℕ) (k : CellId) (v : Option Row) → at < length ls
-    → Extends ls (delta_changed ls at (λ l. record l { base = finite.insert l.base k v }))
-extends_base ls at k v lt = extends_set ls at _ lt (record {
-  name = refl;
-  parent = refl;
-  base = λ q h. entry_stays (delta_at ls at).base k q v h;
-  current =
-      λ q h. h;
-})
-
-pub extends_current : (ls : List Delta) (at : ℕ) (k : CellId) (v : Option Row) → at < length ls
-    → Extends ls (delta_changed ls at (λ l. record l { current = finite.insert l.current k v }))
-extends_current ls at k v lt = extends_set ls at _ lt (record {
-  name = refl;
-  parent = refl;
-  base = λ q h. h;
-  current = λ q h. entry_stays
-      (delta_at ls at).current k q v h;
-})
-
-pub extends_put : (ls : List Delta) (at : ℕ) (rows : RowEntries) → at < length ls
-    → Extends ls (delta_changed ls at (λ l. record l { current = put_each l.current rows }))
-extends_put ls at rows lt = extends_set ls at _ lt (record {
-  name = refl;
-  parent = refl;
-  base = λ q h. h;
-  current = λ q h. put_each_keeps rows
-      (delta_at ls at).current q h;
-})
-
 pub extends_marks : (ls : List Delta) (at : ℕ) (ms : List StoredMark) → at < length ls → Extends ls (delta_changed ls at (λ l. record l { marks = ms }))
 extends_marks ls at ms lt = extends_set ls at _ lt (record { name = refl; parent = refl; base = λ q h. h; current = λ q h. h })
 
@@ -177,31 +147,6 @@ but_set ls at m cells lt one k q apart = ⊎_elim
     (λ (n : k ≢ at). subst (StaysOwnAt q (delta_at ls k)) (sym (get_or-set_other ls at k m no_delta n)) (own_itself q (delta_at ls k)))
     (cases_eq k at)
 
-pub but_base : (ls : List Delta) (at : ℕ) (k : CellId) (v : Option Row) → at < length ls
-    → StayOwnBut at (k ∷ []) ls (delta_changed ls at (λ l. record l { base = finite.insert l.base k v }))
-but_base ls at k v lt = but_set ls at _ (k
-    ∷ []) lt (λ q apart. record { base = put_elsewhere (delta_at ls at).base k v q apart; current = λ row own. own; saved = λ row own. own })
-
-pub but_current : (ls : List Delta) (at : ℕ) (k : CellId) (v : Option Row) → at < length ls
-    → StayOwnBut at (k ∷ []) ls (delta_changed ls at (λ l. record l { current = finite.insert l.current k v }))
-but_current ls at k v lt =
-    but_set ls at _ (k ∷ []) lt (λ q apart. record {
-      base = refl;
-      current = λ row own. subst (IsOwnOver row)
-          (sym (put_elsewhere (delta_at ls at).current k v q apart)) own;
-      saved = λ row own. own;
-    })
-
-pub but_put : (ls : List Delta) (at : ℕ) (rows : RowEntries) → at < length ls
-    → StayOwnBut at (cells_in rows) ls (delta_changed ls at (λ l. record l { current = put_each l.current rows }))
-but_put ls at rows lt =
-    but_set ls at _ (cells_in rows) lt
-    (λ q apart. record {
-      base = refl;
-      current = λ row own. subst (IsOwnOver row) (sym (put_each_elsewhere rows (delta_at ls at).current q apart)) own;
-      saved = λ row own. own;
-    })
-
 pub but_marks : (ls : List Delta) (at : ℕ) (cells : List CellId) (ms : List StoredMark) → at < length ls → StayOwnBeside cells (delta_at ls at).marks ms
     → StayOwnBut at cells ls (delta_changed ls at (λ l. record l { marks = ms }))
 but_marks ls at cells ms lt stay = but_set ls at _ cells lt (λ q apart. record { base = refl; current = λ row own. own; saved = stay q apart })
@@ -212,14 +157,63 @@ apart_at [] i c q lt apart = absurd (omega arith)
 apart_at (cell ∷ cells) zero c q lt apart = ap (λ b. cond b true false) (not_among cell cells q apart).0
 apart_at (cell ∷ cells) (suc i) c q lt apart = apart_at cells i c q (omega arith) (not_among cell cells q apart).1
 
-pub pinned_base : (ls : List Delta) (at : ℕ) (k : CellId) (v : Option Row) → at < length ls
-    → HasDifference (delta_at (delta_changed ls at (λ l. record l { base = finite.insert l.base k v })) at).base k
-pinned_base ls at k v lt = subst (λ (l : Delta). HasDifference l.base k) (sym (get_or-set_same ls at _ no_delta lt)) (entry_made (delta_at ls at).base k v)
+-- entries are made in one delta -------------------------------------------------------------------
 
-pub pinned_current : (ls : List Delta) (at : ℕ) (k : CellId) (v : Option Row) → at < length ls
-    → HasDifference (delta_at (delta_changed ls at (λ l. record l { current = finite.insert l.current k v })) at).current k
-pinned_current ls at k v lt = subst (λ (l : Delta). HasDifference l.current k) (sym (get_or-set_same ls at _ no_delta lt))
-    (entry_made (delta_at ls at).current k v)
+-- one entry
+module _ (ls : List Delta) (at : ℕ) (k : CellId) (v : Option Row) (lt : at < length ls) where
+  abbrev had : Delta
+  had = delta_at ls at
+
+  abbrev in_base : List Delta
+  in_base = delta_changed ls at (λ l. record l { base = finite.insert l.base k v })
+
+  abbrev in_current : List Delta
+  in_current = delta_changed ls at (λ l. record l { current = finite.insert l.current k v })
+
+  pub extends_base : Extends ls in_base
+  extends_base = extends_set ls at _ lt (record { name = refl; parent = refl; base = λ q h. entry_stays had.base k q v h; current = λ q h. h })
+
+  pub extends_current : Extends ls in_current
+  extends_current = extends_set ls at _ lt (record { name = refl; parent = refl; base = λ q h. h; current = λ q h. entry_stays had.current k q v h })
+
+  pub but_base : StayOwnBut at (k ∷ []) ls in_base
+  but_base = but_set ls at _ (k ∷ []) lt
+      (λ q apart. record { base = put_elsewhere had.base k v q apart; current = λ row own. own; saved = λ row own. own })
+
+  pub but_current : StayOwnBut at (k ∷ []) ls in_current
+  but_current = but_set ls at _ (k ∷ []) lt (λ q apart. record {
+    base = refl;
+    current = λ row own. subst (IsOwnOver row) (sym (put_elsewhere had.current k v q apart)) own;
+    saved = λ row own. own;
+  })
+
+  pub pinned_base : HasDifference (delta_at in_base at).base k
+  pinned_base = subst (λ (l : Delta). HasDifference l.base k) (sym (get_or-set_same ls at _ no_delta lt)) (entry_made had.base k v)
+
+  pub pinned_current : HasDifference (delta_at in_current at).current k
+  pinned_current = subst (λ (l : Delta). HasDifference l.current k) (sym (get_or-set_same ls at _ no_delta lt)) (entry_made had.current k v)
+
+-- one after another
+module _ (ls : List Delta) (at : ℕ) (rows : RowEntries) (lt : at < length ls) where
+  abbrev with_rows : List Delta
+  with_rows = delta_changed ls at (λ l. record l { current = put_each l.current rows })
+
+  pub extends_put : Extends ls with_rows
+  extends_put = extends_set ls at _ lt (record {
+    name = refl;
+    parent = refl;
+    base = λ q h. h;
+    current = λ q h. put_each_keeps rows (delta_at ls at).current q h;
+  })
+
+  pub but_put : StayOwnBut at (cells_in rows) ls with_rows
+  but_put = but_set ls at _ (cells_in rows) lt (λ q apart. record {
+    base = refl;
+    current = λ row own. subst (IsOwnOver row) (sym (put_each_elsewhere rows (delta_at ls at).current q apart)) own;
+    saved = λ row own. own;
+  })
+
+-- entries of children ---------------------------------------------------------------------------------
 
 -- the children's entries stay pinned where deltas get more entries
 pub children_keep : (ls ms : List Delta) (name : Name) (cells : List CellId) → Extends ls ms → ChildrenPin ls name cells → ChildrenPin ms name cells

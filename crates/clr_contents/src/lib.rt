@@ -5,7 +5,7 @@
 //!   rows of a workspace, by cell or whole, as the differences above one another mean them.
 //! - `changes_to_base`, `changes_to_saved` and `changes_to_refreshed` tell what would change in the
 //!   current content of a workspace, were it rolled back or refreshed; no whole content is made.
-//! - `pin_children`, `pin_current`, `pin_own` and `pin_saved` make entries before a content below
+//! - `pin_children`, `pin_own` and `pin_row` make entries before a content below
 //!   changes [`seen`]: no content changes by them, also where memory runs out.
 #![tactic(auto)]
 
@@ -17,7 +17,7 @@ mod views;
 mod wholes;
 
 pub use comparisons::{changes_to_base, changes_to_refreshed, changes_to_saved};
-pub use pins::{pin_children, pin_current, pin_own, pin_saved};
+pub use pins::{pin_children, pin_own, pin_row};
 pub use reads::{base_row_of, depth_at, parent_of, row_of, saved_row_of};
 pub use sweeps::{sweep, sweep_at};
 pub use views::{BaseView, ChangedView, SavedView, View};

@@ -17,6 +17,7 @@ use std::alloc::AllocError;
 // memory runs out.
 
 /// Makes an entry at a cell of a base that has none there.
+#[tactic(auto, using(crate::proofs::PinLemmas::extends_base, crate::proofs::PinLemmas::pinned_base))]
 fn pin_base(live: &Sheet, map: &mut WorkspaceMap, at: usize, cell: CellId) -> Result<(), AllocError>
     requires child { 0 < at }
     requires within { at < length map.old }
@@ -111,7 +112,8 @@ pub fn pin_children(
 }
 
 /// Makes an entry at a cell of a current content that has none there.
-pub fn pin_current(
+#[tactic(auto, using(crate::proofs::PinLemmas::extends_current, crate::proofs::PinLemmas::pinned_current))]
+fn pin_current(
     live: &Sheet,
     map: &mut WorkspaceMap,
     at: usize,
@@ -155,7 +157,8 @@ pub fn pin_own(
 }
 
 /// Makes an entry at a cell of each savepoint of a workspace that has none there.
-pub fn pin_saved(
+#[tactic(auto, using(crate::proofs::PinLemmas::extends_marks))]
+fn pin_saved(
     live: &Sheet,
     map: &mut WorkspaceMap,
     at: usize,
@@ -171,4 +174,26 @@ pub fn pin_saved(
 {
     let row = copy_row(base_row_of(live, map, at, cell))?;
     map.pin_saved(at, cell, row.as_ref())
+}
+
+/// Makes an entry at a cell of the current content and of each savepoint of a workspace that has
+/// none there.
+#[tactic(auto, using(crate::proofs::PinLemmas::extends_both))]
+pub fn pin_row(
+    live: &Sheet,
+    map: &mut WorkspaceMap,
+    at: usize,
+    cell: CellId,
+) -> Result<(), AllocError>
+    requires child { 0 < at }
+    requires within { at < length map.old }
+    requires rooted { IsRooted (wholes live.now map.old) }
+    ensures seen { wholes live.now map.new ≡ wholes live.now map.old }
+    ensures extends { Extends map.old map.new }
+    ensures elsewhere { StayOwnBut at (cell ∷ []) map.old map.new }
+    ensures current { OnOk result (HasDifference (delta_at map.new at).current cell) }
+    ensures saved { OnOk result (EachMarkPins (delta_at map.new at).marks cell) }
+{
+    pin_current(live, map, at, cell)?;
+    pin_saved(live, map, at, cell)
 }

@@ -109,6 +109,7 @@ pub fn saved_at(map: &WorkspaceMap, at: usize, mark: usize) -> Result<Difference
 }
 
 /// Returns the content of a savepoint of a workspace other than LIVE, whole.
+#[tactic(auto, using(crate::proofs::MarkLemmas::saved_stored))]
 pub fn saved_rows(
     live: &Sheet,
     map: &WorkspaceMap,

@@ -157,6 +157,7 @@ impl Differences {
 
     /// Makes an entry at a cell that has none, with the row of the content below. What is seen
     /// stays, also where memory runs out.
+    #[tactic(auto, using(crate::proofs::DifferenceLemmas::entry_made, crate::proofs::DifferenceLemmas::put_elsewhere))]
     pub fn pin(&mut self, cell: CellId, row: Option<&Row>) -> Result<(), AllocError>
         ensures seen { (below : Content) → row_at below cell ≡ option_copied row.entry → seen_over below self.new ≡ seen_over below self.old }
         ensures pinned { OnOk result (HasDifference self.new cell) }

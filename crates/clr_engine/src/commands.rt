@@ -234,7 +234,7 @@ fn resolve(
     }
 }
 
-#[tactic(auto, unfolding(clr_steps::specs::Positions::refusals_at))]
+#[tactic(auto, using(clr_kept_finders::proofs::Fits::fit_current), unfolding(clr_steps::specs::Positions::refusals_at))]
 fn hold(judge: &Judge, tree: &mut Tree, finders: &mut Finders, at: usize) -> Reply
     requires child { 0 < at }
     requires within { at < length tree.old.list }

@@ -280,6 +280,7 @@ impl Judge {
 
     /// Returns the position of the first workspace in which the rules are to hold, and one doesn't,
     /// LIVE having position 0, and its least broken need.
+    #[tactic(auto, using(clr_kept_finders::proofs::Fits::fit_current))]
     pub fn first_unheld(&self, tree: &Tree) -> Result<Option<(usize, Broken)>, AllocError>
         requires fit { FitSome self.now tree.now.list }
         ensures first { IfOk result (λ first. first ≡ first_unheld self.now tree.now.list) }

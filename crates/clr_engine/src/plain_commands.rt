@@ -199,7 +199,7 @@ pub(crate) fn write_above(
 }
 
 /// Says that from now on no rule need hold in the workspace at a position, and drops its finder.
-#[tactic(auto, unfolding(clr_steps::specs::Positions::refusals_at))]
+#[tactic(auto, using(clr_kept_finders::proofs::Served::after_releasing), unfolding(clr_steps::specs::Positions::refusals_at))]
 pub(crate) fn release(tree: &mut Tree, finders: &mut Finders, at: usize) -> Reply
     requires child { 0 < at }
     requires within { at < length tree.old.list }

@@ -1,21 +1,20 @@
 -- The members of each label are groups.
-use Rattle.std.proofs.Common.{◌≡◌, ◌∙◌, ◌<◌, ◌≤◌, ◌+◌, ◌⊎◌, ℕ, zero, suc, true, false, List, [], ◌∷◌, ◌++◌, inl, inr, Contains, length, refl, sym, ap, subst}
-use Rattle.std.proofs.Common.{arith, Option, Some, None}
+use Rattle.std.proofs.Common.{◌≡◌, ◌∙◌, ◌<◌, ◌≤◌, ◌+◌, ◌⊎◌, ℕ, zero, suc, List, [], ◌∷◌, ◌++◌, inl, inr, Contains, length, refl, sym, ap, subst}
+use Rattle.std.proofs.Common.{arith, Some}
 use Rattle.std.specs.Prelude.{slice_get}
 use Rattle.std.specs.List.Sorted.{IsStrictlySortedBy}
 use Rattle.std.specs.Ordering.{nat_cmp}
 use Rattle.std.specs.declared.cmp.Ordering.TheVariants.{Less}
 use Rattle.std.proofs.lemmas.Bool.{cases_lt}
 use Rattle.std.proofs.lemmas.List.Elements.{Contains-append_cases, Contains-append_left, Contains-append_right}
-use Rattle.std.proofs.lemmas.Option.{get_or_from_slice_get, slice_get_read, slice_get_within}
+use Rattle.std.proofs.lemmas.Option.{slice_get_read}
 use Rattle.clr_rows.specs.Contents.{Changes, Content}
 use Rattle.clr_rules.specs.declared.rules.Rule.{Rule}
 use Rattle.clr_rules.proofs.AskLemmas.{less_number}
 use Rattle.clr_rules.proofs.Elements.{Among, among, contained, rising_joined}
 use Rattle.clr_needs.specs.Members.{setting}
 use Rattle.clr_needs.specs.Needs.{Lists}
-use Rattle.clr_needs.specs.Settings.{Setting, has}
-use Rattle.clr_groups.specs.Groups.{AreGroups, AreJoined}
+use Rattle.clr_groups.specs.Groups.{AreGroups}
 use Rattle.clr_groups.specs.Labels.{AreGroupsBy, AreLabels, IsLabelled, label}
 use Rattle.clr_needs.proofs.BlockerLaws.{member_below}
 use Rattle.clr_needs.proofs.PartPositions.{below_member}

@@ -4,14 +4,14 @@ use Rattle.std.proofs.Common.{sym, ap, subst, arith, Option, Some, None}
 use Rattle.std.specs.Prelude.{if◌then◌else◌}
 use Rattle.std.specs.BTreeMap.{BTreeMap, get, is_at}
 use Rattle.std.specs.Cmp.{Equal-is, tied_itself}
-use Rattle.std.proofs.lemmas.Bool.{cases_Bool, cases_lt, false≢true}
+use Rattle.std.proofs.lemmas.Bool.{cases_lt}
 use Rattle.std.proofs.lemmas.Bool.Decides.{Decides-eqb}
 use Rattle.clr_needs.specs.declared.needs.Need.{Need}
-use Rattle.clr_needs.specs.Independence.{AreDependent, Involves}
+use Rattle.clr_needs.specs.Independence.{AreDependent}
 use Rattle.clr_foot.specs.Involvement.{IsInvolving}
-use Rattle.clr_needs.specs.Needs.{IsPossible, Lists}
+use Rattle.clr_needs.specs.Needs.{Lists}
 use Rattle.clr_needs.specs.Orders.{need_cmp}
-use Rattle.clr_needs.specs.Settings.{Setting, Lived, has}
+use Rattle.clr_needs.specs.Settings.{Setting, has}
 use Rattle.clr_needs.proofs.Reading.{all_taken, none_taken, one_more, read_of}
 use Rattle.clr_foot.proofs.InvolvedLaws.{both_depend}
 use Rattle.clr_needs.proofs.NeedOrder.{need_exact, need_total}

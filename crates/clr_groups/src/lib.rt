@@ -5,6 +5,7 @@
 //!   member; each member stands in one; and two stand in the same one exactly where a chain of
 //!   dependent pairs joins them. The needs that involve each member are listed once; no pair is
 //!   tried.
+//! - `group_scene`: the scene of one of these groups.
 //! - `groups_split_needs`: where no cell is changed by two members, each touched need of all
 //!   members is touched in the scene of just one group, and no other need is touched there; the
 //!   same witnesses are picked for it there, and the same members break it.
@@ -13,6 +14,8 @@
 mod labels;
 mod laws;
 mod member_groups;
+mod scenes;
 
 pub use laws::groups_split_needs;
 pub use member_groups::groups;
+pub use scenes::group_scene;

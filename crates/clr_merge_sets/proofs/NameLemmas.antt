@@ -1,6 +1,6 @@
 -- What an office shows by name, and the tests of names.
 use Rattle.std.proofs.Common.{◌≡◌, ℕ, ◌+◌, ◌<◌, ◌≤◌, ◌⊎◌, inl, inr, Bool, true, false, not, cond, ◌||◌, ◌&&◌, List, [], Option, Some, None, get_or, is_none}
-use Rattle.std.proofs.Common.{is_some, length, nat_lt, refl, sym, ap, ◌∙◌, arith}
+use Rattle.std.proofs.Common.{is_some, length, nat_lt, refl, sym, ap, unwrap_or, ◌∙◌, arith}
 use Rattle.std.specs.Prelude.{position, slice_get}
 use Rattle.std.specs.List.{position_or_len}
 use Rattle.std.specs.Option.{option_map, option_map_or, option_or}
@@ -62,6 +62,13 @@ module _ (o : Office) (name : Name) where
       by true r h = absurd (false≢true (sym h))
       by false None h = refl
       by false (Some w) h = absurd (false≢true (sym h))
+
+  pub kept_if_shown : (r : Option Bool) → r ≡ if_stands o name (is_kept o name) → unwrap_or r false ≡ is_kept o name
+  kept_if_shown r e = ap (λ kept. unwrap_or kept false) e ∙ by (stands o name) refl
+    where
+      by : (b : Bool) → stands o name ≡ b → unwrap_or (cond b (Some (is_kept o name)) None) false ≡ is_kept o name
+      by true h = refl
+      by false h = sym (not_kept h)
 
 -- children of a root -------------------------------------------------------------------------------
 

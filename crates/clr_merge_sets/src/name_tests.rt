@@ -58,14 +58,12 @@ fn first_stray<N: NameList>(office: &Office, root: &str, members: &N) -> Option<
 }
 
 /// Returns whether a root stands and every rule is to hold in it.
+#[tactic(auto, using(crate::proofs::NameLemmas::kept_if_shown))]
 fn is_kept(office: &Office, root: &str) -> bool
     ensures value { result ≡ is_kept office.now root.now }
     ensures admitted { IsAdmitted office.now }
 {
-    match office.kept(root) {
-        Some(kept) => kept,
-        None => false,
-    }
+    office.kept(root).unwrap_or(false)
 }
 
 /// Returns the first test of names that a root and members fail, or none. Each test is made over

@@ -8,7 +8,7 @@ ghost use Rattle.clr_groups.specs.Groups.{AreGroups};
 use clr_call_test_kit::Memory;
 use clr_finders::RowFinder;
 use clr_foot::Scene;
-use clr_groups::groups;
+use clr_groups::{group_scene, groups};
 use clr_rows::RowView;
 use std::alloc::{AllocError, Global};
 
@@ -54,12 +54,10 @@ fn group_lines<V: RowView, F: RowFinder>(
     requires apart { AreApart (model_of V.content scene.now).sets }
     requires groups { AreGroups (setting_of (model_of V.content scene.now)) (map (λ g. g.items) groups.now) }
 {
-    let _few = scene.len();
     let mut lines = String::new(alloc);
-    for group in groups {
-        let members = group.as_slice();
-        let part = scene.part(members)?;
-        let line = part_line(alloc, &part, members)?;
+    for at in 0..groups.len() {
+        let part = group_scene(scene, groups, at)?;
+        let line = part_line(alloc, &part, groups[at].as_slice())?;
         lines.push_str(line.as_str())?;
     }
     Ok(lines)

@@ -1,5 +1,5 @@
 -- What keeps deltas without neutral entries.
-use Rattle.std.proofs.Common.{◌≡◌, ◌≢◌, ℕ, suc, zero, ◌+◌, ◌<◌, ⊎_elim, Bool, true, false, cond, List, [], ◌∷◌, length, Some, None, unwrap_or, refl, ap, sym}
+use Rattle.std.proofs.Common.{◌≡◌, ◌≢◌, ℕ, suc, zero, ◌<◌, ⊎_elim, Bool, true, false, cond, List, [], ◌∷◌, length, Some, None, unwrap_or, refl, ap, sym}
 use Rattle.std.proofs.Common.{subst, ◌∙◌, slice_set, filter, not, nat_lt, ◌++◌, arith, remove, take}
 use Rattle.std.specs.declared.option.Option.{Option}
 use Rattle.std.specs.FinMap as finite

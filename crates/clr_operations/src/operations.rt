@@ -20,8 +20,8 @@ ghost use Rattle.clr_workspaces.specs.declared.rebases.Rebase.TheVariants.{Merge
 
 use clr_change::{ChangeSet, copy_row};
 use clr_contents::{
-    base_row_of, cells_of, changes_of, parent_of, pin_children, pin_current, pin_own, pin_saved,
-    row_of, saved_at, sweep_at,
+    base_row_of, cells_of, changes_of, parent_of, pin_children, pin_own, pin_row, row_of, saved_at,
+    sweep_at,
 };
 use clr_deltas::{StoredMark, WorkspaceMap, push_leaf};
 use clr_differences::Differences;
@@ -130,6 +130,7 @@ fn roll_back(
 }
 
 /// Makes the content of a savepoint the current one. The later savepoints go.
+#[tactic(auto, using(clr_contents::proofs::MarkLemmas::saved_stored))]
 pub fn roll_to(
     live: &Sheet,
     map: &mut WorkspaceMap,
@@ -313,8 +314,7 @@ fn keep_own(
     ensures long { length map.new ≡ length map.old }
     ensures elsewhere { StayOwnButNear at (cell ∷ []) map.old map.new }
 {
-    pin_current(live, map, at, cell)?;
-    pin_saved(live, map, at, cell)?;
+    pin_row(live, map, at, cell)?;
     map.take_base(at, cell);
     Ok(())
 }
@@ -352,8 +352,7 @@ fn move_row(
     ensures elsewhere { StayOwnButNear at (cell ∷ []) map.old map.new }
 {
     pin_cell(live, map, at, cell)?;
-    pin_current(live, map, at, cell)?;
-    pin_saved(live, map, at, cell)?;
+    pin_row(live, map, at, cell)?;
     map.move_row(at, cell, row);
     Ok(())
 }

@@ -77,9 +77,6 @@ module _ (live : Content) (ls : List Delta) (rest : List Workspace) (is : wholes
   long : length ls ≡ suc (length rest)
   long = sym (length-wholes live ls) ∙ ap length is
 
-  pub some_deltas : 0 < length ls
-  some_deltas = let count = long in omega (arith, count)
-
   marks_in : first_below (marks_fault_at (wholes live ls)) (length ls - 1) ≡ first_marks_fault live rest
   marks_in =
       let all = long in

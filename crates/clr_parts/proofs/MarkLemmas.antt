@@ -5,7 +5,7 @@ use Rattle.std.specs.List.{list_any, position_or_len}
 use Rattle.std.specs.Prelude.{fold, count_by, position, nat_lt}
 use Rattle.std.specs.Str.{bytes_eq}
 use Rattle.clr_rows.specs.Contents.{Content}
-use Rattle.clr_workspaces.specs.Marks.{Name, Mark, Saved, is_child_mark, is_saved, is_saved_as, is_mark_of, saved_count, mark_count, find_mark, is_held}
+use Rattle.clr_workspaces.specs.Marks.{Name, Mark, is_child_mark, is_saved, is_saved_as, is_mark_of, saved_count, mark_count, find_mark, is_held}
 use Rattle.clr_deltas.specs.Deltas.{whole_mark, is_stored_child, is_stored_saved, is_stored_saved_as, is_stored_mark_of}
 use Rattle.clr_deltas.specs.declared.stored_marks.StoredMark.{StoredMark}
 use Rattle.clr_deltas.specs.declared.stored_marks.StoredMark.TheVariants as stored

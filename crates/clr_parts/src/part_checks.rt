@@ -154,14 +154,12 @@ fn has_good_marks(live: &Sheet, map: &WorkspaceMap, at: usize) -> bool
 /// Tests whether each workspace under LIVE has good marks. Fails with `BadMarks` and the position
 /// of the first that hasn't, counted without LIVE.
 pub fn judge_marks(live: &Sheet, map: &WorkspaceMap) -> Result<(), (usize, PartFault)>
-    requires { 0 < length map.now }
     ensures passed { OnOk result (first_below (marks_fault_at (wholes live.now map.now)) (length map.now - 1) ≡ None) }
     ensures refused { IfErr result (IsFirstPartFault (first_below (marks_fault_at (wholes live.now map.now)) (length map.now - 1))) }
 {
-    let count = map.len() - 1;
-    for at in 0..count {
-        if !has_good_marks(live, map, at + 1) {
-            return Err((at, PartFault::BadMarks));
+    for at in 1..map.len() {
+        if !has_good_marks(live, map, at) {
+            return Err((at - 1, PartFault::BadMarks));
         }
     }
     Ok(())

@@ -139,20 +139,13 @@ module _ {F : Type 0} (models : List (SceneModel F)) where
 pub mapped_at : {X Y : Type 0} (f : X → Y) (xs : List X) (k : ℕ) (x : X) → k < length xs → x ≡ get_or xs k x → slice_get (map f xs) k ≡ Some (f x)
 mapped_at f xs k x less is = slice_get-map f xs k ∙ ap (option_map f) (slice_get_read xs (length xs) k x refl less is)
 
-pub mapped_contains : {X Y : Type 0} (f : X → Y) (xs : List X) (k : ℕ) (x : X) → k < length xs → x ≡ get_or xs k x → Contains (map f xs) (f x)
-mapped_contains f xs k x less is = contained (f x) (map f xs) (mapped_among f x xs (among x xs (item_in xs k x less is)))
-
 pub past_mapped : {X Y : Type 0} (f : X → Y) (xs : List X) (k : ℕ) → length xs ≤ k → length (map f xs) ≤ k
 past_mapped f xs k past = subst (λ n. n ≤ k) (sym (length-map xs f)) past
 
 -- the scene of one more group
-pub one_scene : {X V F : Type 0} (h : X → SceneModel F) (model : SceneModel F) (f : V → List ℕ) (groups : List V) (k : ℕ) (d : V) (old new : List X) (part : X)
-    → k < length groups → new ≡ old ++ part ∷ []
-    → h part ≡ model_at model (f (get_or groups k d))
-    → map h old ≡ models_at model (map f (take k groups))
-    → map h new ≡ models_at model (map f (take (k + 1) groups))
-one_scene h model f groups k d old new part less is made so_far =
+pub one_scene : {X F : Type 0} (h : X → SceneModel F) (model : SceneModel F) (groups : List (List ℕ)) (k : ℕ) (old new : List X) (part : X) → k < length groups
+    → new ≡ old ++ part ∷ [] → h part ≡ model_at model (get_or groups k []) → map h old ≡ models_at model (take k groups)
+    → map h new ≡ models_at model (take (k + 1) groups)
+one_scene h model groups k old new part less is made so_far =
     ap (map h) is ∙ map-append h old (part ∷ []) ∙ (λ i. so_far i ++ made i ∷ [])
-    ∙ sym (ap (λ gs. models_at model (map f gs)) (take_more groups k d less)
-    ∙ ap (models_at model) (map-append f (take k groups) (get_or groups k d ∷ []))
-    ∙ map-append (model_at model) (map f (take k groups)) (f (get_or groups k d) ∷ []))
+    ∙ sym (ap (models_at model) (take_more groups k [] less) ∙ map-append (model_at model) (take k groups) (get_or groups k [] ∷ []))

@@ -49,6 +49,7 @@ pub(crate) fn plan_fault(alloc: Global, fault: Verdict) -> Plan
 }
 
 /// Returns the plan where there is no scene: the first two members that change a cell are an order.
+#[tactic(auto, using(crate::proofs::FaultLaws::shared_plan))]
 pub(crate) fn plan_shared(alloc: Global, fault: SceneFault) -> Plan
     ensures { (o : Office) (s : MergeSet) → member_fault o s ≡ None → IsSceneFault (change_sets o s) fault → IsPlan o s result }
 {

@@ -8,6 +8,7 @@ ghost use Rattle.clr_plan.specs.GroupNeeds.{models_at};
 
 use clr_finders::RowFinder;
 use clr_foot::Scene;
+use clr_groups::group_scene;
 use clr_rows::RowView;
 use std::alloc::{AllocError, Global};
 
@@ -23,10 +24,9 @@ pub(crate) fn group_scenes<'a, V: RowView, F: RowFinder>(
     ensures { IfOk result (λ parts. map (model_of V.content) parts.items
         ≡ models_at (model_of V.content scene.entry.now) (map (λ g. g.items) groups.entry.now)) }
 {
-    let _few = scene.len();
     let mut parts = Vec::with_capacity(alloc, groups.len())?;
-    for group in groups {
-        parts.push(scene.part(group.as_slice())?)?;
+    for at in 0..groups.len() {
+        parts.push(group_scene(scene, groups, at)?)?;
     }
     Ok(parts)
 }

@@ -13,7 +13,7 @@ use Rattle.clr_steps.specs.Names.{is_live}
 use Rattle.clr_steps.specs.Offices.{Office, workspace, stands}
 use Rattle.clr_steps.specs.Effects.{edited_content, effect}
 use Rattle.clr_steps.specs.Refusals.{is_full, is_deep, when, first_of, bad_edit, in_conflict, edit_refusal, conflict, first_broken, broken_where, breaks}
-use Rattle.clr_steps.specs.Refusals.{name_in, refusals_of, refusal}
+use Rattle.clr_steps.specs.Refusals.{name_in, refusals_of, refusal_on, refusal}
 use Rattle.clr_steps.specs.Steps.{refused_or_done, step, is_lost}
 use Rattle.clr_steps.specs.Laws.{MemoryLaw}
 
@@ -69,8 +69,7 @@ of_workspace o w (command.Resolve n cell keep) = (of_when _ _ refl, (of_breaks o
 of_workspace o w (command.Hold n) = (of_broken _ o.book w.current, tt)
 of_workspace o w (command.Release n) = tt
 
-below_live : (o : Office) (c : Command)
-    → IsNoLoss (cond (is_live (name_in c)) (Some LiveIsFixed) (option_map_or (λ w. first_of (refusals_of o w c)) (workspace o (name_in c)) (Some NoWorkspace)))
+below_live : (o : Office) (c : Command) → IsNoLoss (refusal_on o c)
 below_live o c = by (is_live (name_in c)) (workspace o (name_in c))
   where
     by : (b : Bool) (r : Option Workspace) → IsNoLoss (cond b (Some LiveIsFixed) (option_map_or (λ w. first_of (refusals_of o w c)) r (Some NoWorkspace)))

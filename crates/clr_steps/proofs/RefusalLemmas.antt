@@ -12,11 +12,10 @@ use Rattle.clr_workspaces.specs.Marks.{Name}
 use Rattle.clr_workspaces.specs.Workspaces.{Workspace, workspace_at, find, parent_of}
 use Rattle.clr_workspaces.specs.Soundness.{IsSound}
 use Rattle.clr_workspaces.specs.Operations.{keep_row}
-use Rattle.clr_steps.specs.Names.{is_live}
 use Rattle.clr_steps.specs.Offices.{Office, office_of, workspace, content_of, is_kept, below_live}
 use Rattle.clr_steps.specs.Effects.{edited_content, rolled_content, merged_content, resolved_content}
 use Rattle.clr_steps.specs.Refusals.{when, first_of, has_child, edit_refusal, conflict, is_in_conflict_with, is_in_conflict, broken_where, breaks, name_in}
-use Rattle.clr_steps.specs.Refusals.{refusals_of, refusal}
+use Rattle.clr_steps.specs.Refusals.{refusals_of, refusal_on, refusal}
 use Rattle.clr_steps.specs.Positions.{is_top, below_top, content_at, kept_at, has_child_at, refusals_at, refusal_below, refusal_at}
 use Rattle.clr_steps.specs.Laws.{RefusalLaw}
 use Rattle.clr_steps.proofs.SeenLemmas.{Seen, seen, within, own_position, kept_is, child_is, depth_is, length_is}
@@ -34,8 +33,7 @@ module _ (schema : List TableDef) (book : List Rule) (ws : List Workspace) (soun
 
   -- a command on a workspace, where it is refused for the same at the position under LIVE
   of_below : (c : Command) → ((k : ℕ) → find ws (name_in c) ≡ Some (suc k) → refusals_of o (workspace_at ws (suc k)) c ≡ refusals_at book ws (suc k) c)
-      → cond (is_live (name_in c)) (Some LiveIsFixed) (option_map_or (λ w. first_of (refusals_of o w c)) (workspace o (name_in c)) (Some NoWorkspace))
-      ≡ refusal_below (find ws (name_in c)) (λ at. refusals_at book ws at c)
+      → refusal_on o c ≡ refusal_below (find ws (name_in c)) (λ at. refusals_at book ws at c)
   of_below c same = rw ((see (name_in c)).live, (see (name_in c)).found) (by (find ws (name_in c)) refl)
     where
       by : (r : Option ℕ) → find ws (name_in c) ≡ r

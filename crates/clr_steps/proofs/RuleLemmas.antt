@@ -19,7 +19,7 @@ use Rattle.clr_steps.specs.Names.{same_name, is_live}
 use Rattle.clr_steps.specs.Offices.{Office, with_workspaces, find_name, workspace, stands, content_of, is_kept, set_content, modify, modify_marks, without}
 use Rattle.clr_steps.specs.Effects.{edited_content, rolled_content, merged_content, resolved_content, after_create, after_remove, after_apply, after_mark}
 use Rattle.clr_steps.specs.Effects.{after_unmark, after_roll_to, after_roll_all, after_refresh, after_merge, after_resolve, set_kept, effect}
-use Rattle.clr_steps.specs.Refusals.{when, first_of, edit_refusal, first_broken, broken_where, breaks, name_in, refusals_of, refusal}
+use Rattle.clr_steps.specs.Refusals.{when, first_of, edit_refusal, first_broken, broken_where, breaks, name_in, refusals_of, refusal_on, refusal}
 use Rattle.clr_steps.specs.Steps.{refused_or_done, step}
 use Rattle.clr_steps.specs.Invariants.{HoldsWhereKept}
 use Rattle.clr_steps.specs.Laws.{RulesLaw}
@@ -89,9 +89,7 @@ pub record IsUnrefused (o : Office) (c : Command) : Type 0 where
   pub is : workspace o (name_in c) ≡ Some at
   pub free : first_of (refusals_of o at c) ≡ None
 
-pub unrefused : (o : Office) (c : Command)
-    → cond (is_live (name_in c)) (Some LiveIsFixed) (option_map_or (λ w. first_of (refusals_of o w c)) (workspace o (name_in c)) (Some NoWorkspace)) ≡ None
-    → IsUnrefused o c
+pub unrefused : (o : Office) (c : Command) → refusal_on o c ≡ None → IsUnrefused o c
 unrefused o c e = by (is_live (name_in c)) (workspace o (name_in c)) refl e
   where
     by : (b : Bool) (r : Option Workspace) → workspace o (name_in c) ≡ r

@@ -130,6 +130,12 @@ name_in (command.Resolve ws cell keep) = ws
 name_in (command.Hold ws) = ws
 name_in (command.Release ws) = ws
 
+-- why a command that LIVE doesn't take is refused, if it is
+abbrev pub refusal_on : Office → Command → Option Reply
+refusal_on o c =
+    if is_live (name_in c) then Some LiveIsFixed
+    else option_map_or (λ w. first_of (refusals_of o w c)) (workspace o (name_in c)) (Some NoWorkspace)
+
 -- why a command is refused, if it is; LIVE takes only Create and Apply
 unfoldable pub refusal : Office → Command → Option Reply
 refusal o (command.Create name parent) =
@@ -141,4 +147,4 @@ refusal o (command.Create name parent) =
     ∷ []
     )
 refusal o (command.Apply ws edits) = first_of (when (not (stands o ws)) NoWorkspace ∷ edit_refusal o ws edits ∷ breaks o ws (edited_content o ws edits) ∷ [])
-refusal o c = if is_live (name_in c) then Some LiveIsFixed else option_map_or (λ w. first_of (refusals_of o w c)) (workspace o (name_in c)) (Some NoWorkspace)
+refusal o c = refusal_on o c

@@ -125,6 +125,7 @@ impl Tree {
     }
 
     /// Returns how many workspaces there are, with LIVE.
+    #[tactic(auto, using(crate::proofs::ModelLemmas::tree_long))]
     pub fn len(&self) -> usize
         ensures count { result ≡ length self.now.list }
         ensures sound { IsSound self.now.list }

@@ -1,4 +1,4 @@
-use Rattle.std.proofs.Common.{◌≡◌, ap, sym, ◌∙◌}
+use Rattle.std.proofs.Common.{ap, sym, ◌∙◌}
 use Rattle.std.specs.FinMap as finite
 use Rattle.clr_rows.specs.Contents.{no_changes}
 use Rattle.clr_differences.specs.Differences.{Differences}

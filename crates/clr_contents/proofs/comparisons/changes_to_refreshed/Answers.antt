@@ -1,4 +1,4 @@
-use Rattle.std.proofs.Common.{◌≡◌, ap, sym, ◌∙◌, arith}
+use Rattle.std.proofs.Common.{ap, sym, ◌∙◌, arith}
 use Rattle.std.specs.FinMap as finite
 use Rattle.clr_rows.specs.Contents.{Changes, no_changes, row_at, taken_over}
 use Rattle.clr_differences.specs.Differences.{Differences}

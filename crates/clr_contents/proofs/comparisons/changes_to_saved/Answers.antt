@@ -1,12 +1,12 @@
-use Rattle.std.proofs.Common.{◌≡◌, ◌++◌, unwrap_or, ap, sym, ◌∙◌, false, List}
+use Rattle.std.proofs.Common.{◌≡◌, ◌++◌, unwrap_or, ap, sym, ◌∙◌, false}
 use Rattle.std.specs.declared.option.Option.{Option}
 use Rattle.std.specs.FinMap as finite
 use Rattle.clr_rows.specs.declared.cells.CellId.{CellId}
 use Rattle.clr_rows.specs.declared.rows.Row.{Row}
-use Rattle.clr_rows.specs.Contents.{Content, no_changes, row_at}
+use Rattle.clr_rows.specs.Contents.{no_changes, row_at}
 use Rattle.clr_differences.specs.Differences.{is_among}
 use Rattle.clr_deltas.specs.Deltas.{Delta, delta_at, saved_differences, stored_at, wholes}
-use Rattle.clr_workspaces.specs.Marks.{is_saved, mark_at, saved_content}
+use Rattle.clr_workspaces.specs.Marks.{mark_at, saved_content}
 use Rattle.clr_workspaces.specs.Workspaces.{workspace_at}
 use Rattle.clr_contents.specs.Comparing.{set_at}
 use Rattle.clr_contents.proofs.ComparedLemmas.{all_set, among_neither, no_entry}

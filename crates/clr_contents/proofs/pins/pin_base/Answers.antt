@@ -1,10 +1,10 @@
-use Rattle.std.proofs.Common.{ap, sym, subst, ◌∙◌, ◌∷◌, [], List}
+use Rattle.std.proofs.Common.{ap, sym, subst, ◌∙◌, ◌∷◌, []}
 use Rattle.std.specs.FinMap as finite
-use Rattle.clr_differences.specs.Differences.{Differences, HasDifference}
+use Rattle.clr_differences.specs.Differences.{Differences}
 use Rattle.clr_differences.proofs.DifferenceLemmas.{nothing_found}
-use Rattle.clr_deltas.specs.Deltas.{Delta, wholes, delta_at}
-use Rattle.clr_contents.specs.Pinning.{Extends, StayOwnBut}
-use Rattle.clr_contents.proofs.PinLemmas.{base_pinned, extends_base, pinned_base, but_base}
+use Rattle.clr_deltas.specs.Deltas.{wholes}
+use Rattle.clr_contents.specs.Pinning.{StayOwnBut}
+use Rattle.clr_contents.proofs.PinLemmas.{base_pinned, but_base}
 use Rattle.clr_contents.proofs.pins.pin_base.Goals as goal
 
 pub returns-clause-seen : goal.returns-clause-seen
@@ -14,14 +14,6 @@ returns-clause-seen c =
     ap (wholes c.args.live.now) c.in_ok-put_base.ensures.ok
     ∙ base_pinned c.args.live.now c.args.map.now c.args.at c.requires.rooted c.requires.child c.requires.within c.parent_of-above.result c.args.cell
     c.in_ok-row.row c.parent_of-above.ensures.found c.parent_of-above.ensures.earlier none (c.in_ok-row.ensures ∙ c.row_of.ensures)
-
-pub returns-clause-extends : goal.returns-clause-extends
-returns-clause-extends c = subst (Extends c.args.map.now) (sym c.in_ok-put_base.ensures.ok) (extends_base c.args.map.now c.args.at c.args.cell c.in_ok-row.row
-    c.requires.within)
-
-pub returns-clause-pinned : goal.returns-clause-pinned
-returns-clause-pinned c = subst (λ (ls : List Delta). HasDifference (delta_at ls c.args.at).base c.args.cell) (sym c.in_ok-put_base.ensures.ok)
-    (pinned_base c.args.map.now c.args.at c.args.cell c.in_ok-row.row c.requires.within)
 
 pub returns-clause-elsewhere : goal.returns-clause-elsewhere
 returns-clause-elsewhere c = subst (StayOwnBut c.args.at (c.args.cell ∷ []) c.args.map.now) (sym c.in_ok-put_base.ensures.ok)

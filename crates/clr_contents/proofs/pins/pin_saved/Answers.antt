@@ -1,7 +1,7 @@
 use Rattle.std.proofs.Common.{ap, sym, subst, ◌∙◌, ◌∷◌, []}
 use Rattle.clr_deltas.specs.Deltas.{wholes}
-use Rattle.clr_contents.specs.Pinning.{Extends, StayOwnBut}
-use Rattle.clr_contents.proofs.PinLemmas.{saved_pinned, extends_marks, but_marks}
+use Rattle.clr_contents.specs.Pinning.{StayOwnBut}
+use Rattle.clr_contents.proofs.PinLemmas.{saved_pinned, but_marks}
 use Rattle.clr_contents.proofs.pins.pin_saved.Goals as goal
 
 pub returns-clause-seen : goal.returns-clause-seen
@@ -10,9 +10,6 @@ returns-clause-seen c =
     ∙ saved_pinned c.args.live.now c.args.map.now c.args.at c.requires.rooted c.requires.child c.requires.within c.args.cell c.in_ok-row.row _
     (c.in_ok-row.ensures ∙ c.base_row_of.ensures)
     (λ b is. c.pin_saved.ensures.seen b (is ∙ sym c.as_ref.ensures.value))
-
-pub returns-clause-extends : goal.returns-clause-extends
-returns-clause-extends c = subst (Extends c.args.map.now) (sym c.pin_saved.ensures.others) (extends_marks c.args.map.now c.args.at _ c.requires.within)
 
 pub returns-clause-elsewhere : goal.returns-clause-elsewhere
 returns-clause-elsewhere c =

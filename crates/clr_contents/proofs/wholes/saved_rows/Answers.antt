@@ -4,11 +4,8 @@ use Rattle.clr_rows.specs.Contents.{Content, over}
 use Rattle.clr_differences.specs.Differences.{Differences, seen_over}
 use Rattle.clr_deltas.specs.Deltas.{wholes, delta_at, stored_at, saved_differences}
 use Rattle.clr_workspaces.specs.Workspaces.{workspace_at}
-use Rattle.clr_contents.proofs.MarkLemmas.{content-saved, saved_stored}
+use Rattle.clr_contents.proofs.MarkLemmas.{content-saved}
 use Rattle.clr_contents.proofs.wholes.saved_rows.Goals as goal
-
-pub saved_at-requires-clause-marked : goal.saved_at-requires-clause-marked
-saved_at-requires-clause-marked c = saved_stored c.args.live.now c.args.map.now c.args.at c.requires.child c.requires.within c.args.mark c.requires.saved
 
 put_over : (base : Content) (d : Differences) → over base (finite.entries d) ≡ seen_over base d
 unfolding seen_over

@@ -6,17 +6,18 @@ use Rattle.clr_deltas.specs.Deltas.{whole_mark, MarkPins, EachMarkPins, AreOwnOv
 use Rattle.clr_deltas.proofs.MarkLemmas.{own_set}
 use Rattle.clr_deltas.proofs.stored_marks.pin_each.Goals as goal
 
-next : (cell : CellId) (ms : List StoredMark) (i : ℕ) (m : StoredMark) → EachMarkPins (take i ms) cell → MarkPins cell m
-    → EachMarkPins (take (suc i) (slice_set ms i m)) cell
-next cell [] i m pinned one = tt
-next cell (x ∷ ms) zero m pinned one = (one, tt)
-next cell (x ∷ ms) (suc i) m pinned one = (pinned.0, next cell ms i m pinned.1 one)
-
 -- one more mark has an entry
 one_more : (cell : CellId) (ms : List StoredMark) (i : ℕ) (m : StoredMark) → EachMarkPins (take i ms) cell → MarkPins cell m
     → EachMarkPins (take (i + 1) (slice_set ms i m)) cell
-one_more cell ms i m pinned one = let same : suc i ≡ i + 1 = omega arith in subst (λ j. EachMarkPins (take j (slice_set ms i m)) cell) same
-    (next cell ms i m pinned one)
+one_more cell ms i m pinned one = subst (λ j. EachMarkPins (take j (slice_set ms i m)) cell) same (next ms i pinned)
+  where
+    same : suc i ≡ i + 1
+    same = omega arith
+
+    next : (ms : List StoredMark) (i : ℕ) → EachMarkPins (take i ms) cell → EachMarkPins (take (suc i) (slice_set ms i m)) cell
+    next [] i pinned = tt
+    next (x ∷ ms) zero pinned = (one, tt)
+    next (x ∷ ms) (suc i) pinned = (pinned.0, next ms i pinned.1)
 
 pub returns-in_err-pin-clause-seen : goal.returns-in_err-pin-clause-seen
 returns-in_err-pin-clause-seen c = λ base is.

@@ -1,4 +1,4 @@
-use Rattle.std.proofs.Common.{List, sym, subst, ap, ◌∙◌}
+use Rattle.std.proofs.Common.{List, sym, subst, ◌∙◌}
 use Rattle.clr_workspaces.specs.Workspaces.{Workspace}
 use Rattle.clr_kept_finders.specs.Finders.{AreFinders, kept_contents}
 use Rattle.clr_kept_finders.proofs.Served.{after_adding, undone, was_ok}

@@ -1,4 +1,4 @@
-use Rattle.std.proofs.Common.{◌∙◌, ◌≡◌, ◌+◌, ◌==◌, ◌∷◌, [], ℕ, true, false, Contains, arith, List, Global, Vec, ap, map, refl, subst, sym}
+use Rattle.std.proofs.Common.{◌∙◌, ◌≡◌, ◌+◌, ◌==◌, ◌∷◌, [], ℕ, true, false, Contains, arith, List, Global, Vec, ap, map, subst, sym}
 use Rattle.std.specs.Vec.{vec_len}
 use Rattle.std.proofs.lemmas.Bool.{false≢true}
 use Rattle.std.proofs.lemmas.Bool.Decides.{Decides-eqb}

@@ -5,7 +5,7 @@ use Rattle.clr_workspaces.specs.Workspaces.{Workspace, parent_of}
 use Rattle.clr_workspaces.specs.Operations.{after_resolve}
 use Rattle.clr_workspaces.specs.Roots.{IsRooted}
 use Rattle.clr_workspaces.specs.declared.rebases.Keep.TheVariants.{Child}
-use Rattle.clr_contents.proofs.PinLemmas.{extends_both, but_both}
+use Rattle.clr_contents.proofs.PinLemmas.{but_both}
 use Rattle.clr_contents.specs.Pinning.{StayOwnBut}
 use Rattle.clr_operations.proofs.LeanLemmas.{near_at, but_base_taken}
 use Rattle.clr_operations.proofs.OperationLemmas.{base_taken}
@@ -14,49 +14,30 @@ use Rattle.clr_operations.proofs.operations.keep_own.Goals as goal
 pub returns-clause-ok : goal.returns-clause-ok
 returns-clause-ok c =
     let live = c.args.live.now in
-    let ls = c.args.map.now in
     let at = c.args.at in
-    let gs = c.pin_current.new.map in
-    let hs = c.pin_saved.new.map in
-    let e = c.in_ok-pin_current.ensures in
-    let f = c.in_ok-pin_saved.ensures in
-    let seen = f.seen ∙ e.seen in
-    let both = extends_both ls gs hs e.extends f.extends in
-    let rooted = subst IsRooted (sym seen) c.requires.rooted in
-    let parent = subst (λ (vs : List Workspace). parent_of vs at ≡ Some c.args.above) (sym seen) c.requires.parent in
+    let hs = c.pin_row.new.map in
+    let e = c.in_ok-pin_row.ensures in
+    let rooted = subst IsRooted (sym e.seen) c.requires.rooted in
+    let parent = subst (λ (vs : List Workspace). parent_of vs at ≡ Some c.args.above) (sym e.seen) c.requires.parent in
     ap (wholes live) c.take_base.ensures
-    ∙ base_taken live hs at rooted c.requires.child (omega (arith, c.requires.within, both.long)) c.args.above parent c.requires.earlier c.args.cell
-    ((f.extends.each at).current c.args.cell e.pinned) f.pinned
-    ∙ ap (λ (vs : List Workspace). after_resolve vs at c.args.above c.args.cell Child) seen
-
-pub returns-in_err-pin_current-clause-long : goal.returns-in_err-pin_current-clause-long
-returns-in_err-pin_current-clause-long c = c.pin_current.ensures.extends.long
-
-pub returns-in_err-pin_saved-clause-long : goal.returns-in_err-pin_saved-clause-long
-returns-in_err-pin_saved-clause-long c = c.pin_saved.ensures.extends.long ∙ c.in_ok-pin_current.ensures.extends.long
+    ∙ base_taken live hs at rooted c.requires.child (omega (arith, c.requires.within, e.extends.long)) c.args.above parent c.requires.earlier c.args.cell
+    e.current e.saved
+    ∙ ap (λ (vs : List Workspace). after_resolve vs at c.args.above c.args.cell Child) e.seen
 
 pub returns-clause-long : goal.returns-clause-long
-returns-clause-long c =
-    ap (λ (ms : List Delta). length ms) c.take_base.ensures ∙ length-set c.pin_saved.new.map c.args.at _ ∙ c.in_ok-pin_saved.ensures.extends.long
-    ∙ c.in_ok-pin_current.ensures.extends.long
+returns-clause-long c = ap (λ (ms : List Delta). length ms) c.take_base.ensures ∙ length-set c.pin_row.new.map c.args.at _
+    ∙ c.in_ok-pin_row.ensures.extends.long
 
-pub returns-in_err-pin_current-clause-elsewhere : goal.returns-in_err-pin_current-clause-elsewhere
-returns-in_err-pin_current-clause-elsewhere c = near_at c.args.at (c.args.cell ∷ []) c.args.map.now c.pin_current.new.map c.pin_current.ensures.elsewhere
-
-pub returns-in_err-pin_saved-clause-elsewhere : goal.returns-in_err-pin_saved-clause-elsewhere
-returns-in_err-pin_saved-clause-elsewhere c =
-    near_at c.args.at (c.args.cell ∷ []) c.args.map.now c.pin_saved.new.map
-    (but_both c.args.at (c.args.cell ∷ []) c.args.map.now c.pin_current.new.map c.pin_saved.new.map c.in_ok-pin_current.ensures.elsewhere
-    c.pin_saved.ensures.elsewhere)
+pub returns-in_err-pin_row-clause-elsewhere : goal.returns-in_err-pin_row-clause-elsewhere
+returns-in_err-pin_row-clause-elsewhere c = near_at c.args.at (c.args.cell ∷ []) c.args.map.now c.pin_row.new.map c.pin_row.ensures.elsewhere
 
 pub returns-clause-elsewhere : goal.returns-clause-elsewhere
 returns-clause-elsewhere c =
     let at = c.args.at in
     let cells = c.args.cell ∷ [] in
     let ls = c.args.map.now in
-    let gs = c.pin_current.new.map in
-    let hs = c.pin_saved.new.map in
-    let both = extends_both ls gs hs c.in_ok-pin_current.ensures.extends c.in_ok-pin_saved.ensures.extends in
-    let taken = subst (StayOwnBut at cells hs) (sym c.take_base.ensures) (but_base_taken hs at c.args.cell (omega (arith, c.requires.within, both.long))) in
-    near_at at cells ls c.take_base.new.self
-    (but_both at cells ls hs c.take_base.new.self (but_both at cells ls gs hs c.in_ok-pin_current.ensures.elsewhere c.in_ok-pin_saved.ensures.elsewhere) taken)
+    let hs = c.pin_row.new.map in
+    let e = c.in_ok-pin_row.ensures in
+    let taken = subst (StayOwnBut at cells hs) (sym c.take_base.ensures)
+    (but_base_taken hs at c.args.cell (omega (arith, c.requires.within, e.extends.long))) in
+    near_at at cells ls c.take_base.new.self (but_both at cells ls hs c.take_base.new.self e.elsewhere taken)

@@ -43,9 +43,6 @@ returns-clause-ok c =
     (delta_changed hs c.args.at (λ l. record l { base = put_each l.base rs; current = no_differences; marks = filter is_stored_child l.marks }))) c.requires.own
     ∙ merged_is live hs ws c.args.at c.args.above changed rooted c.requires.child (omega (arith, c.requires.within, e.extends.long)) c.requires.earlier put refl
 
-pub returns-in_err-put_rows-clause-long : goal.returns-in_err-put_rows-clause-long
-returns-in_err-put_rows-clause-long c = c.put_rows.ensures.extends.long
-
 pub returns-clause-long : goal.returns-clause-long
 returns-clause-long c = ap (λ (ms : List Delta). length ms) c.take_over.ensures ∙ length-set c.put_rows.new.map c.args.at _
     ∙ c.in_ok-put_rows.ensures.extends.long

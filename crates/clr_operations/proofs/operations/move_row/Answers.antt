@@ -10,80 +10,52 @@ use Rattle.clr_contents.proofs.PinLemmas.{extends_both, children_keep}
 use Rattle.clr_operations.proofs.OperationLemmas.{row_set}
 use Rattle.clr_operations.proofs.operations.move_row.Goals as goal
 
-pub move_row-requires-clause-pinned : goal.move_row-requires-clause-pinned
-move_row-requires-clause-pinned c = (c.in_ok-pin_saved.ensures.extends.each c.args.at).current c.args.cell c.in_ok-pin_current.ensures.pinned
-
 pub returns-clause-ok : goal.returns-clause-ok
 returns-clause-ok c =
     let live = c.args.live.now in
     let ls = c.args.map.now in
     let at = c.args.at in
-    let bs = c.pin_cell.new.map in
-    let gs = c.pin_current.new.map in
-    let hs = c.pin_saved.new.map in
-    let d = c.in_ok-pin_cell.ensures in
-    let e = c.in_ok-pin_current.ensures in
-    let f = c.in_ok-pin_saved.ensures in
-    let seen = f.seen ∙ e.seen ∙ d.seen in
-    let later = extends_both bs gs hs e.extends f.extends in
-    let all = extends_both ls bs hs d.extends later in
+    let gs = c.pin_cell.new.map in
+    let hs = c.pin_row.new.map in
+    let e = c.in_ok-pin_cell.ensures in
+    let f = c.in_ok-pin_row.ensures in
+    let seen = f.seen ∙ e.seen in
+    let both = extends_both ls gs hs e.extends f.extends in
     let rooted = subst IsRooted (sym seen) c.requires.rooted in
     let parent = subst (λ (vs : List Workspace). parent_of vs at ≡ Some c.args.above) (sym seen) c.requires.parent in
-    let children = subst (λ n. ChildrenPin hs n (c.args.cell ∷ [])) (sym (all.each at).name)
-    (children_keep bs hs (delta_at ls at).name (c.args.cell ∷ []) later d.children) in
+    let children = subst (λ n. ChildrenPin hs n (c.args.cell ∷ [])) (sym (both.each at).name)
+    (children_keep gs hs (delta_at ls at).name (c.args.cell ∷ []) f.extends e.children) in
     ap (wholes live) c.move_row.ensures
-    ∙ row_set live hs at rooted c.requires.child (omega (arith, c.requires.within, all.long)) c.args.above parent c.requires.earlier c.args.cell c.args.row
-    children ((f.extends.each at).current c.args.cell e.pinned) f.pinned
+    ∙ row_set live hs at rooted c.requires.child (omega (arith, c.requires.within, both.long)) c.args.above parent c.requires.earlier c.args.cell c.args.row
+    children f.current f.saved
     ∙ ap (λ (vs : List Workspace). row_moved vs at c.args.above c.args.cell c.args.row) seen
-
-pub returns-in_err-pin_cell-clause-long : goal.returns-in_err-pin_cell-clause-long
-returns-in_err-pin_cell-clause-long c = c.pin_cell.ensures.extends.long
-
-pub returns-in_err-pin_current-clause-long : goal.returns-in_err-pin_current-clause-long
-returns-in_err-pin_current-clause-long c = c.pin_current.ensures.extends.long ∙ c.in_ok-pin_cell.ensures.extends.long
-
-pub returns-in_err-pin_saved-clause-long : goal.returns-in_err-pin_saved-clause-long
-returns-in_err-pin_saved-clause-long c = c.pin_saved.ensures.extends.long ∙ c.in_ok-pin_current.ensures.extends.long ∙ c.in_ok-pin_cell.ensures.extends.long
 
 pub returns-clause-long : goal.returns-clause-long
 returns-clause-long c =
-    ap (λ (ms : List Delta). length ms) c.move_row.ensures ∙ length-set c.pin_saved.new.map c.args.at _
-    ∙ c.in_ok-pin_saved.ensures.extends.long ∙ c.in_ok-pin_current.ensures.extends.long ∙ c.in_ok-pin_cell.ensures.extends.long
+    ap (λ (ms : List Delta). length ms) c.move_row.ensures ∙ length-set c.pin_row.new.map c.args.at _
+    ∙ c.in_ok-pin_row.ensures.extends.long ∙ c.in_ok-pin_cell.ensures.extends.long
 
 pub returns-in_err-pin_cell-clause-elsewhere : goal.returns-in_err-pin_cell-clause-elsewhere
 returns-in_err-pin_cell-clause-elsewhere c = near_children c.args.at (c.args.cell ∷ []) (c.args.cell ∷ []) c.args.map.now c.pin_cell.new.map refl
     c.pin_cell.ensures.elsewhere
 
-pub returns-in_err-pin_current-clause-elsewhere : goal.returns-in_err-pin_current-clause-elsewhere
-returns-in_err-pin_current-clause-elsewhere c =
+pub returns-in_err-pin_row-clause-elsewhere : goal.returns-in_err-pin_row-clause-elsewhere
+returns-in_err-pin_row-clause-elsewhere c =
     let at = c.args.at in
     let cells = c.args.cell ∷ [] in
     let ls = c.args.map.now in
-    let bs = c.pin_cell.new.map in
-    near_own at cells cells ls bs c.pin_current.new.map refl (near_children at cells cells ls bs refl c.in_ok-pin_cell.ensures.elsewhere)
-    c.pin_current.ensures.elsewhere
-
-pub returns-in_err-pin_saved-clause-elsewhere : goal.returns-in_err-pin_saved-clause-elsewhere
-returns-in_err-pin_saved-clause-elsewhere c =
-    let at = c.args.at in
-    let cells = c.args.cell ∷ [] in
-    let ls = c.args.map.now in
-    let bs = c.pin_cell.new.map in
-    let gs = c.pin_current.new.map in
-    near_own at cells cells ls gs c.pin_saved.new.map refl
-    (near_own at cells cells ls bs gs refl (near_children at cells cells ls bs refl c.in_ok-pin_cell.ensures.elsewhere) c.in_ok-pin_current.ensures.elsewhere)
-    c.pin_saved.ensures.elsewhere
+    let gs = c.pin_cell.new.map in
+    near_own at cells cells ls gs c.pin_row.new.map refl (near_children at cells cells ls gs refl c.in_ok-pin_cell.ensures.elsewhere)
+    c.pin_row.ensures.elsewhere
 
 pub returns-clause-elsewhere : goal.returns-clause-elsewhere
 returns-clause-elsewhere c =
     let at = c.args.at in
     let cells = c.args.cell ∷ [] in
     let ls = c.args.map.now in
-    let bs = c.pin_cell.new.map in
-    let gs = c.pin_current.new.map in
-    let hs = c.pin_saved.new.map in
-    let long = c.in_ok-pin_saved.ensures.extends.long ∙ c.in_ok-pin_current.ensures.extends.long ∙ c.in_ok-pin_cell.ensures.extends.long in
+    let gs = c.pin_cell.new.map in
+    let hs = c.pin_row.new.map in
+    let long = c.in_ok-pin_row.ensures.extends.long ∙ c.in_ok-pin_cell.ensures.extends.long in
     let moved = subst (StayOwnBut at cells hs) (sym c.move_row.ensures) (but_row_moved hs at c.args.cell c.args.row (omega (arith, c.requires.within, long))) in
     near_own at cells cells ls hs c.move_row.new.self refl
-    (near_own at cells cells ls gs hs refl (near_own at cells cells ls bs gs refl (near_children at cells cells ls bs refl c.in_ok-pin_cell.ensures.elsewhere)
-    c.in_ok-pin_current.ensures.elsewhere) c.in_ok-pin_saved.ensures.elsewhere) moved
+    (near_own at cells cells ls gs hs refl (near_children at cells cells ls gs refl c.in_ok-pin_cell.ensures.elsewhere) c.in_ok-pin_row.ensures.elsewhere) moved

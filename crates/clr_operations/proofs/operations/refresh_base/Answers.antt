@@ -62,12 +62,6 @@ returns-clause-ok c =
     ∙ refreshed_is live ls gs at p rows changed c.requires.rooted c.requires.child lt lt_new c.requires.parent c.requires.earlier end held_rows pinned_base
     held_old c.requires.rows refl
 
-pub returns-in_err-pin_children-clause-long : goal.returns-in_err-pin_children-clause-long
-returns-in_err-pin_children-clause-long c = c.pin_children.ensures.extends.long
-
-pub returns-in_err-differences-clause-long : goal.returns-in_err-differences-clause-long
-returns-in_err-differences-clause-long c = c.pin_children.ensures.extends.long
-
 pub returns-in_err-move_mark-clause-long : goal.returns-in_err-move_mark-clause-long
 returns-in_err-move_mark-clause-long c = ap (λ (ms : List Delta). length ms) c.in_err-move_mark.ensures.err ∙ c.pin_children.ensures.extends.long
 
@@ -84,8 +78,7 @@ returns-in_err-pin_children-clause-elsewhere c =
     let all = c.args.cells.now in
     let ls = c.args.map.now in
     let hs = c.pin_children.new.map in
-    let held = near_children at all all ls hs refl c.pin_children.ensures.elsewhere in
-    held
+    near_children at all all ls hs refl c.pin_children.ensures.elsewhere
 
 pub returns-in_err-differences-clause-elsewhere : goal.returns-in_err-differences-clause-elsewhere
 returns-in_err-differences-clause-elsewhere c =
@@ -93,8 +86,7 @@ returns-in_err-differences-clause-elsewhere c =
     let all = c.args.cells.now in
     let ls = c.args.map.now in
     let hs = c.pin_children.new.map in
-    let held = near_children at all all ls hs refl c.pin_children.ensures.elsewhere in
-    held
+    near_children at all all ls hs refl c.pin_children.ensures.elsewhere
 
 pub returns-in_err-move_mark-clause-elsewhere : goal.returns-in_err-move_mark-clause-elsewhere
 returns-in_err-move_mark-clause-elsewhere c =

@@ -55,9 +55,6 @@ returns-clause-ok c =
     ∙ ap (λ (vs : List Workspace). change_at vs at (λ w. record w { current = seen_over w.base d; marks = take (suc i) w.marks })) e.seen
     ∙ rolled_is ws at i (delta_at ls at).marks marks c.requires.saved c.requires.free
 
-pub returns-in_err-pin_children-clause-long : goal.returns-in_err-pin_children-clause-long
-returns-in_err-pin_children-clause-long c = c.pin_children.ensures.extends.long
-
 pub returns-clause-long : goal.returns-clause-long
 returns-clause-long c = ap (λ (ms : List Delta). length ms) c.roll_to.ensures ∙ length-set c.pin_children.new.map c.args.at _
     ∙ c.pin_children.ensures.extends.long

@@ -1,4 +1,4 @@
-use Rattle.std.proofs.Common.{◌≡◌, ◌<◌, ◌∙◌, ◌++◌, ap, sym, subst, refl, arith, false, None, List}
+use Rattle.std.proofs.Common.{◌≡◌, ◌∙◌, ◌++◌, ap, sym, subst, refl, arith, false, None, List}
 use Rattle.std.specs.FinMap as finite
 use Rattle.clr_rows.specs.declared.cells.CellId.{CellId}
 use Rattle.clr_differences.specs.Differences.{Differences, is_among}
@@ -6,7 +6,6 @@ use Rattle.clr_deltas.specs.Deltas.{delta_at, saved_differences, stored_at, whol
 use Rattle.clr_workspaces.specs.Workspaces.{workspace_at}
 use Rattle.clr_deltas.proofs.Answered.{on_ok, on_err}
 use Rattle.clr_workspaces.specs.Roots.{IsRooted}
-use Rattle.clr_contents.proofs.MarkLemmas.{length-marks, saved_within}
 use Rattle.clr_contents.specs.Lean.{IsLeanBut, StayOwnButNear}
 use Rattle.clr_workspaces.specs.Operations.{roll_to}
 use Rattle.clr_contents.proofs.ComparedLemmas.{among_neither, no_entry}
@@ -14,11 +13,6 @@ use Rattle.clr_operations.proofs.LeanLemmas.{lean_rolled, lean_still}
 use Rattle.clr_deltas.proofs.Answered.{either}
 use Rattle.clr_workspaces.proofs.RootLemmas.{rooted_set}
 use Rattle.clr_operations.proofs.operations.roll_to.Goals as goal
-
-pub saved_at-requires-clause-marked : goal.saved_at-requires-clause-marked
-saved_at-requires-clause-marked c =
-    subst (λ n. c.args.mark < n) (length-marks c.args.live.now c.args.map.now c.args.at c.requires.child c.requires.within)
-    (saved_within (workspace_at (wholes c.args.live.now c.args.map.now) c.args.at).marks c.args.mark c.requires.saved)
 
 pub roll_back-done-requires-clause-cells : goal.roll_back-done-requires-clause-cells
 roll_back-done-requires-clause-cells c =

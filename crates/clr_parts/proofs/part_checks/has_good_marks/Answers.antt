@@ -13,48 +13,47 @@ use Rattle.std.proofs.Math.Bool.{and-false}
 use Rattle.clr_parts.proofs.PartLemmas.{all_map, good_alike}
 use Rattle.clr_parts.proofs.part_checks.has_good_marks.Goals as goal
 
--- the marks of a workspace are good where its bare marks are
-bare : (live : Content) (ls : List Delta) (at : ℕ) → 0 < at → at < length ls
+-- the marks of a workspace are good where the bare marks of its delta are
+bare : (live : Content) (ls : List Delta) (at : ℕ) (name : Name) (ms : List StoredMark) → name ≡ (delta_at ls at).name → ms ≡ (delta_at ls at).marks
+    → 0 < at → at < length ls
     → (let ws = wholes live ls in
-    let w = workspace_at ws at in
-    let ms = (delta_at ls at).marks in
-    has_good_marks ws w ≡ (are_good_savepoints (saved_names (bare_marks ms)) && has_child_marks ws (delta_at ls at).name (bare_marks ms)))
-bare live ls at some lt =
+    has_good_marks ws (workspace_at ws at) ≡ (are_good_savepoints (saved_names (bare_marks ms))
+    && (list_all (λ m. is_childs ws name (bare_mark m)) ms && list_all (is_marked_once name (bare_marks ms)) ws)))
+bare live ls at name ms named are some lt =
     let ws = wholes live ls in
     let w = workspace_at ws at in
+    let same : w.name ≡ name = name-wholes live ls at ∙ sym named in
     ap (λ (ns : List Mark). are_good_savepoints (saved_names ns) && has_child_marks ws w.name ns) (marks-wholes live ls at some lt)
     ∙ good_alike ws w.name w.base no_rows (delta_at ls at).marks
-    ∙ ap (λ (n : Name). are_good_savepoints (saved_names (bare_marks (delta_at ls at).marks)) && has_child_marks ws n (bare_marks (delta_at ls at).marks))
-    (name-wholes live ls at)
+    ∙ (λ i. are_good_savepoints (saved_names (bare_marks (sym are i))) && has_child_marks ws (same i) (bare_marks (sym are i)))
+    ∙ ap (λ b. are_good_savepoints (saved_names (bare_marks ms)) && (b && list_all (is_marked_once name (bare_marks ms)) ws))
+    (all_map bare_mark (is_childs ws name) ms)
 
 pub returns-then-not-has_good_savepoints : goal.returns-then-not-has_good_savepoints
 returns-then-not-has_good_savepoints c =
     let ws = wholes c.args.live.now c.args.map.now in
-    let l = delta_at c.args.map.now c.args.at in
-    let saved = ap (λ (ms : List StoredMark). are_good_savepoints (saved_names (bare_marks ms))) (sym c.marks-marks.ensures) ∙ sym c.has_good_savepoints.ensures
-    ∙ c.if-not-has_good_savepoints.true in
-    sym (bare c.args.live.now c.args.map.now c.args.at c.requires.child c.requires.within ∙ ap (λ b. b && has_child_marks ws l.name (bare_marks l.marks)) saved)
+    let name = c.name_at-name.result.now in
+    let ms = c.marks-marks.result.now in
+    sym (bare c.args.live.now c.args.map.now c.args.at name ms c.name_at-name.ensures c.marks-marks.ensures c.requires.child c.requires.within
+    ∙ ap (λ b. b && (list_all (λ m. is_childs ws name (bare_mark m)) ms && list_all (is_marked_once name (bare_marks ms)) ws))
+    (sym c.has_good_savepoints.ensures ∙ c.if-not-has_good_savepoints.true))
 
 pub returns-then-not-are_childrens : goal.returns-then-not-are_childrens
 returns-then-not-are_childrens c =
     let ws = wholes c.args.live.now c.args.map.now in
-    let l = delta_at c.args.map.now c.args.at in
-    let childs = all_map bare_mark (is_childs ws l.name) l.marks
-    ∙ sym (λ i. list_all (λ m. is_childs ws (c.name_at-name.ensures i) (bare_mark m)) (c.marks-marks.ensures i)) ∙ sym c.are_childrens.ensures
-    ∙ c.if-not-are_childrens.true in
-    sym (bare c.args.live.now c.args.map.now c.args.at c.requires.child c.requires.within
-    ∙ ap (λ b. are_good_savepoints (saved_names (bare_marks l.marks)) && (b && list_all (is_marked_once l.name (bare_marks l.marks)) ws)) childs
-    ∙ and-false (are_good_savepoints (saved_names (bare_marks l.marks))))
+    let name = c.name_at-name.result.now in
+    let ms = c.marks-marks.result.now in
+    sym (bare c.args.live.now c.args.map.now c.args.at name ms c.name_at-name.ensures c.marks-marks.ensures c.requires.child c.requires.within
+    ∙ ap (λ b. are_good_savepoints (saved_names (bare_marks ms)) && (b && list_all (is_marked_once name (bare_marks ms)) ws))
+    (sym c.are_childrens.ensures ∙ c.if-not-are_childrens.true)
+    ∙ and-false (are_good_savepoints (saved_names (bare_marks ms))))
 
 pub returns : goal.returns
 returns c =
     let ws = wholes c.args.live.now c.args.map.now in
-    let l = delta_at c.args.map.now c.args.at in
-    let saved = ap (λ (ms : List StoredMark). are_good_savepoints (saved_names (bare_marks ms))) (sym c.marks-marks.ensures) ∙ sym c.has_good_savepoints.ensures
-    ∙ c.if-not-has_good_savepoints.false in
-    let childs = all_map bare_mark (is_childs ws l.name) l.marks
-    ∙ sym (λ i. list_all (λ m. is_childs ws (c.name_at-name.ensures i) (bare_mark m)) (c.marks-marks.ensures i)) ∙ sym c.are_childrens.ensures
-    ∙ c.if-not-are_childrens.false in
-    c.are_marked_once.ensures ∙ (λ i. list_all (is_marked_once (c.name_at-name.ensures i) (bare_marks (c.marks-marks.ensures i))) ws)
-    ∙ sym (bare c.args.live.now c.args.map.now c.args.at c.requires.child c.requires.within
-    ∙ (λ i. saved i && (childs i && list_all (is_marked_once l.name (bare_marks l.marks)) ws)))
+    let name = c.name_at-name.result.now in
+    let ms = c.marks-marks.result.now in
+    let saved = sym c.has_good_savepoints.ensures ∙ c.if-not-has_good_savepoints.false in
+    let childs = sym c.are_childrens.ensures ∙ c.if-not-are_childrens.false in
+    c.are_marked_once.ensures ∙ sym (bare c.args.live.now c.args.map.now c.args.at name ms c.name_at-name.ensures c.marks-marks.ensures c.requires.child
+    c.requires.within ∙ (λ i. saved i && (childs i && list_all (is_marked_once name (bare_marks ms)) ws)))

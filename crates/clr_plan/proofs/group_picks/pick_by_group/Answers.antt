@@ -1,4 +1,4 @@
-use Rattle.std.proofs.Common.{◌≡◌, ◌∙◌, ◌<◌, ℕ, Global, List, Vec, Some, None, ap, arith, get_or, length, map, subst, sym}
+use Rattle.std.proofs.Common.{◌∙◌, ◌<◌, ℕ, Global, List, Vec, Some, None, ap, arith, get_or, map, subst, sym}
 use Rattle.std.proofs.lemmas.List.{length-map}
 use Rattle.std.proofs.Math.ListN.{get_or-map}
 use Rattle.clr_needs.specs.Picks.{Picks}

@@ -1,12 +1,8 @@
 use Rattle.std.proofs.Common.{◌<◌, ◌≤◌, length, Some, None, ap, sym, subst, ◌∙◌}
 use Rattle.clr_workspaces.specs.Workspaces.{workspace_at}
 use Rattle.clr_steps.specs.Refusals.{broken_where}
-use Rattle.clr_kept_finders.proofs.Fits.{fit_current}
 use Rattle.clr_engine.proofs.Unheld.{need_is, none_past, unheld_here}
 use Rattle.clr_engine.proofs.judges.Judge.first_unheld.Goals as goal
-
-pub first_broken_if_kept-requires-clause-fit : goal.first_broken_if_kept-requires-clause-fit
-first_broken_if_kept-requires-clause-fit c = fit_current c.args.self.now c.args.tree.now.list c.requires.fit c.loop-at.at
 
 pub returns-in-Some-clause-first : goal.returns-in-Some-clause-first
 returns-in-Some-clause-first c =

@@ -1,6 +1,5 @@
-use Rattle.std.proofs.Common.{◌∙◌, sym, subst}
+use Rattle.std.proofs.Common.{sym, subst}
 use Rattle.clr_rules.specs.Books.{FitsContent}
-use Rattle.clr_workspaces.specs.Workspaces.{workspace_at}
 use Rattle.clr_kept_finders.specs.Finders.{IsFinderOf}
 use Rattle.clr_kept_finders.proofs.Fits.{fit_current}
 use Rattle.clr_kept_finders.proofs.Prepared.{within}

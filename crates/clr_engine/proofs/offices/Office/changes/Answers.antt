@@ -1,4 +1,4 @@
-use Rattle.std.proofs.Common.{◌≡◌, ℕ, zero, suc, ◌<◌, refl, sym, ap, ◌∙◌, Some, arith}
+use Rattle.std.proofs.Common.{sym, ap, ◌∙◌, Some}
 use Rattle.clr_steps.specs.Readings.{changes_in}
 use Rattle.clr_engine.proofs.Readings.{changes_is, live_is, no_changes_is, seen_in, shown, some_below, unknown}
 use Rattle.clr_engine.proofs.offices.Office.changes.Goals as goal

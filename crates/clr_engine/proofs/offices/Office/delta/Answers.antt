@@ -1,4 +1,4 @@
-use Rattle.std.proofs.Common.{◌<◌, length, sym, subst, ap, ◌∙◌, Some}
+use Rattle.std.proofs.Common.{◌<◌, sym, subst, ap, ◌∙◌, Some}
 use Rattle.std.specs.Option.{option_map}
 use Rattle.clr_engine.specs.Drafts.{delta_in}
 use Rattle.clr_engine.proofs.Readings.{delta_is, part_is, some_below}

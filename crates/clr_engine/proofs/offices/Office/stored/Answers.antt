@@ -1,8 +1,8 @@
-use Rattle.std.proofs.Common.{◌≡◌, ℕ, zero, suc, ◌<◌, refl, sym, ap, ◌∙◌, Some, arith}
+use Rattle.std.proofs.Common.{sym, ap, ◌∙◌, Some}
 use Rattle.clr_workspaces.specs.Workspaces.{workspace_at}
 use Rattle.clr_steps.proofs.SeenLemmas.{within}
 use Rattle.clr_steps.specs.Readings.{stored_in}
-use Rattle.clr_engine.proofs.Readings.{live_is, no_stored_is, none_is, seen_in, shown, some_below, stored_is, unknown}
+use Rattle.clr_engine.proofs.Readings.{live_is, no_stored_is, seen_in, shown, some_below, stored_is, unknown}
 use Rattle.clr_engine.proofs.offices.Office.stored.Goals as goal
 
 pub returns-in-Some-eq0 : goal.returns-in-Some-eq0

@@ -2,11 +2,8 @@ use Rattle.std.proofs.Common.{List, map, ap, sym, subst, ◌∙◌}
 use Rattle.std.proofs.lemmas.Result.{err_from_is_err_and}
 use Rattle.clr_parts.specs.Parts.{workspace_of, first_fault, IsFirstPartFault}
 use Rattle.clr_parts.specs.declared.parts.Part.{Part}
-use Rattle.clr_parts.proofs.BuildLemmas.{some_deltas, sound_deltas, none_wrong, marks_wrong}
+use Rattle.clr_parts.proofs.BuildLemmas.{sound_deltas, none_wrong, marks_wrong}
 use Rattle.clr_tree.proofs.tree.Tree.build.Goals as goal
-
-pub judge_marks-requires : goal.judge_marks-requires
-judge_marks-requires c = some_deltas c.args.live c.in_ok-map.map (map workspace_of c.as_slice.result.now) c.in_ok-map.ensures.made
 
 pub of_map-requires : goal.of_map-requires
 of_map-requires c = sound_deltas c.args.live c.in_ok-map.map (map workspace_of c.as_slice.result.now) c.in_ok-map.ensures.made c.in_ok-map.ensures.passed

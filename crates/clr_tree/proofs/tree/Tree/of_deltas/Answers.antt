@@ -1,10 +1,7 @@
 use Rattle.std.proofs.lemmas.Result.{err_from_is_err_and}
 use Rattle.clr_parts.specs.Parts.{spaces_of}
-use Rattle.clr_parts.proofs.BuildLemmas.{some_deltas, sound_deltas, none_wrong, marks_wrong}
+use Rattle.clr_parts.proofs.BuildLemmas.{sound_deltas, none_wrong, marks_wrong}
 use Rattle.clr_tree.proofs.tree.Tree.of_deltas.Goals as goal
-
-pub judge_marks-requires : goal.judge_marks-requires
-judge_marks-requires c = some_deltas c.args.live c.in_ok-map.map (spaces_of c.args.live c.args.parts.items) c.in_ok-map.ensures.made
 
 pub of_map-requires : goal.of_map-requires
 of_map-requires c = sound_deltas c.args.live c.in_ok-map.map (spaces_of c.args.live c.args.parts.items) c.in_ok-map.ensures.made c.in_ok-map.ensures.passed
