@@ -1,5 +1,6 @@
 -- Rows that stand in one need share a spot, kind of rule by kind.
-use Rattle.std.proofs.Common.{◌≡◌, inl, inr, Bool, true, false, ◌||◌, ◌==◌, ℕ, zero, suc, ℤ, pos, List, [], ◌∷◌, map, slice_get, Option, Some, None, length, refl}
+use Rattle.std.proofs.Common.{◌≡◌, inl, inr, Bool, true, false, ◌||◌, ◌==◌, ℕ, zero, suc, ℤ, pos, List, [], ◌∷◌, map, slice_get, Option, Some, None, length}
+use Rattle.std.proofs.Common.{refl}
 use Rattle.std.proofs.Common.{sym, ap, subst, arith}
 use Rattle.std.specs.Prelude.{int_le, ⊤}
 use Rattle.std.specs.List.{list_all, zip, filter_map, cons_option}
