@@ -14,6 +14,7 @@ pub mod borrowed;
 mod faults;
 pub mod fields;
 pub mod json_values;
+pub mod lists;
 pub mod named_rules;
 pub mod named_sides;
 mod numbers;
