@@ -1,10 +1,9 @@
--- What calls at values read.
+-- What calls at elements read.
 use Rattle.std.specs.Prelude.{Result}
-use Rattle.serde_json.specs.Data.{Data}
 use Rattle.clr_readings.specs.Readings.{Gives}
 use Rattle.clr_rule_text.specs.declared.faults.TextFault.{TextFault}
 use Rattle.clr_rule_text.specs.Fields.{text_lacks_memory}
 
--- what a call at a value answers is read of the data that the value stands for
-abbrev pub Reads : {J A : Type 0} → (J → Data) → (J → Result A TextFault → Type 0) → (Data → Result A TextFault) → Type 0
-Reads stands_for answers f = (v : _) (r : _) → answers v r → Gives text_lacks_memory (λ x. x) r (f (stands_for v))
+-- what a call at an element answers is what f reads there
+abbrev pub Reads : {X A : Type 0} → (X → Result A TextFault → Type 0) → (X → Result A TextFault) → Type 0
+Reads answers f = (x : _) (r : _) → answers x r → Gives text_lacks_memory (λ y. y) r (f x)

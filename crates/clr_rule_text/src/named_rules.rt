@@ -9,7 +9,7 @@ ghost use Rattle.clr_rule_text.specs.Rules.{rule_of_kind as meant_by, tip_of, un
 use crate::faults::TextFault;
 use crate::fields::{number_in, optional_list, text_in};
 use crate::json_values::JsonValue;
-use crate::lists::read_each;
+use crate::lists::read_items;
 use crate::named_sides::{ColumnNames, NamedSide, names_in, side_in};
 use clr_rules::Tip;
 use std::alloc::Global;
@@ -142,7 +142,7 @@ pub fn named_rule<J: JsonValue>(alloc: Global, json: &J) -> Result<NamedRule, Te
 pub fn named_rules<J: JsonValue>(alloc: Global, json: &J) -> Result<Vec<NamedRule>, TextFault>
     ensures { Gives text_lacks_memory (λ v. v.items) result (named_rules_of (J.stands_for json.now)) }
 {
-    read_each(alloc, optional_list(json, "rules")?, |item| {
+    read_items(alloc, optional_list(json, "rules")?, |item| {
         named_rule(alloc, item)
     })
 }

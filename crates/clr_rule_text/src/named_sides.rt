@@ -9,7 +9,7 @@ ghost use Rattle.clr_rule_text.specs.Rules.{filter_of, literal_of, literal_pair,
 use crate::faults::TextFault;
 use crate::fields::{field, list, list_in, optional_list, words, words_from, words_in};
 use crate::json_values::JsonValue;
-use crate::lists::read_each;
+use crate::lists::read_items;
 use crate::values::value;
 use clr_rows::{List, Value, Words};
 use std::alloc::Global;
@@ -51,7 +51,7 @@ fn literal<J: JsonValue>(alloc: Global, json: &J) -> Result<(Words, Value), Text
 fn filter<J: JsonValue>(alloc: Global, json: &J) -> Result<NamedFilter, TextFault>
     ensures { Gives text_lacks_memory (λ f. f) result (filter_of (J.stands_for json.now)) }
 {
-    let list = read_each(alloc, optional_list(json, "where")?, |item| {
+    let list = read_items(alloc, optional_list(json, "where")?, |item| {
         literal(alloc, item)
     })?;
     Ok(NamedFilter::new(list))
@@ -85,6 +85,6 @@ fn name<J: JsonValue>(alloc: Global, json: &J) -> Result<Words, TextFault>
 pub fn names_in<J: JsonValue>(alloc: Global, json: &J, key: &str) -> Result<ColumnNames, TextFault>
     ensures { Gives text_lacks_memory (λ v. v) result (list_of_words_at key.now (J.stands_for json.now)) }
 {
-    let list = read_each(alloc, list_in(json, key)?, |item| name(alloc, item))?;
+    let list = read_items(alloc, list_in(json, key)?, |item| name(alloc, item))?;
     Ok(ColumnNames::new(list))
 }
