@@ -10,6 +10,10 @@ use crate::faults::TextFault;
 use crate::json_values::JsonValue;
 use std::alloc::Global;
 
+/// The greatest number of places that are reserved for a list before it is read. Longer lists grow, so that one with a fault
+/// at its beginning takes little memory.
+const MOST_RESERVED: usize = 64;
+
 /// Returns what `read` gives of each element in turn. Fails as `read` does at the first that fails.
 pub fn read_each<X, T: Drop, F: Fn(&X) -> Result<T, TextFault>>(
     alloc: Global,
@@ -19,7 +23,7 @@ pub fn read_each<X, T: Drop, F: Fn(&X) -> Result<T, TextFault>>(
     requires { F.IsAlwaysCallable read }
     ensures { (f : _) → Reads (FnReturnsAt F.Fn read) f → Gives text_lacks_memory (λ v. v.items) result (each_in f elements.now) }
 {
-    let mut list = Vec::with_capacity(alloc, elements.len())?;
+    let mut list = Vec::with_capacity(alloc, elements.len().min(MOST_RESERVED))?;
     for element in elements {
         let one = read(element)?;
         list.push(one)?;
@@ -40,7 +44,7 @@ pub fn read_items<J: JsonValue, T: Drop, F: Fn(&J) -> Result<T, TextFault>>(
     read_each(alloc, items, read)
 }
 
-/// Returns what `read` makes of each element in turn. Fails as `read` does at the first that fails.
+/// Returns what `make` makes of each element in turn. Fails as `make` does at the first that fails.
 pub fn make_each<X: Drop, T: Drop, F: Fn(X) -> Result<T, TextFault>>(
     alloc: Global,
     elements: Vec<X>,

@@ -1,22 +1,25 @@
 use Rattle.std.proofs.Common.{refl}
 use Rattle.std.proofs.lemmas.Fn.{says_at}
+use Rattle.std.proofs.lemmas.List.{drop_all}
 use Rattle.std.proofs.lemmas.Result.{err_from_is_err_and}
 use Rattle.clr_rule_text.specs.Fields.{each_in}
-use Rattle.clr_rule_text.proofs.EachIn.{goes_on_at, ends_at, is_done_at}
+use Rattle.clr_rule_text.proofs.EachIn.{goes_on, ends, is_done, from_position}
 use Rattle.clr_rule_text.proofs.lists.read_each.Goals as goal
 
 pub returns-in_err-one : goal.returns-in_err-one
 returns-in_err-one g c =
     let p = err_from_is_err_and c.from_residual-in_err-one.result c.from_residual-in_err-one.ensures.1 in
-    rw (p.1, p.2) (λ f reads. ends_at f c.in_err-one.field-0.0 c.loop-element.list.items c.args.elements.now c.loop-element.element-index _
-    (each_in f c.args.elements.now) c.loop-element-test.true c.element-item.is (reads _ _ (says_at g.F.Fn c.in_err-one.ensures refl))
-    (c.loop-element.invariant f reads))
+    let here = from_position c.args.elements.now c.loop-element.element-index _ c.loop-element-test.true c.element-item.is in
+    rw (p.1, p.2) (λ f reads. ends f _ c.loop-element.list.items _ _ (each_in f c.args.elements.now) (reads _ _ (says_at g.F.Fn c.in_err-one.ensures refl))
+    (rw here at c.loop-element.invariant f reads))
 
 pub loop-element-preserved : goal.loop-element-preserved
-loop-element-preserved g c = rw c.in_ok-push.ensures.items (λ f reads. goes_on_at f c.loop-element.list.items c.args.elements.now
-    c.loop-element.element-index _ c.in_ok-one.one (each_in f c.args.elements.now) c.loop-element-test.true c.element-item.is
-    (reads _ _ (says_at g.F.Fn c.in_ok-one.ensures refl)) (c.loop-element.invariant f reads))
+loop-element-preserved g c =
+    let here = from_position c.args.elements.now c.loop-element.element-index _ c.loop-element-test.true c.element-item.is in
+    rw c.in_ok-push.ensures.items (λ f reads. goes_on f c.loop-element.list.items _ _ _ (each_in f c.args.elements.now)
+    (reads _ _ (says_at g.F.Fn c.in_ok-one.ensures refl)) (rw here at c.loop-element.invariant f reads))
 
 pub returns : goal.returns
-returns g c = λ f reads. is_done_at f c.loop-element.list.items c.args.elements.now c.loop-element.element-index (each_in f c.args.elements.now)
-    c.loop-element-test.false (c.loop-element.invariant f reads)
+returns g c =
+    let none = drop_all c.loop-element.element-index c.args.elements.now c.loop-element-test.false in
+    λ f reads. is_done f c.loop-element.list.items (each_in f c.args.elements.now) (rw none at c.loop-element.invariant f reads)

@@ -1,4 +1,4 @@
-use Rattle.clr_rule_text.proofs.EachItem.{each_seen}
+use Rattle.clr_rule_text.proofs.EachIn.{each_seen}
 use Rattle.clr_rule_text.proofs.lists.read_items.Goals as goal
 
 pub returns : goal.returns
