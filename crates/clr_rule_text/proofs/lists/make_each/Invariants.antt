@@ -8,4 +8,5 @@ use Rattle.clr_rule_text.proofs.lists.make_each.Given as goal
 -- those made so far, and then the others, are what is meant
 abbrev pub invariant-loop-element : goal.invariant-loop-element
 invariant-loop-element g l =
-    (f : _) → Reads (λ x r. goal.F-post g l.make x r) f → with_front l.list.items (each_in f (into_iter_items l.element-iterator)) ≡ each_in f l.fn.elements.items
+    (f : _) → Reads (λ x r. goal.F-post g l.make x r) f
+    → with_front l.list.items (each_in f (into_iter_items l.element-iterator)) ≡ each_in f l.fn.elements.items
