@@ -74,17 +74,13 @@ pub fn side_in<J: JsonValue>(alloc: Global, json: &J, key: &str) -> Result<Named
     side(alloc, field(json, key)?)
 }
 
-fn name<J: JsonValue>(alloc: Global, json: &J) -> Result<Words, TextFault>
-    ensures { Gives text_lacks_memory (λ w. w) result (words_of (J.stands_for json.now)) }
-{
-    words_from(alloc, words(json)?)
-}
-
 /// Returns the list of names at a key. Fails with `BadField` where there is none.
 #[tactic(auto, unfolding(crate::specs::Rules::list_of_words_at))]
 pub fn names_in<J: JsonValue>(alloc: Global, json: &J, key: &str) -> Result<ColumnNames, TextFault>
     ensures { Gives text_lacks_memory (λ v. v) result (list_of_words_at key.now (J.stands_for json.now)) }
 {
-    let list = read_items(alloc, list_in(json, key)?, |item| name(alloc, item))?;
+    let list = read_items(alloc, list_in(json, key)?, |item| {
+        words_from(alloc, words(item)?)
+    })?;
     Ok(ColumnNames::new(list))
 }
