@@ -7,9 +7,8 @@ ghost use Rattle.clr_rule_text.specs.Fields.{text_lacks_memory};
 ghost use Rattle.clr_rule_text.specs.Seen.{items_seen};
 ghost use Rattle.clr_office_text.specs.Cells.{has_paths as table_has_paths, live_rows_of, named_row_of, place_of, places_of, row_of};
 ghost use Rattle.clr_office_text.specs.Cells.{shape_of, shape_with as shape_in, values_of, without_flag};
-ghost use Rattle.clr_rule_text.specs.Values.{value_of};
 
-use clr_rows::{Form, Place, Row, Schema, Shape, Value, Values, Vertices, Words};
+use clr_rows::{Form, Place, Row, Schema, Shape, Values, Vertices, Words};
 use clr_rule_text::TextFault;
 use clr_rule_text::fields::{list_in, number, number_in, words_in};
 use clr_rule_text::json_values::JsonValue;

@@ -4,7 +4,7 @@ ghost use Rattle.std.specs.Prelude.{◌≡◌, IfOk};
 ghost use Rattle.clr_rules.specs.Books.{FitsBook};
 ghost use Rattle.clr_readings.specs.Readings.{Gives};
 ghost use Rattle.clr_rule_text.specs.Fields.{each_in, text_lacks_memory};
-ghost use Rattle.clr_rule_text.specs.Rules.{column_number as number_meant, column_over, columns_over, crossing_over, end_node_over, filter_over};
+ghost use Rattle.clr_rule_text.specs.Rules.{column_number as number_meant, column_over, columns_over, crossing_over, end_node_over};
 ghost use Rattle.clr_rule_text.specs.Rules.{literal_over, near_over, partner_over, rule_over, rules_of, side_over, unique_over};
 
 use crate::faults::TextFault;
