@@ -146,7 +146,7 @@ entry_served search part other s t e h = go (slice_get (map held_of search.rows.
     go None g = absurd (false≢true g)
     go (Some r) g = part_served (slice_get search.book.now search.rule) (ask_of_parts search.rule part other) s t r g
 
--- so only those are looked at
+-- the servers of a part that are found are all that a search has to look at
 pub part_alike : (search : Search) (spots : Spots) (part : ℕ) (s : Held) → IsReady search spots part s
     → FindAll search part s (servers_of_part search part s spots)
 part_alike search spots part s ready other t called =
@@ -382,7 +382,7 @@ none_alone rules rows n s roles xs is none = gains_none rules rows (IsAlone n s)
     (needed rules rows n b.first_part b.second_part s b h w.0 refl refl w.1) in
     false≢true (sym none ∙ ap (λ (r : Roles). r.alone) is ∙ subject_alone rules (ask_of_parts n b.first_part b.second_part) s whole.they_call))
 
--- nor has one that may be neither of two subjects a broken need with another
+-- a row that may be neither of two subjects has no broken need with another row
 pub none_paired : (rules : List Rule) (rows : List Held) (n : ℕ) (s : Held) (roles : Roles) (xs : List Broken) → roles ≡ roles_under rules n s → roles.first
     ≡ false → roles.second ≡ false → GainsBroken rules rows (IsPaired n s) xs xs
 none_paired rules rows n s roles xs is not_first not_second = gains_none rules rows (IsPaired n s) xs

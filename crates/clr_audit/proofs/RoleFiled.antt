@@ -20,7 +20,7 @@ use Rattle.clr_spot_maps.proofs.Filed.{entry_stays, entry_filed}
 abbrev Stays : Filed → Filed → Type 0
 Stays m m' = (q : FiledPart) (ys : List Spot) → IsEntered m q ys → IsEntered m' q ys
 
--- and so in each role
+-- what is filed in a role of one index is filed in that role of another
 record Grows (index index' : RoleIndex) : Type 0 where
   pub firsts : Stays index.firsts index'.firsts
   pub seconds : Stays index.seconds index'.seconds

@@ -152,6 +152,6 @@ pub record IsLeastAmong (rules : List Rule) (rows : List Held) (n : ℕ) (before
   pub broken : Contains before b ⊎ IsBrokenAmong rules rows b
   pub least : (c : Broken) → IsBrokenAmong rules rows c → Contains before c ⊎ (n ≤ c.rule) → is_gt (broken_cmp b c) ≡ false
 
--- the same among the rows of a search
+-- a broken need before which none comes of those listed before, and of those of a search's rule and of later ones
 abbrev pub IsLeastFrom : Search → List Broken → Broken → Type 0
 IsLeastFrom search before b = IsLeastAmong search.book.now (rows_of search) search.rule before b

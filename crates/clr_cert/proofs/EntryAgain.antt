@@ -252,7 +252,7 @@ second_again tables None part sound is = (rw is refl, IsAscii-nil)
 second_again tables (Some v) part sound is =
     (rw (subject_long tables v part, subject_again tables v part sound is.0 is.1) refl, subject_ascii tables v part sound is.0 is.1)
 
--- and so is a second witness's
+-- a second witness is read as it was written, and its text is ASCII
 two_again : (tables : List TableDef) (two : Option VersionId) → schema_fault tables ≡ None → IfSome two (IsInSchema tables)
     → (two_of tables (two_text tables two) ≡ Some two) × IsAscii (two_text tables two)
 two_again tables None sound is = (refl, IsAscii-nil)

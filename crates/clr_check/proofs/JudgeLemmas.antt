@@ -28,7 +28,7 @@ no_entry = record { need = no_need; one = no_version; two = None }
 
 -- one need -----------------------------------------------------------------------------------------
 
--- those entries of a need are found among entries by need, and a test tells whether one of them covers it
+-- the entries of a need are found among entries by need, and a test tells whether one of them covers it
 pub record AreJudged (c : Setting ℕ) (entries : List Entry) (n : Need) (told : Bool) : Type 0 where
   pub sorted : List Entry
   pub found : List Entry

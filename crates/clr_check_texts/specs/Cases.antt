@@ -34,7 +34,7 @@ of_draft certificate (Err e) = Err (fault.BadOffice e)
 unfoldable pub case_of : List ℕ → List ℕ → Case
 case_of office certificate = of_draft certificate (draft_in office)
 
--- this is why they don't give both, or no memory was found
+-- why texts don't give an office and a certificate, or that no memory was found
 abbrev pub IsCaseFault : Case → CaseFault → Type 0
 IsCaseFault given (fault.BadOffice e) = given ≡ Err (fault.BadOffice e)
 IsCaseFault given (fault.Unheld o position need) = given ≡ Err (fault.Unheld o position need)

@@ -23,7 +23,7 @@ pub record IsCheckedVerdict (o : Office) (c : Certificate) (v : Verdict) : Type 
   pub safe : v ≡ verdict.Clear → Safe o (merge_set_of c)
   pub headline : v ≡ verdict.Clear → Headline o (merge_set_of c)
 
--- it is the verdict on what the texts give
+-- the verdict is the one on what the texts give
 abbrev pub IsVerdictOn : Case → Verdict → Type 0
 IsVerdictOn (Ok given) v = IsCheckedVerdict given.0 given.1 v
 IsVerdictOn (Err why) v = ⊥

@@ -68,7 +68,7 @@ module _ (c : Setting ℕ) where
     pub smallest : (n : Need) (xs : List ℕ) → seen n → IsBrokenBy c n xs → IsAllIn xs k.members → xs ≡ k.members
     pub least : (n : Need) → seen n → IsBrokenBy c n k.members → ¬ (need_cmp n k.need ≡ Less)
 
-  -- and members that break one of these needs hold the members of one that is kept
+  -- members that break one of these needs hold the members of a clash that is kept
   pub record AreKept (seen : Need → Type 0) (ks : List ListedClash) : Type 0 where
     pub ascending : IsStrictlySortedBy listed_cmp ks
     pub each : (k : ListedClash) → Contains ks k → IsKept seen k
@@ -141,7 +141,7 @@ module _ (c : Setting ℕ) where
                 let same = one n xs members (subst (λ o. IsBrokenBy c o xs) e breaks) broken in
                 (j, there, λ x h. subst (λ ys. Contains ys x) (sym same) (inside x h))
 
-      -- they hold those of none
+      -- some members hold those of no clash that is kept
       module _ (none : (j : ListedClash) → Contains ks j → ¬ (IsAllIn j.members members)) where
         abbrev clash : ListedClash
         clash = record { members = members; need = n }

@@ -75,7 +75,7 @@ earlier (x ∷ xs) (suc k) d m less rises (inr h) = earlier xs k d m (omega (ari
 -- the touched needs, one after another -------------------------------------------------------
 
 module _ (c : Setting ℕ) (needs read : List Need) (touched : AreTouchedNeeds c needs) (same : read ≡ needs) where
-  -- those of the needs so far
+  -- the clashes of the needs so far are kept
   abbrev pub AreKeptTo : ℕ → List ListedClash → Type 0
   AreKeptTo k ks = AreKept c (λ n. Contains (take k read) n) ks
 

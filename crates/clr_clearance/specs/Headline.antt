@@ -83,7 +83,7 @@ pub record NamesTheSame (merge_set other : MergeSet) : Type 0 where
 abbrev pub SafeReorderedLaw : Type 0
 SafeReorderedLaw = (o : Office) (merge_set other : MergeSet) → NamesTheSame merge_set other → Safe o merge_set → Safe o other
 
--- the same entries cover a merge set of the same members, where none is named twice
+-- entries that cover a merge set cover every merge set of the same members, where none is named twice
 abbrev pub CoversReorderedLaw : Type 0
 CoversReorderedLaw = (o : Office) (merge_set other : MergeSet) (entries : List Entry)
     → NamesTheSame merge_set other

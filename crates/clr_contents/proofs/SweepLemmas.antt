@@ -201,7 +201,7 @@ module _ (sw : Content → Differences → Differences) (sm : Content → List S
     within_one : at < length one
     within_one = subst (λ n. at < n) (sym (ap (λ (ms : List Delta). length ms) a ∙ length-set ls at l_one)) lt
 
-    -- then the current content
+    -- behind the base, the current content is swept
     module _ (two : List Delta) (b : two ≡ delta_changed one at (λ l. record l { current = sw (workspace_at (wholes live one) at).base l.current })) where
       abbrev l_two : Delta
       l_two = record l_one { current = sw seen_base old.current }
@@ -219,7 +219,7 @@ module _ (sw : Content → Differences → Differences) (sm : Content → List S
       within_two : at < length two
       within_two = subst (λ n. at < n) (sym (ap (λ (ms : List Delta). length ms) is_two ∙ length-set ls at l_two)) lt
 
-      -- then the savepoints
+      -- behind the current content, the savepoints are swept
       module _ (three : List Delta) (c : three ≡ delta_changed two at (λ l. record l { marks = sm (workspace_at (wholes live two) at).base l.marks })) where
         pub seen_three : wholes live three ≡ wholes live ls
         seen_three = ap (wholes live) c ∙ saved_swept live two at rooted_two some within_two sm same ∙ seen_two

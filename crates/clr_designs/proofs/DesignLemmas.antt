@@ -156,7 +156,7 @@ module _ (o : Office) (name : Name) (may : design_refusal o name ≡ None) where
     edits_apply sound fits content_fits mid left (Some reply) is refused = absurd (none-some reply (sym (may_apply fits content_fits)
         ∙ ap (λ m. refusal m (Apply name edits)) (sym is) ∙ refused.0))
 
--- that a workspace can't be created is never answered as done
+-- the refusal to create a workspace is never the reply `done`
 create_not_done : (o : Office) (name : Name) → design_refusal o name ≡ Some Done → ⊥
 unfolding refusal
 create_not_done o name h = by (not (stands o live_name)) (not (is_good_name name)) (stands o name) (is_full o || is_deep o live_name) h

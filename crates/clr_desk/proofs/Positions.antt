@@ -1,4 +1,4 @@
--- Those of the positions from 0 on that pass a test, one position after another.
+-- The positions from 0 on that pass a test, one position after another.
 use Rattle.std.proofs.Common.{◌≡◌, ◌∙◌, ◌+◌, ℕ, Bool, List, [], ◌∷◌, ◌++◌, ap, filter}
 use Rattle.std.specs.List.{range_with_len}
 use Rattle.std.proofs.lemmas.List.Elements.{filter-append}

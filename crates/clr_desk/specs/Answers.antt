@@ -42,7 +42,7 @@ IsDeskAnswerWithin (ask.WorkOrder root names) office second layers print =
     IsPrintoutIn (IsHinted (IsOrderPrint (merge_set root names)) (root ∷ names)) (draft_in office) print
 IsDeskAnswerWithin (ask.Geographic asked) office second layers print = IsGeographicAnswer asked office layers print
 
--- the same where `too_long` says whether a text is
+-- what is answered, where it is given whether a text is too long
 abbrev pub IsDeskAnswerIf : Bool → Ask → List ℕ → List ℕ → List GivenLayer → PrintoutOrFault → Type 0
 IsDeskAnswerIf true asked office second layers print = print ≡ Err run_fault.TooLong
 IsDeskAnswerIf false asked office second layers print = IsDeskAnswerWithin asked office second layers print

@@ -42,7 +42,7 @@ pub record Trial : Type 0 where
 abbrev pub is_taken : Trial → Bool
 is_taken t = is_cleared t.plan
 
--- those taken before a name, and then it
+-- the members that are tried with a name: those taken before it, and then the name
 abbrev pub members_tried : Trial → List Name
 members_tried t = t.before ++ t.name ∷ []
 
@@ -56,7 +56,7 @@ pub record IsTrialAt (o : Office) (root : Name) (trials : List Trial) (at : ℕ)
   pub planned : IsPlanned o (merge_set root (members_tried t)) t.plan
   pub found : is_out_of_memory t.plan ≡ false
 
--- these names are tried in their order
+-- names are tried in their order
 pub record AreTrials (o : Office) (root : Name) (tried : List Name) (trials : List Trial) : Type 0 where
   pub names : map (λ t. t.name) trials ≡ tried
   pub each : (at : ℕ) (t : Trial) → slice_get trials at ≡ Some t → IsTrialAt o root trials at t
@@ -71,7 +71,7 @@ names_line word names = word ++ codes " " ++ decimal (length names) ++ flat_map 
 abbrev pub refusal_text : List TableDef → Name → List Name → Name → Plan → List ℕ
 refusal_text tables root members name p = codes "left " ++ name ++ codes "\n" ++ plan_text tables members root p
 
--- these of a name that is left, and nothing of one that is taken
+-- the lines of a name that is left, and nothing for one that is taken
 abbrev pub left_text : Office → Name → Trial → List ℕ
 left_text o root t = if is_taken t then [] else refusal_text o.schema root (members_tried t) t.name t.plan
 

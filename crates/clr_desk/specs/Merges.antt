@@ -32,6 +32,6 @@ pub data IsMergePrintout (names : List Name) (o : Office) (c : Certificate) (pri
       → print ≡ merge_print replies stopped left → IsMergePrintout names o c print
   of_verdict : (v : Verdict) → IsRefusingVerdict o (merge_set_of c) (entries_in c.entries) v → print ≡ verdict_print o c v → IsMergePrintout names o c print
 
--- the same, and behind its notes hints at names that no workspace of the office that was read has
+-- the printout of a merge, and behind its notes hints at names that no workspace of the office that was read has
 abbrev pub IsHintedMerge : List Name → Office → Certificate → PrintoutOrFault → Type 0
 IsHintedMerge names o c print = IsHinted (λ read. IsMergePrintout names read c) (c.root ∷ names) o print

@@ -24,9 +24,9 @@ use std::alloc::{AllocError, Global};
 /// What is said of one more name beside those taken.
 #[derive(Drop)]
 enum Trial {
-    /// They are cleared together, by this certificate.
+    /// The members are cleared together, by this certificate.
     Taken(Certificate),
-    /// They aren't, and these lines say why.
+    /// The members aren't cleared together, and these lines say why.
     Left(Vec<u8>),
 }
 

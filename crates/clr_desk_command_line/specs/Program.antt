@@ -69,26 +69,26 @@ design_of_layers = with_rule (with_rule (database_command (codes "design")) (val
 abbrev pub design : App
 design = with_rule (with_rule (with_rule design_of_layers (flag (codes "script"))) (option (codes "keys"))) round
 
--- those that print a certificate or an office
+-- the program with the commands that print a certificate or an office
 abbrev pub printing : App
 printing = with_subcommand (with_subcommand (with_subcommand (demanding (codes "clr_desk")) certificate.top) merge.top) format.top
 
--- those that say which members go together
+-- with the commands that say which members go together
 abbrev pub choosing : App
 choosing = with_subcommand (with_subcommand printing keep.top) clashes.top
 
--- those that explain
+-- with the commands that explain
 abbrev pub explaining : App
 explaining = with_subcommand (with_subcommand choosing why.top) words.top
 
--- those that draw
+-- with the commands that draw
 abbrev pub drawing : App
 drawing = with_subcommand (with_subcommand explaining map.top) report.top
 
--- those that print texts for geographic information systems
+-- with the commands that print texts for geographic information systems
 abbrev pub exporting : App
 exporting = with_subcommand (with_subcommand drawing geojson.top) layer.top
 
--- those that read layers
+-- the whole program, with the commands that read layers
 abbrev pub program : App
 program = with_subcommand (with_subcommand exporting office.top) design.top

@@ -47,7 +47,7 @@ pub enum Ask {
     /// The office that the merges of these workspaces in this order leave, alone, by a certificate that
     /// clears its members; the second text is the certificate.
     Merge(Names),
-    /// The same office, a row a line.
+    /// An office is printed again, a row a line.
     Format,
     /// Which of these children of a root can be merged in every order, where each is taken that is
     /// cleared with those taken before it: the root, and the children, or none for all.

@@ -60,7 +60,7 @@ pub record IsDesignScript (name : Name) (o : Office) (content : Content) (text :
   pub steps : script_in_text o.schema text ≡ Ok (design_steps name live_name (edits_between o.live content))
   pub done : AreDone o name content (with_design o name content)
 
--- this script; or why the workspace of the design can't be created
+-- what is printed is a script that makes the design, or why its workspace can't be created
 pub data IsPrintOfScript (name : Name) (o : Office) (content : Content) (print : PrintoutOrFault) : Type 0 where
   of_script : (text : List ℕ) → design_refusal o name ≡ None → IsDesignScript name o content text → print ≡ text_print text
       → IsPrintOfScript name o content print

@@ -26,7 +26,7 @@ text_fault_word of_text.NotDecimal = codes "10 NotDecimal"
 text_fault_word of_text.Finer = codes "11 Finer"
 text_fault_word (of_text.Unfit why) = codes "12 Unfit " ++ row_fault_name why
 
--- the same of a fault of a layer
+-- the number and name of a fault of a layer
 abbrev pub fault_word : LayersFault → List ℕ
 fault_word of_layer.NoTable = codes "13 NoTable"
 fault_word of_layer.TableTwice = codes "14 TableTwice"

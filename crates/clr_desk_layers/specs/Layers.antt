@@ -33,7 +33,7 @@ pub data IsPrintOfTable (tables : List TableDef) (at : ℕ) (table : Name) (cont
       → IsPrintOfTable tables at table content print
   of_wkt_column : IsTableLayer tables at content None → print ≡ unfit_print wkt_column_word table → IsPrintOfTable tables at table content print
 
--- the same of a table and a workspace by their names, or that no table or no workspace has its name
+-- the layer of a table in a workspace, both given by name, or that no table or no workspace has this name
 pub data IsLayerPrint (table workspace : Name) (o : Office) (print : PrintoutOrFault) : Type 0 where
   of_table : (at : ℕ) → table_named o.schema table ≡ Some at → stands o workspace ≡ true
       → IsPrintOfTable o.schema at table (content_of o workspace) print → IsLayerPrint table workspace o print

@@ -19,7 +19,7 @@ use Rattle.clr_drafts.specs.Laws.{HeldLaw}
 
 -- the first workspace of a name, if it is kept
 module _ (book : List Rule) (name : Name) where
-  -- it is the first of a list, or stands behind that
+  -- a workspace of this name is the first of a list, or stands behind the first
   none_by : (here : Bool) (at : ℕ) (v : Workspace) (ws : List Workspace) (w : Workspace) → cond v.kept (first_broken book v.current) None ≡ None
       → (find_name name ws ≡ Some w → first_broken book w.current ≡ None) → cond here (Some v) (find_name name ws) ≡ Some w → w.kept ≡ true
       → first_broken book w.current ≡ None

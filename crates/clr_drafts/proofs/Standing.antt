@@ -35,7 +35,7 @@ refused o (n, part.NoParent) why = falls o _ why
 refused o (n, part.TooMany) why = falls o _ why
 refused o (n, part.BadMarks) why = falls o _ why
 
--- too many -----------------------------------------------------------------------------------
+-- a fault of too many parts is the first that is found ---------------------------------------
 
 no_first : (first second : Option (ℕ × PartFault)) → option_or first second ≡ None → first ≡ None
 no_first None second e = refl

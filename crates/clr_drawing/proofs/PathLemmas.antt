@@ -16,7 +16,7 @@ with_next v start (p ∷ ps) i less =
     ap (with_found v (fold (with_part v) start (take i (p ∷ ps)))) (slice_get-get_or (p ∷ ps) i p less)
     ∙ sym (fold_more (with_part v) start (p ∷ ps) i p less)
 
--- the same by the number of the part
+-- a part, given by its number, is drawn behind those before it
 pub with_numbered : (v : View) (start : List Step) (shape : Shape) (i : ℕ) → i < length (parts_of shape)
     → with_found v (fold (with_part v) start (take i (parts_of shape))) (part_of shape (i + 1)) ≡ fold (with_part v) start (take (i + 1) (parts_of shape))
 with_numbered v start shape i less =

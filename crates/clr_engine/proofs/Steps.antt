@@ -32,6 +32,6 @@ fits_step o c h =
 pub fits_after : (o : Office) (c : Command) (reply : Reply) (left : Office) → IsFitting o → IsAnswer o c reply left → IsFitting left
 fits_after o c reply left h answered = after_answer IsFitting o c reply left h (fits_step o c h) answered
 
--- and rules hold where they are to hold
+-- after each answer, rules hold where they are to hold
 pub holds_after : (o : Office) (c : Command) (reply : Reply) (left : Office) → HoldsWhereKept o → IsAnswer o c reply left → HoldsWhereKept left
 holds_after o c reply left h answered = after_answer HoldsWhereKept o c reply left h (rules_law o c h) answered

@@ -127,7 +127,7 @@ fn commands_one_after_another(rt: HostRuntime) -> Result<(), Fail> {
     Ok(())
 }
 
-/// The same of lists of which some commands are refused: a merge in conflict, merges that break a rule, edits that can't be made;
+/// Lists of which some commands are refused: a merge in conflict, merges that break a rule, edits that can't be made;
 /// and of three workspaces that each take away another node of one place.
 const REFUSED_RUNS: &str = "crossing
 ----

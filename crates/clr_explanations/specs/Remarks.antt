@@ -27,11 +27,11 @@ tables_in d = format_of d >>= λ format. schema_of format d
 abbrev pub IsRowTold : List TableDef → Data → List ℕ → Type 0
 IsRowTold tables item sentence = (f : RowFault) → put_fault_of tables item ≡ Some f → BeginsWithName (row_fault_name f) sentence
 
--- the same of the fault of the book of rules
+-- a sentence begins with the name of the fault of the book of rules
 abbrev pub IsRuleTold : List TableDef → Data → List ℕ → Type 0
 IsRuleTold tables d sentence = (number : ℕ) (f : RuleFault) → book_fault_of tables d ≡ Some (number, f) → BeginsWithName (rule_fault_name f) sentence
 
--- and of the fault of the tables
+-- a sentence begins with the name of the fault of the tables
 abbrev pub IsSchemaTold : Format → Data → List ℕ → Type 0
 IsSchemaTold format d sentence = (f : SchemaFault) → tables_fault_of format d ≡ Some f → BeginsWithName (schema_fault_name f) sentence
 

@@ -23,7 +23,7 @@ over : {A : Type 0} (d : Data) (format : Format) (tables : List TableDef) (f : F
     → over_schema f d ≡ f format tables
 over d format tables f is = rw (is.formatted, is.read) refl
 
--- and behind a head that can be read
+-- a fault that is met behind a head that can be read
 inside : {A : Type 0} (d : Data) (e : TextFault) (format : Format) (tables : List TableDef) (at : ℕ) (one : Data) (f : List TableDef → Data
     → Result A TextFault)
     → BehindHead d e format tables at one → in_workspace f at d ≡ f tables one

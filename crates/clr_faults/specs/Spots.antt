@@ -34,6 +34,6 @@ IsFaultAt d e (Saved at mark cell) =
 unfoldable pub value_in : List ℕ → Option Data
 value_in bytes = if is_utf8 bytes then read bytes else None
 
--- the same in the value that the bytes are; where they are none, the fault is of the whole text
+-- where in some bytes a fault is: in the value that they are, or, where they are none, in the whole text
 abbrev pub IsFoundIn : List ℕ → TextFault → Spot → Type 0
 IsFoundIn bytes e spot = MatchOption (value_in bytes) (spot ≡ Whole) (λ d. IsFaultAt d e spot)

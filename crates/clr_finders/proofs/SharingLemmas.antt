@@ -62,7 +62,7 @@ settled_row settled rules content is q ys e = go (row_at content q) refl (sym (i
     go None at h = absurd (cc)
     go (Some row) at h = (row, at, (let same : row_spots rules (q, row) ≡ ys = cc in sym same))
 
--- the same cells pass
+-- a test of what is settled and a test of the rows that it is of let the same cells pass
 same_passing : (rules : List Rule) (content : Content) (settled : Settled) (p : CellId × List RuleSpots → Bool) (r : Held → Bool) →
     IsSettledFor settled rules content
     → ((t : Held) → p (t.0, row_spots rules t) ≡ r t) → passing_cells p settled ≡ passing_cells r content

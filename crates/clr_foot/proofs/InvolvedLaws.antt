@@ -83,7 +83,7 @@ module _ (c : Setting ℕ) where
 
   -- ---- rule after rule
 
-  -- those of the rules below a number
+  -- a need that involves a version, under a rule below a number
   pub record IsInvolvedBelow (x number : ℕ) (v : VersionId) (n : Need) : Type 0 where
     pub involved : IsInvolvedWith c x v n
     pub below : n.rule < number

@@ -55,7 +55,7 @@ module _ (rules : List Rule) (sets : List Changes) where
   abbrev pub new_spots_at : CellId → Option (List RuleSpots)
   new_spots_at q = option_map (λ l. row_spots rules (q, l.row)) (new_version_at sets q)
 
-  -- those of some cells are filed, and no others
+  -- the new rows of some cells are filed, and no others
   pub record AreFiledAt (cells : List CellId) (settled : Settled) : Type 0 where
     pub only : (q : CellId) → (finite.get settled q ≡ None) ⊎ (finite.get settled q ≡ new_spots_at q)
     pub every : (q : CellId) → Contains cells q → finite.get settled q ≡ new_spots_at q

@@ -13,7 +13,7 @@ module _ (rules : List Rule) (number : ℕ) (r : Version) (near : List Version) 
   abbrev Served : List Version → Need → Type 0
   Served firsts = IsNeedServedAmong rules number r firsts near
 
-  -- those of one version
+  -- the needs of one version, alone or with another one near
   abbrev Here : Version → Need → Type 0
   Here s n = IsNeedOf rules number (Some r) s None n ⊎ IsNeedAmong rules number (Some r) s near n
 

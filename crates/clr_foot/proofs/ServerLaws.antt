@@ -20,7 +20,7 @@ use Rattle.clr_foot.proofs.SharingLaws.{may_serve_there, near_server, server_nea
 use Rattle.clr_foot.proofs.TouchLaws.{lived_is}
 
 module _ (c : Setting ℕ) where
-  -- ---- those that are found
+  -- ---- the servers that are found
 
   module _ (ask : Ask) (s : Version) (t : Option Version) (old others : List Version) where
     abbrev Serving : List Version → VersionId → Type 0

@@ -64,7 +64,7 @@ module _ (rules : List Rule) (root : Content) (sets : List Changes) where
       by (Some n) f = tt
       by None f = let less = at.1 in absurd (false≢true (ap is_some (sym (f at.0 (range_has (length sets) 0 at.0 (omega arith) (omega (arith, less))))) ∙ at.2))
 
-  -- and what is changed is old and listed
+  -- a version that a change takes away is old, and its cell is listed
   pub changed_is_old : (v : VersionId) (l : Lived ℕ) → version c v ≡ Some l → IsChanged l.life → (v.fresh ≡ false) × Contains (changed_cells sets) v.cell
   unfolding version
   changed_is_old v l is changed = by v.fresh refl (changer c v.cell) refl (changer_is c v.cell) is
@@ -203,7 +203,7 @@ module _ (c : Setting ℕ) (number : ℕ) where
       gains_as (IsNeedOf c.rules number None v None) (IsNeedOf c.rules number None v None) (IsNeedWith c number v.id) (IsNeedBesideOld c number v.id) first last
       (alone_with c number v at) (λ n w. alone_of_one c number v at told is fails n w.0) g
 
-  -- those until there was no memory: for the others near, and with them
+  -- the needs that were listed until there was no memory: for the others near, and with them
   pub none_with : (v : Version) (first last new : List Need) → IsAt c v → new ≡ last
       → Gains (IsNeedOf c.rules number None v None) (IsNeedOf c.rules number None v None) first last
       → GainsSome (IsNeedWith c number v.id) first new
@@ -251,7 +251,7 @@ module _ (c : Setting ℕ) (number : ℕ) where
   none_served_by r told needs at is fails = gains_none (IsNeedServedBy c number r.id) (IsNeedServedBy c number r.id) needs
       (not_served c number r at told is fails)
 
-  -- those with a new version are touched, and those that a changed one serves
+  -- needs with a new version are touched, and so are needs that a changed version serves
   with_touched : (v : VersionId) → v.fresh ≡ true → (n : Need) → IsNeedWith c number v n → IsTouched c n
   with_touched v fresh n (rule, inl e, a, b, p) = (a, b, p, inl (or_left n.first.fresh (is_fresh n.second) (ap (λ u. u.fresh) e ∙ fresh)))
   with_touched v fresh n (rule, inr e, a, b, p) = (a, b, p, inl (or_right n.first.fresh (is_fresh n.second) (ap is_fresh e ∙ fresh)))

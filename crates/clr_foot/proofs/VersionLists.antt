@@ -39,7 +39,7 @@ one_behind old new v w put h = by (Contains-append_cases old (v ∷ []) w (subst
     by (inr g) = inr (last g)
 
 module _ (c : Setting ℕ) (fresh : Bool) (cells : List CellId) where
-  -- those of the first cells
+  -- the versions of the first cells are found
   abbrev pub FindsTo : ℕ → List Version → Type 0
   FindsTo k vs = Finds c fresh (IsInCells (take k cells)) vs
 
@@ -98,7 +98,7 @@ module _ (c : Setting ℕ) (fresh : Bool) (cells : List CellId) where
   pub all_found : (k : ℕ) (vs : List Version) → length cells ≤ k → FindsTo k vs → Finds c fresh (IsInCells cells) vs
   all_found k vs past h = record { are = h.are; alike = h.alike; every = λ q l is among. h.every q l is (all_taken cells k q past among) }
 
--- those of the first cells that are looked up
+-- the versions of the first cells that are looked up
 module _ (c : Setting ℕ) (servers : Bool) (rules : List Rule) (number : ℕ) (fresh : Bool) (cells : List CellId) where
   abbrev pub LookedUpTo : ℕ → List Version → Type 0
   LookedUpTo k vs = Finds c fresh (IsLookedUpIn servers rules number (take k cells)) vs
@@ -197,7 +197,7 @@ finds_all c P old new all put found found_too = record { are = are; every = ever
             let same : version_of true v.cell ≡ v = λ i. record { cell = v.cell; fresh = sym e i } in
             new_in v (subst (HasVersion new) same (found_too.every v.cell l (ap (version c) same ∙ is) near))
 
--- ---- those that a finder finds
+-- ---- the versions that a finder finds
 
 module _ (rules : List Rule) (root : Content) (sets : List Changes) (servers : Bool) (number : ℕ) (s : Held) (below : number < length rules) where
   abbrev c : Setting ℕ

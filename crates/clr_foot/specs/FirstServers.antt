@@ -20,11 +20,11 @@ abbrev pub is_sought : Sought → Setting ℕ → Need → VersionId → Bool
 is_sought Living c n v = is_living_at (version c v)
 is_sought Lasting c n v = lasts_at c n v
 
--- it serves the need, too
+-- a version that is sought serves a need
 abbrev pub IsServingSought : Sought → Setting ℕ → Need → VersionId → Type 0
 IsServingSought sought c n v = IsServing c n v × (is_sought sought c n v ≡ true)
 
--- it serves what the need asks of these subjects
+-- a version that is sought serves what a need asks of given subjects
 abbrev pub IsServerSought : Sought → Setting ℕ → Need → Version → Option Version → VersionId → Type 0
 IsServerSought sought c n s t v = IsServerOf c (ask_of n) s t v × (is_sought sought c n v ≡ true)
 

@@ -38,7 +38,7 @@ pub record IsReady {F : Type 0} (settled : F → Settled) (m : SceneModel F) : T
   pub fit : FitsSetting (setting_of m)
   pub is_settled : IsSettledFor (settled m.finder) m.rules m.root
 
--- the same rules, root and finder, with the change sets at some positions
+-- the scene with the rules, root and finder of another, and those of its change sets that stand at some positions
 abbrev pub model_at : {F : Type 0} → SceneModel F → List ℕ → SceneModel F
 model_at m positions = record {
   rules = m.rules;

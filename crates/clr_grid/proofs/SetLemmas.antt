@@ -38,7 +38,7 @@ one_added ks ls k h = set.same_set cell_cmp_total cell_cmp_exact _ _ (λ q.
     ∙ ap (λ b. b || list_any (is_at (cell_cmp q)) ks) ((eq_by_cmp_equiv cell_cmp_total).symm k q)
     ∙ sym (set.contains-insert cell_cmp_total (set.from_list ks) k q ∙ ap (λ b. eq_by_cmp cell_cmp q k || b) (set.contains-from_list cell_cmp_total ks q)))
 
--- and with one less
+-- the set of a list with one cell less is the set without this cell
 pub one_gone : (ks ls : List CellId) (k : CellId) → DifferAt k false ks ls → set.from_list {R = cell_cmp} ls ≡ set.remove (set.from_list ks) k
 one_gone ks ls k h = set.same_set cell_cmp_total cell_cmp_exact _ _ (λ q.
     set.contains-from_list cell_cmp_total ls q ∙ h q ∙ and_cond (is_at (cell_cmp k) q) _

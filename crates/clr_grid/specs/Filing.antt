@@ -105,7 +105,7 @@ abbrev pub IsFiledIfAny : List RuleIndex → CellId → Option (List RuleSpots) 
 IsFiledIfAny indexes q None = ⊤
 IsFiledIfAny indexes q (Some ys) = IsFiledRow indexes q ys
 
--- so is each row
+-- each row is filed
 abbrev pub AreFiled : FiledRows → List RuleIndex → Type 0
 AreFiled rows indexes = (q : CellId) (ys : List RuleSpots) → IsRowAt rows q ys → IsFiledRow indexes q ys
 
@@ -139,7 +139,7 @@ abbrev pub StayFiled : List RuleIndex → List RuleIndex → Type 0
 StayFiled old new = (number : ℕ) (serves : Bool) (k : Key) (q : CellId) → is_filed_under old number serves k q ≡ true
     → is_filed_under new number serves k q ≡ true
 
--- so does what is filed for other cells than one, or for a row that it keeps
+-- what is filed for other cells than one stays filed, and so does what is filed for the row that this cell keeps
 abbrev pub StayFiledBut : CellId → Option (List RuleSpots) → List RuleIndex → List RuleIndex → Type 0
 StayFiledBut cell kept old new = (number : ℕ) (serves : Bool) (k : Key) (q : CellId)
     → stays cell (of_side serves (spots_at kept number)) k q ≡ true

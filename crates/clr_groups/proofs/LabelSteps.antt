@@ -7,7 +7,7 @@ use Rattle.std.proofs.lemmas.List.{get_or-set_other, get_or-set_same, get_or_app
 use Rattle.std.proofs.Math.Seq.{get_or-append_seam}
 use Rattle.clr_groups.specs.Labels.{AreMoved, label, moved_label}
 
--- those before a position are put in place of others
+-- the labels before a position are replaced, one label by another
 pub record AreMovedTo (from to k : ℕ) (old new : List ℕ) : Type 0 where
   pub long : length new ≡ length old
   pub done : (j : ℕ) → j < k → j < length old → label new j ≡ moved_label from to (label old j)

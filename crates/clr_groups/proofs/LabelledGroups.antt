@@ -22,7 +22,7 @@ use Rattle.clr_needs.proofs.PartPositions.{below_member}
 -- numbers of which something holds, one after another ----------------------------------------
 
 module _ (P : ℕ → Type 0) where
-  -- those below a number
+  -- a position below a number
   pub record IsBelow (k x : ℕ) : Type 0 where
     pub below : x < k
     pub holds : P x

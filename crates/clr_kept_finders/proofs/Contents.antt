@@ -21,7 +21,7 @@ use Rattle.clr_steps.specs.Refusals.{broken_where, first_broken}
 pub reached : (current other : Content) (changed : Changes) → changed ≡ changes current other → taken_over current changed ≡ other
 reached current other changed e = ap (taken_over current) e ∙ taken_over-own current other
 
--- and no changes leave the content
+-- where there are no changes, the content stays
 pub stayed : (current : Content) (changed : Changes) → changed ≡ no_changes → taken_over current changed ≡ current
 stayed current changed e = reached current current changed (e ∙ sym (changes-self current))
 

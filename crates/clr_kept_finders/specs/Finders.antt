@@ -51,19 +51,19 @@ HasNoted book changed None None = ⊤
 HasNoted book changed (Some old) (Some new) = (new.settled ≡ old.settled) × ArePending book changed new.pending
 HasNoted book changed _ _ = ⊥
 
--- it has taken over what it noted
+-- a finder, where there is one, has taken over what it noted
 abbrev pub HasSettled : Option FiledRows → Option FiledRows → Type 0
 HasSettled None None = ⊤
 HasSettled (Some old) (Some new) = ((q : CellId) → finite.get new.settled q ≡ next_at old.settled old.pending q) × (new.pending ≡ finite.empty)
 HasSettled _ _ = ⊥
 
--- it has dropped it
+-- a finder, where there is one, has dropped what it noted
 abbrev pub HasForgotten : Option FiledRows → Option FiledRows → Type 0
 HasForgotten None None = ⊤
 HasForgotten (Some old) (Some new) = (new.settled ≡ old.settled) × (new.pending ≡ finite.empty)
 HasForgotten _ _ = ⊥
 
--- so has the one at a position, and the others are as they were
+-- the finder at a position has changed in a given way, and the others are as they were
 abbrev pub IsChangedAt : (Option FiledRows → Option FiledRows → Type 0) → ℕ → List (Option FiledRows) → List (Option FiledRows) → Type 0
 IsChangedAt changed at old new = (finder : Option FiledRows) × changed (slice_index_or old at None) finder × (new ≡ slice_set old at finder)
 
@@ -95,7 +95,7 @@ abbrev pub current_at : Office → ℕ → Option Content
 current_at o zero = Some o.live
 current_at o (suc at) = option_map (λ w. w.current) (slice_get o.workspaces at)
 
--- the same, where every rule is to hold in it
+-- the content of a workspace by its position, where every rule is to hold in it
 abbrev pub kept_content_at : Office → ℕ → Option Content
 kept_content_at o zero = Some o.live
 kept_content_at o (suc at) = option_and_then kept_content (slice_get o.workspaces at)

@@ -55,7 +55,7 @@ place_again rounded p e =
     let is = coordinate_low p e in
     rw (two_words p e, metres_again rounded p.x is.0, metres_again rounded p.y is.1) refl
 
--- the same behind a space
+-- a place is read as it was written behind a space
 next_again : (rounded : Bool) (p : Place) → is_place p ≡ true → place_of rounded (32 ∷ place_text p) ≡ Ok p
 next_again rounded p e =
     let is = coordinate_low p e in

@@ -8,7 +8,7 @@ use Rattle.clr_rows.specs.declared.tables.TableDef.{TableDef}
 use Rattle.clr_layer_text.specs.declared.rows.LayerRow.{LayerRow}
 use Rattle.clr_layer_text.specs.Layers.{can_be_layer, layer_in_text, layer_text}
 
--- those of some rows at cells that stand in a table, each with its key
+-- of some rows at cells, those that stand in a table, each with its key
 abbrev pub rows_among : ℕ → List (CellId × Row) → List LayerRow
 rows_among table [] = []
 rows_among table (e ∷ entries) = if e.0.table == table then record { key = Some e.0.key; row = e.1 } ∷ rows_among table entries else rows_among table entries

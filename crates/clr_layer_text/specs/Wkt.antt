@@ -107,7 +107,7 @@ closed_of text = do
   parts ← or_fault NotWkt (cut_of closing text)
   if is_blank parts.1 then Ok parts.0 else Err NotWkt
 
--- the same, if no other part follows behind a comma
+-- what stands in brackets, if no other part follows behind a comma
 abbrev pub single_of : List ℕ → Result (List ℕ) LayerFault
 single_of text = if has_mark comma text then Err SeveralParts else closed_of text
 

@@ -65,7 +65,7 @@ counts_text changed conflicts = codes " " ++ decimal changed ++ codes " " ++ dec
 abbrev pub counted_text : List ℕ → List ℕ → ℕ → ℕ → List ℕ
 counted_text name parent changed conflicts = names_text name parent ++ counts_text changed conflicts
 
--- and whether it is kept
+-- the state of a workspace: what is counted of it, and whether it is kept
 abbrev pub state_text : List ℕ → List ℕ → ℕ → ℕ → Bool → List ℕ
 state_text name parent changed conflicts kept = counted_text name parent changed conflicts ++ kept_text kept
 

@@ -45,7 +45,7 @@ ink_of deed.Changes colour = ink_over (drawn_ink colour (length_of (pos 26))) pa
 abbrev pub small_gone_ink : Colour → Ink
 small_gone_ink colour = dashed_ink (ink_over (drawn_ink colour (length_of (pos 12))) map_colour) (length_of (pos 20)) (length_of (pos 15))
 
--- the same of a small sign
+-- the ink of a small sign
 abbrev pub small_ink_of : Deed → Colour → Ink
 small_ink_of deed.Goes colour = small_gone_ink colour
 small_ink_of deed.Leaves colour = small_gone_ink colour

@@ -94,7 +94,7 @@ module _ (o : Office) (t : MergeSet) where
       let (a, b, possible, touched) = unpicked.touched in
       none n unpicked.touched (a, b, unpicked_is_uncovered (setting_by_position o t) n a b possible (unpicked.none a b possible))
 
-  -- and where none is left so, the plan is cleared
+  -- where no need is left uncovered, the plan is cleared
   none_left_cleared : member_fault o t ≡ None → AreApart (change_sets o t) → LeavesNoneUncovered (setting_by_position o t)
       → (p : Plan) → IsPlan o t p → is_out_of_memory p ≡ false → is_cleared p ≡ true
   none_left_cleared fits apart none (plan.Cleared c) h found = refl

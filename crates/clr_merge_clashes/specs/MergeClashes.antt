@@ -53,7 +53,7 @@ FindsClashes o s found = (broken : List MergeClash) × AreMergeClashes o s broke
 abbrev pub IsFaultOfNames : Office → MergeSet → Verdict → Type 0
 IsFaultOfNames o s v = (names_fault o s ≡ Some v) ⊎ (v ≡ verdict.OutOfMemory)
 
--- they are these, or such a fault
+-- the clashes that are found, or the fault for which none are
 abbrev pub AreFound : Office → MergeSet → Result Found Verdict → Type 0
 AreFound o s (Ok found) = FindsClashes o s found
 AreFound o s (Err v) = IsFaultOfNames o s v

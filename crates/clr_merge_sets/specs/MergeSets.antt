@@ -16,7 +16,7 @@ pub record AreParts (o : Office) (s : MergeSet) (parts : MergeSetParts) : Type 0
   pub filed : IsSettledFor parts.finder.now.settled o.book parts.rows
   pub sets : parts.sets.items ≡ change_sets o s
 
--- these are the parts of some merge set
+-- the parts of a merge set
 abbrev pub AreOfMergeSet : Office → MergeSetParts → Type 0
 AreOfMergeSet o parts = (s : MergeSet) × AreParts o s parts
 

@@ -24,7 +24,7 @@ pub record IsPart {A B : Type 0} (c : Setting B) (d : Setting A) (stands : A →
 -- a part by its root and by who changes its cells -------------------------------------------------
 
 module _ {A B : Type 0} (c : Setting B) (d : Setting A) (stands : A → B → Type 0) where
-  -- the same changer, or none where a member outside changes the cell
+  -- a cell's changer in the whole and in the part: the same, or none where a member outside changes the cell
   abbrev pub IsChangerIn : Option A → Option B → Type 0
   IsChangerIn None None = ⊤
   IsChangerIn None (Some y) = ¬ (IsInside stands y)

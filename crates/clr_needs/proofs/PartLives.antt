@@ -14,7 +14,7 @@ module _ {A B : Type 0} (stands : A → B → Type 0) where
   abbrev pub AreInside : Lifetime B → Type 0
   AreInside m = (y : B) → Names m y → IsInside y
 
-  -- the same life, or Always in place of Without a member outside
+  -- a version's life in the whole and in the part: the same, or Always in place of Without a member outside
   abbrev pub IsLifeIn : Lifetime A → Lifetime B → Type 0
   IsLifeIn Always Always = ⊤
   IsLifeIn Always (Without y) = ¬ (IsInside y)

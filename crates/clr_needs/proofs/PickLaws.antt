@@ -32,7 +32,7 @@ module _ (c : Setting ℕ) (n : Need) (servers : List VersionId) (are : AreServe
   pub serving_listed : (v : VersionId) (l : Lived ℕ) → Serves c n a b v l → Contains servers v
   serving_listed v l serve = (are.exactly v).1 (a, b, l, p, serve)
 
-  -- ---- those that last
+  -- ---- the servers that last
 
   told_lasting : (l : Lived ℕ) → lasts c n (Some l) ≡ true → Lasts l.life a b
   told_lasting l e = by (or_cases (same_life l.life Always) (has_subject_of_life l.life c n) e)
@@ -56,7 +56,7 @@ module _ (c : Setting ℕ) (n : Need) (servers : List VersionId) (are : AreServe
   covers_and_lasts : (v : VersionId) → CoversAlone c n a b v → IsPassing (lasts_at c n) servers v
   covers_and_lasts v (l, serve, last) = (serving_listed v l serve, ap (lasts c n) serve.is ∙ lasting_told l last)
 
-  -- ---- those with a life
+  -- ---- the servers with a given life
 
   serves_as : (life : Lifetime ℕ) (v : VersionId) → IsPassing (has_life_at life c) servers v → ServesAs c n a b life v
   serves_as life v (h, e) = let (l, serve) = listed_serves v h in (l, serve, same_told l.life life (sym (life_at c n life v l serve.is) ∙ e))

@@ -2,7 +2,7 @@
 use Rattle.std.specs.Prelude.{◌≡◌, ⊤, Option, Some, None}
 use Rattle.clr_needs.specs.Settings.{Lifetime, Always, With, Without, Lived}
 
--- the same life, of a member and of one that stands for it
+-- a life of a member, and the same life of the one that stands for it
 abbrev pub IsSameLife : {A B : Type 0} → (A → B → Type 0) → Lifetime A → Lifetime B → Type 0
 IsSameLife stands Always Always = ⊤
 IsSameLife stands (With x) (With y) = stands x y

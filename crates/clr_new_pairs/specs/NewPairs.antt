@@ -65,7 +65,7 @@ abbrev pub ArePartsFiled : List Rule → ℕ → Filed → ℕ → Version → �
 ArePartsFiled rules number m position s most =
     (part : ℕ) → 1 ≤ part → part ≤ most → IsEntered m (entry_at position part) (subject_spots_under rules number part (row_of s))
 
--- so are all parts of each version before a position that may be one of two subjects
+-- all parts of each version before a position are filed, if the version may be one of two subjects
 abbrev pub AreFiledBefore : List Rule → ℕ → List Version → ℕ → Filed → Type 0
 AreFiledBefore rules number fresh k m = (i : ℕ) (s : Version) → i < k → slice_get fresh i ≡ Some s → may_be_paired rules number (row_of s) ≡ true
     → ArePartsFiled rules number m i s (part_count rules number (row_of s))
@@ -103,6 +103,6 @@ pub record BreaksAtOnce (rules : List Rule) (leaves_out : Bool) (n : Need) : Typ
 abbrev pub HasBreakAt : List Rule → Bool → ℕ → List Need → CellId → Type 0
 HasBreakAt rules leaves_out number needs q = (n : Need) × Contains needs n × BreaksAtOnce rules leaves_out n × (n.rule ≡ number) × (n.first.cell ≡ q)
 
--- such a one stands before another need
+-- a need that breaks at once stands before another need
 abbrev pub Passes : List Rule → Bool → Need → Need → Type 0
 Passes rules leaves_out m n = BreaksAtOnce rules leaves_out m × (need_cmp m n ≡ Less)

@@ -55,7 +55,7 @@ module _ (IsRight : Office → Certificate → Outcome → Type 0) (given : Case
   fault_made (no_case.BadCertificate number e) is = why_made (no_case.BadCertificate number e) is
   fault_made no_case.OutOfMemory is = lost_made (IsPrintOfCase IsRight given)
 
-  -- they give both
+  -- texts that give an office and a certificate
   pub case_made : (o left : Office) (c : Certificate) (output : Output) → given ≡ Ok (o, c) → IsRight o c (outcome_of output left)
       → IsOutput (IsPrintOfCase IsRight given) (Ok output)
   case_made o left c output is h =

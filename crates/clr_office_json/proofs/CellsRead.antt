@@ -115,7 +115,7 @@ named_row_read : (tables : List TableDef) (named : NamedRow) → IsReadable (has
 unfolding named_row_of
 named_row_read tables named h = rw (number_read named.key h.named, row_read (has_paths tables named.table) named.table named.key named.row h) refl
 
--- the same of a row or none
+-- a cell's key and its row, or that the row is gone, can be read again
 abbrev pub IsReadableOrGone : Bool → ℤ → Option Row → Type 0
 IsReadableOrGone is_path key None = is_i64 key ≡ true
 IsReadableOrGone is_path key (Some row) = IsReadable is_path key row

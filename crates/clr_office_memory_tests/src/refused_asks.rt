@@ -31,7 +31,7 @@ const MERGED: &str = r#"done
 "workspaces":[{"base":[],"kept":false,"marks":[],"name":"W1","parent":"LIVE","rows":[]}]}
 "#;
 
-/// The same where the merge finds no memory.
+/// What is printed where the merge finds no memory.
 const NOT_MERGED: &str = r#"refused 0 OutOfMemory
 {"format":3,"live":[{"k":9,"s":[5,5],"t":"node","v":["valve"]}],
 "rules":[],"tables":[{"columns":[["kind","TEXT"]],"name":"node","shape":"POINT"}],

@@ -35,11 +35,11 @@ const ROOM: usize = 65_536;
 /// How a run ends while memory is wanting.
 #[derive(Clone, Copy, Debug, PartialEq, Eq)]
 enum End {
-    /// It fails, with nothing written.
+    /// The run fails, with nothing written.
     Fault,
     /// A command is answered want of memory.
     Lost,
-    /// It meets no refusal.
+    /// The run meets no refusal.
     Done,
 }
 

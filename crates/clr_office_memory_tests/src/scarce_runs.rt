@@ -186,7 +186,7 @@ fn runs_of_members_that_are_clear(rt: HostRuntime) -> Result<(), Fail> {
     Ok(())
 }
 
-/// The same of members that aren't clear, of which none is merged: they share a cell, break a rule between them, or each alone, or
+/// Plans of members that aren't clear, of which none is merged: they share a cell, break a rule between them, or each alone, or
 /// only all three together, or are in conflict.
 const UNCLEAR: &str = "one cell twice
 ----

@@ -8,7 +8,7 @@ delete,node,9
 insert,node,10,valve,5,5
 ";
 
-/// The same beside W2, which lays a main, and other workspaces.
+/// A node is replaced beside W2, which lays a main, and other workspaces.
 const A_NODE_REPLACED_BESIDE_OTHERS: &str = "crossing
 create,W1,LIVE
 create,W2,LIVE

@@ -13,7 +13,7 @@ const CROSSING: &str = r#"{"format":1,"tables":[
 {"t":"main","k":1,"v":["A"],"s":[0,0,10,10]},
 {"t":"main","k":2,"v":["C"],"s":[0,10,10,0]}]}"#;
 
-/// The same with one main and no node.
+/// A network with one main and no node.
 const ONE_MAIN: &str = r#"{"format":1,"tables":[
 {"name":"node","columns":[["kind","TEXT"]],"shape":"POINT"},
 {"name":"main","columns":[["code","TEXT"]],"shape":"SEGMENT"},

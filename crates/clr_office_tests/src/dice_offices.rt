@@ -20,7 +20,7 @@ pub(crate) const NETWORK: &str = r#"{"format":1,"tables":[
 {"t":"node","k":7,"v":["valve"],"s":[10,0]},
 {"t":"node","k":8,"v":["valve"],"s":[10,10]}]}"#;
 
-/// The same by keys.
+/// The rows of LIVE by their keys.
 const LIVE: [(u64, Form); 8] = [
     (1, Form::Across(0)),
     (2, Form::Across(10)),

@@ -129,11 +129,11 @@ fn are_alike(
 /// How the plan for members of a made-up office turns out.
 #[derive(Clone, Copy, Debug, PartialEq, Eq)]
 enum Outcome {
-    /// It is blocked, and one of the merges in its order is refused.
+    /// The plan is blocked, and one of the merges in its order is refused.
     Refused,
-    /// It is cleared, its certificate is clear, and all merges are done in whatever order.
+    /// The plan is cleared, its certificate is clear, and all merges are done in whatever order.
     Alike,
-    /// It is neither.
+    /// The plan is neither.
     Wrong,
 }
 

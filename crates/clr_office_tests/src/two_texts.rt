@@ -24,7 +24,7 @@ const REPLACED: &str = r#",{"t":"node","k":9,"v":["valve"],"s":[5,5]}],
 "workspaces":[{"name":"W1","parent":"LIVE","rows":[{"t":"node","k":9,"gone":true},
 {"t":"node","k":10,"v":["valve"],"s":[5,5]}]}]}"#;
 
-/// The same node, and W1, which is kept and deletes it.
+/// The node of LIVE, and W1, which is kept and deletes it.
 const DELETED: &str = r#",{"t":"node","k":9,"v":["valve"],"s":[5,5]}],
 "workspaces":[{"name":"W1","parent":"LIVE","kept":true,"rows":[{"t":"node","k":9,"gone":true}]}]}"#;
 

@@ -3,16 +3,16 @@
 ghost use Rattle.std.specs.Prelude.{◌≡◌};
 ghost use Rattle.serde_json.specs.Find.{get};
 ghost use Rattle.clr_readings.specs.Readings.{Gives};
-ghost use Rattle.clr_rule_text.specs.Fields.{each, text_lacks_memory};
+ghost use Rattle.clr_rule_text.specs.Fields.{text_lacks_memory};
 ghost use Rattle.clr_rule_text.specs.Seen.{items_seen};
 ghost use Rattle.clr_office_text.specs.Cells.{has_paths as table_has_paths, live_rows_of, named_row_of, place_of, places_of, row_of};
 ghost use Rattle.clr_office_text.specs.Cells.{shape_of, shape_with as shape_in, values_of, without_flag};
-ghost use Rattle.clr_rule_text.specs.Values.{value_of};
 
-use clr_rows::{Form, Place, Row, Schema, Shape, Value, Values, Vertices, Words};
+use clr_rows::{Form, Place, Row, Schema, Shape, Values, Vertices, Words};
 use clr_rule_text::TextFault;
 use clr_rule_text::fields::{list_in, number, number_in, words_in};
 use clr_rule_text::json_values::JsonValue;
+use clr_rule_text::lists::read_items;
 pub use clr_rule_text::values::value;
 use std::alloc::Global;
 
@@ -22,17 +22,6 @@ pub struct NamedRow {
     pub table: Words,
     pub key: i64,
     pub row: Row,
-}
-
-fn each_value<J: JsonValue>(alloc: Global, items: &[J]) -> Result<Vec<Value>, TextFault>
-    ensures { Gives text_lacks_memory (λ v. v.items) result (each value_of (items_seen J.stands_for items.now)) }
-{
-    let mut values = Vec::with_capacity(alloc, items.len())?;
-    for item in items {
-        let one = value(alloc, item)?;
-        values.push(one)?;
-    }
-    Ok(values)
 }
 
 #[tactic(auto, unfolding(crate::specs::Cells::place_of))]
@@ -81,7 +70,7 @@ fn shape_with(is_path: bool, places: Vec<Place>) -> Result<Shape, TextFault>
 fn values<J: JsonValue>(alloc: Global, json: &J) -> Result<Values, TextFault>
     ensures { Gives text_lacks_memory (λ v. v) result (values_of (J.stands_for json.now)) }
 {
-    let list = each_value(alloc, list_in(json, "v")?)?;
+    let list = read_items(alloc, list_in(json, "v")?, |item| value(alloc, item))?;
     Ok(Values::new(list))
 }
 
@@ -148,21 +137,6 @@ pub fn named_row<J: JsonValue>(
     Ok(NamedRow { table, key, row })
 }
 
-fn each_named_row<J: JsonValue>(
-    alloc: Global,
-    items: &[J],
-    schema: &Schema,
-) -> Result<Vec<NamedRow>, TextFault>
-    ensures { Gives text_lacks_memory (λ v. v.items) result (each (named_row_of schema.now) (items_seen J.stands_for items.now)) }
-{
-    let mut rows = Vec::new(alloc);
-    for item in items {
-        let one = named_row(alloc, item, schema)?;
-        rows.push(one)?;
-    }
-    Ok(rows)
-}
-
 /// Returns the rows of LIVE in an office text, each with its table's name. Fails with `BadField`
 /// where a key is missing, a value is none of those that may stand there, or a cell has no row.
 #[tactic(auto, unfolding(crate::specs::Cells::live_rows_of))]
@@ -173,5 +147,7 @@ pub fn live_rows<J: JsonValue>(
 ) -> Result<Vec<NamedRow>, TextFault>
     ensures { Gives text_lacks_memory (λ v. v.items) result (live_rows_of schema.now (J.stands_for json.now)) }
 {
-    each_named_row(alloc, list_in(json, "live")?, schema)
+    read_items(alloc, list_in(json, "live")?, |item| {
+        named_row(alloc, item, schema)
+    })
 }

@@ -2,8 +2,7 @@
 
 ghost use Rattle.std.specs.Prelude.{◌≡◌};
 ghost use Rattle.clr_readings.specs.Readings.{Gives};
-ghost use Rattle.clr_rule_text.specs.Fields.{each, text_lacks_memory};
-ghost use Rattle.clr_rule_text.specs.Seen.{items_seen};
+ghost use Rattle.clr_rule_text.specs.Fields.{text_lacks_memory};
 ghost use Rattle.clr_office_text.specs.Patches.{named_cell_of, named_cells_at, row_unless_gone as row_meant};
 
 use crate::cells::{has_paths, row};
@@ -11,6 +10,7 @@ use clr_rows::{List, Row, Schema, Words};
 use clr_rule_text::TextFault;
 use clr_rule_text::fields::{number_in, optional_flag, optional_list, words_in};
 use clr_rule_text::json_values::JsonValue;
+use clr_rule_text::lists::read_items;
 use std::alloc::Global;
 
 /// A cell that is put over a content, with the row that stands there then, or none. The name of its
@@ -57,21 +57,6 @@ pub fn named_cell<J: JsonValue>(
     Ok(NamedCell { table, key, row })
 }
 
-fn each_named_cell<J: JsonValue>(
-    alloc: Global,
-    items: &[J],
-    schema: &Schema,
-) -> Result<Vec<NamedCell>, TextFault>
-    ensures { Gives text_lacks_memory (λ v. v.items) result (each (named_cell_of schema.now) (items_seen J.stands_for items.now)) }
-{
-    let mut cells = Vec::new(alloc);
-    for item in items {
-        let one = named_cell(alloc, item, schema)?;
-        cells.push(one)?;
-    }
-    Ok(cells)
-}
-
 /// Returns the cells at a key that are put over a content; a missing list is empty. Fails with
 /// `BadField` where a key is missing in a cell, or a value is none of those that may stand there.
 #[tactic(auto, unfolding(crate::specs::Patches::named_cells_at))]
@@ -83,6 +68,10 @@ pub fn named_cells<J: JsonValue>(
 ) -> Result<NamedCells, TextFault>
     ensures { Gives text_lacks_memory (λ v. v) result (named_cells_at key.now schema.now (J.stands_for json.now)) }
 {
-    let list = each_named_cell(alloc, optional_list(json, key)?, schema)?;
+    let list = read_items(
+        alloc,
+        optional_list(json, key)?,
+        |item| named_cell(alloc, item, schema),
+    )?;
     Ok(NamedCells::new(list))
 }

@@ -2,8 +2,7 @@
 
 ghost use Rattle.std.specs.Prelude.{◌≡◌};
 ghost use Rattle.clr_readings.specs.Readings.{Gives};
-ghost use Rattle.clr_rule_text.specs.Fields.{each, each_in, text_lacks_memory};
-ghost use Rattle.clr_rule_text.specs.Seen.{items_seen};
+ghost use Rattle.clr_rule_text.specs.Fields.{text_lacks_memory};
 ghost use Rattle.clr_office_text.specs.Workspaces.{mark_over, marks_of, named_mark_of, named_marks_of, saved_of};
 
 use crate::named_cells::{NamedCells, named_cells};
@@ -13,6 +12,7 @@ use clr_rows::{Schema, Words};
 use clr_rule_text::TextFault;
 use clr_rule_text::fields::{optional_list, words, words_from, words_in};
 use clr_rule_text::json_values::JsonValue;
+use clr_rule_text::lists::{make_each, read_items};
 use std::alloc::Global;
 
 /// A mark as it is written: that of a child, or a savepoint with the cells that are put over the
@@ -52,21 +52,6 @@ pub fn named_mark<J: JsonValue>(
     }
 }
 
-fn each_named_mark<J: JsonValue>(
-    alloc: Global,
-    items: &[J],
-    schema: &Schema,
-) -> Result<Vec<NamedMark>, TextFault>
-    ensures { Gives text_lacks_memory (λ v. v.items) result (each (named_mark_of schema.now) (items_seen J.stands_for items.now)) }
-{
-    let mut marks = Vec::new(alloc);
-    for item in items {
-        let one = named_mark(alloc, item, schema)?;
-        marks.push(one)?;
-    }
-    Ok(marks)
-}
-
 #[tactic(auto, unfolding(crate::specs::Workspaces::named_marks_of))]
 fn named_marks<J: JsonValue>(
     alloc: Global,
@@ -75,7 +60,9 @@ fn named_marks<J: JsonValue>(
 ) -> Result<Vec<NamedMark>, TextFault>
     ensures { Gives text_lacks_memory (λ v. v.items) result (named_marks_of schema.now (J.stands_for json.now)) }
 {
-    each_named_mark(alloc, optional_list(json, "marks")?, schema)
+    read_items(alloc, optional_list(json, "marks")?, |item| {
+        named_mark(alloc, item, schema)
+    })
 }
 
 /// Returns a mark of a workspace. The cells of a savepoint fail as `differences` does.
@@ -90,21 +77,6 @@ pub fn mark(alloc: Global, schema: &Schema, named: NamedMark) -> Result<StoredMa
     }
 }
 
-fn each_mark(
-    alloc: Global,
-    schema: &Schema,
-    named: Vec<NamedMark>,
-) -> Result<Vec<StoredMark>, TextFault>
-    ensures { Gives text_lacks_memory (λ v. v.items) result (each_in (mark_over schema.now) named.items) }
-{
-    let mut marks = Vec::new(alloc);
-    for item in named {
-        let one = mark(alloc, schema, item)?;
-        marks.push(one)?;
-    }
-    Ok(marks)
-}
-
 /// Returns the marks of a workspace, savepoints by their differences from the base; a missing list
 /// is empty. Fails with `BadField` where a key is missing in one of the marks, or a value is none
 /// of those that may stand there, and then, mark by mark, as the cells of a savepoint do.
@@ -116,5 +88,7 @@ pub fn marks<J: JsonValue>(
 ) -> Result<Vec<StoredMark>, TextFault>
     ensures { Gives text_lacks_memory (λ v. v.items) result (marks_of schema.now (J.stands_for json.now)) }
 {
-    each_mark(alloc, schema, named_marks(alloc, json, schema)?)
+    make_each(alloc, named_marks(alloc, json, schema)?, |item| {
+        mark(alloc, schema, item)
+    })
 }

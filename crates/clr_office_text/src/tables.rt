@@ -2,7 +2,7 @@
 
 ghost use Rattle.std.specs.Prelude.{◌≡◌};
 ghost use Rattle.clr_readings.specs.Readings.{Gives};
-ghost use Rattle.clr_rule_text.specs.Fields.{each, text_lacks_memory};
+ghost use Rattle.clr_rule_text.specs.Fields.{text_lacks_memory};
 ghost use Rattle.clr_rule_text.specs.Seen.{items_seen};
 ghost use Rattle.clr_office_text.specs.Tables.{column_of, columns_of, form_of, kind_of, pair_of, path_in, table_of, tables_of};
 
@@ -11,6 +11,7 @@ use clr_rows::{Columns, Form, Kind, TableDef, Words};
 use clr_rule_text::TextFault;
 use clr_rule_text::fields::{field, list, list_in, words, words_from, words_in};
 use clr_rule_text::json_values::JsonValue;
+use clr_rule_text::lists::read_items;
 use std::alloc::Global;
 
 fn kind<J: JsonValue>(json: &J) -> Result<Kind, TextFault>
@@ -65,22 +66,11 @@ fn column<J: JsonValue>(alloc: Global, json: &J) -> Result<(Words, Kind), TextFa
     pair(alloc, list(json)?)
 }
 
-fn each_column<J: JsonValue>(alloc: Global, items: &[J]) -> Result<Vec<(Words, Kind)>, TextFault>
-    ensures { Gives text_lacks_memory (λ v. v.items) result (each column_of (items_seen J.stands_for items.now)) }
-{
-    let mut columns = Vec::new(alloc);
-    for item in items {
-        let one = column(alloc, item)?;
-        columns.push(one)?;
-    }
-    Ok(columns)
-}
-
 #[tactic(auto, unfolding(crate::specs::Tables::columns_of))]
 fn columns<J: JsonValue>(alloc: Global, json: &J) -> Result<Columns, TextFault>
     ensures { Gives text_lacks_memory (λ c. c) result (columns_of (J.stands_for json.now)) }
 {
-    let list = each_column(alloc, list_in(json, "columns")?)?;
+    let list = read_items(alloc, list_in(json, "columns")?, |item| column(alloc, item))?;
     Ok(Columns::new(list))
 }
 
@@ -100,21 +90,6 @@ pub fn table<J: JsonValue>(alloc: Global, json: &J, format: Format) -> Result<Ta
     })
 }
 
-fn each_table<J: JsonValue>(
-    alloc: Global,
-    items: &[J],
-    format: Format,
-) -> Result<Vec<TableDef>, TextFault>
-    ensures { Gives text_lacks_memory (λ v. v.items) result (each (table_of format) (items_seen J.stands_for items.now)) }
-{
-    let mut tables = Vec::new(alloc);
-    for item in items {
-        let one = table(alloc, item, format)?;
-        tables.push(one)?;
-    }
-    Ok(tables)
-}
-
 /// Returns the tables of an office text. Fails with `BadField` where a key is missing, or a value
 /// is none of those that may stand there.
 #[tactic(auto, unfolding(crate::specs::Tables::tables_of))]
@@ -125,5 +100,7 @@ pub fn tables<J: JsonValue>(
 ) -> Result<Vec<TableDef>, TextFault>
     ensures { Gives text_lacks_memory (λ v. v.items) result (tables_of format (J.stands_for json.now)) }
 {
-    each_table(alloc, list_in(json, "tables")?, format)
+    read_items(alloc, list_in(json, "tables")?, |item| {
+        table(alloc, item, format)
+    })
 }

@@ -22,7 +22,7 @@ use Rattle.clr_steps.specs.Invariants.{WorkspaceFits}
 use Rattle.clr_office_text.specs.Fits.{FitsDifferences, FitsDelta, FitsMark}
 use Rattle.clr_office_text.specs.Patches.{put_fault}
 
--- they fit -----------------------------------------------------------------------------------
+-- the differences of two contents fit the schema ---------------------------------------------
 
 module _ (tables : List TableDef) (below content : Content) (q : CellId) where
   gone_fits : (before : Option Row) → row_at below q ≡ before → not (same before None) ≡ true → FitsSchema tables below → cell_fault tables q ≡ None
@@ -71,7 +71,7 @@ delta_fits tables above w from fits = record {
   marks = marks_fit tables w.base w.marks fits.base fits.saved;
 }
 
--- they make the one of the other -------------------------------------------------------------
+-- the differences make one content of the other ----------------------------------------------
 
 made : (below content : Content) → seen_over below (differences_from below content) ≡ content
 unfolding seen_over

@@ -96,10 +96,10 @@ module _ (c : Setting ℕ) (group : ℕ) (needs read : List Need) (same : read �
       every (inl h) = (are x).1 (inl h)
       every (inr (is, t)) = (are x).1 (inr (is, all_taken read k x.need past (subst (λ ns. Contains ns x.need) (sym same) ((touched.exactly x.need).1 t))))
 
--- ---- those of all scenes
+-- ---- the needs of all scenes
 
 module _ {F : Type 0} (models : List (SceneModel F)) where
-  -- those of the groups before a position
+  -- a need that is touched in a group before a position
   abbrev pub IsTouchedBefore : ℕ → GroupNeed → Type 0
   IsTouchedBefore k x = (x.group < k) × IsTouchedIn models x
 

@@ -13,7 +13,7 @@ use std::alloc::{AllocError, Global};
 /// What becomes of a row.
 #[derive(Clone, Copy)]
 pub(crate) enum What {
-    /// It stands in the root, and no design changes it.
+    /// The row stands in the root, and no design changes it.
     Stands,
     /// A design adds it.
     Added,

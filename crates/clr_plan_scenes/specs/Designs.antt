@@ -23,7 +23,7 @@ is_among positions at = list_any (λ other. other == at) positions
 abbrev pub follower : List ℕ → ℕ → List ℕ
 follower leaders at = if is_among leaders at then [] else at ∷ []
 
--- those of the first so many positions that don't lead
+-- of the first so many positions, those that don't lead
 unfoldable pub followers : List ℕ → ℕ → List ℕ
 followers leaders count = flat_map (follower leaders) (range_with_len 0 count)
 

@@ -72,7 +72,7 @@ changes_among o need subjects member changes = map (server_change o need subject
 abbrev pub changes_of_member : Office → Need → Subjects → ℕ × Changes → List ServerChange
 changes_of_member o need subjects e = changes_among o need subjects e.0 (finite.entries e.1)
 
--- the same of all members, in their order, and none where a subject doesn't stand
+-- the changes of servers by all members, in their order, and none where a subject doesn't stand
 abbrev pub changes_by : Office → Need → List Changes → Option Subjects → List ServerChange
 changes_by o need sets None = []
 changes_by o need sets (Some subjects) = flat_map (changes_of_member o need subjects) (enumerate_from 0 sets)

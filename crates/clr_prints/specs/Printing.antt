@@ -22,7 +22,7 @@ pub record Printout : Type 0 where
   pub notes : List ℕ
   pub status : ℕ
 
--- or why nothing is printed
+-- what is printed, or why nothing is
 abbrev pub PrintoutOrFault : Type 0
 PrintoutOrFault = Result Printout RunFault
 
@@ -60,7 +60,7 @@ pub data IsPrintoutIn (IsPrint : Office → PrintoutOrFault → Type 0) (given :
   of_office : (o : Office) → given ≡ Ok o → unheld_in o ≡ None → IsPrint o print → IsPrintoutIn IsPrint given print
   of_fault : (lines : Lines) → IsLinesIn IsNoPrint given lines → print ≡ as_notes lines → IsPrintoutIn IsPrint given print
 
--- the same of an office text and a certificate's text
+-- what is printed for an office text and a certificate's text
 pub data IsPrintoutOfCase (IsPrint : Office → Certificate → PrintoutOrFault → Type 0) (given : Case) (print : PrintoutOrFault) : Type 0 where
   of_case : (o : Office) (c : Certificate) → given ≡ Ok (o, c) → IsPrint o c print → IsPrintoutOfCase IsPrint given print
   of_why : (why : CaseFault) → given ≡ Err why → print ≡ as_notes (fault_print why) → IsPrintoutOfCase IsPrint given print

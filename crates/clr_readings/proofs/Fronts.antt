@@ -15,7 +15,7 @@ pub regroup : {A E : Type 0} (front : List A) (a : A) (read : Result (List A) E)
 regroup front a (Ok others) = ap (λ ys. Ok ys) (sym (append_assoc front (a ∷ []) others))
 regroup front a (Err e) = refl
 
--- the same where one more is read first
+-- the items read behind a front and one more item are those behind the front, where the item is read first
 pub regroup_after : {A E : Type 0} (front : List A) (one : Result A E) (others : Result (List A) E)
     → with_front front (one >>= λ x. others >>= λ xs. Ok (x ∷ xs)) ≡ one >>= λ x. with_front (front ++ x ∷ []) others
 regroup_after front (Ok x) others = regroup front x others

@@ -63,7 +63,7 @@ IsFaultAs Step tables rows at e = (edits_left (take at rows) 0 ≡ 0) × IsFirst
 IsFaultAs Edit tables rows at e = (0 < edits_left (take at rows) 0) × IsFirstFault (script_reading tables) rows at e
 IsFaultAs ShortApply tables rows at e = (e ≡ FieldCount) × IsShortApply tables rows at
 
--- the same of the record of a number of a text, or that the text has no records
+-- the fault of the record of a given number in a script's text, or that the text has no records
 abbrev pub IsFaultOfScript : List TableDef → Option (List RecordFields) → Role → ℕ → RecordFault → Type 0
 IsFaultOfScript tables None role number e = (role ≡ Text) × (number ≡ 1) × (e ≡ NotCsv)
 IsFaultOfScript tables (Some rows) role number e = (at : ℕ) × (number ≡ at + 1) × IsFaultAs role tables rows at e

@@ -9,7 +9,7 @@ use csv::StringRecord;
 /// What a record of a script is read as.
 #[derive(Clone, Copy, Debug, PartialEq, Eq)]
 pub enum Role {
-    /// It is no record: the bytes of the text aren't UTF-8.
+    /// No record: the bytes of the text aren't UTF-8.
     Text,
     /// A step of its own, which may be an `apply`.
     Step,

@@ -27,14 +27,14 @@ first_fault : {X A E : Type 0} (f : ℕ → X → Result A E) (e : E) (front : L
     → with_front front (in_turn f (n + i) (drop i xs)) ≡ total → total ≡ Err e
 first_fault f e front n xs i x total lt is h so_far = sym so_far ∙ rw (next f n xs i x lt is, h) refl
 
--- the same as a call answers it
+-- where an item fails, items read in turn stop with its fault, as a call answers it
 pub stops : {X A E : Type 0} (lacks_memory : E → Bool) (f : ℕ → X → Result A E) (e : E) (front : List A) (n : ℕ) (xs : List X) (i : ℕ) (x : X)
     (total : Result (List A) E) → i < length xs → x ≡ get_or xs i x → Fails lacks_memory e (f (n + i) x)
     → with_front front (in_turn f (n + i) (drop i xs)) ≡ total → Fails lacks_memory e total
 stops lacks_memory f e front n xs i x total lt is failed so_far =
     passes lacks_memory e (f (n + i) x) total (λ h. first_fault f e front n xs i x total lt is h so_far) failed
 
--- the same where the faults of items are then numbered
+-- where an item fails, items read in turn stop with its fault and its number
 pub stops_numbered : {X A E : Type 0} (lacks_memory : E → Bool) (f : X → Result A E) (e : E) (front : List A) (n : ℕ) (xs : List X) (i : ℕ) (x : X)
     (total : Result (List A) (ℕ × E)) → i < length xs → x ≡ get_or xs i x → Fails lacks_memory e (f x)
     → with_front front (in_turn (λ m y. at_record m (f y)) (n + i) (drop i xs)) ≡ total

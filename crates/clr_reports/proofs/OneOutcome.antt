@@ -65,7 +65,7 @@ module _ (o : Office) (s : MergeSet) where
   not_unfit v (of_member is) none apart = not_both (member_fault o s) v none is
   not_unfit v (of_cell cell i j none_before shared is) none apart = not_apart (change_sets o s) cell i j shared (apart cell)
 
-  -- it is the verdict on a certificate without entries
+  -- a verdict that says why a merge set is unfit is the one on a certificate without entries
   unfit_verdict : (v : Verdict) → IsUnfitFor o s v → IsVerdict o s [] v
   unfit_verdict v (of_member is) = verdicts.of_member is
   unfit_verdict v (of_cell cell i j none shared is) = verdicts.of_cell cell i j none shared is

@@ -48,7 +48,7 @@ with_settled rows cell = record {
   pending = finite.remove rows.pending cell;
 }
 
--- or dropped
+-- what is pending for a cell is dropped
 abbrev pub without_pending : FiledRows → CellId → FiledRows
 without_pending rows cell = record { settled = rows.settled; pending = finite.remove rows.pending cell }
 

@@ -115,7 +115,7 @@ module _ (tables : List TableDef) (i : ℕ) (table : TableDef) (sound : schema_f
   pub table_of_name : table_named tables table.name ≡ Some i
   table_of_name = position_at _ tables i table is (position_by_name (λ t. t.name) tables i table (names tables sound).1 is)
 
--- and so has each of its columns, and is
+-- each column of a table has a good name, and it is the first column of this name
 module _ (tables : List TableDef) (i j : ℕ) (table : TableDef) (column : List ℕ × Kind) (sound : schema_fault tables ≡ None)
     (is : slice_get tables i ≡ Some table) (at : slice_get table.columns j ≡ Some column) where
   pub good_column_name : is_column_name column.0 ≡ true

@@ -28,7 +28,7 @@ with_none cells = map (λ cell. (cell, None)) cells
 abbrev pub with_placeholders : List CellId → List (CellId × Option Row)
 with_placeholders cells = map (λ cell. (cell, Some placeholder)) cells
 
--- these rows at their cells
+-- rows at their cells, each as one that stands
 abbrev pub with_rows : List (CellId × Row) → List (CellId × Option Row)
 with_rows entries = map (λ e. (e.0, Some e.1)) entries
 
@@ -36,6 +36,6 @@ with_rows entries = map (λ e. (e.0, Some e.1)) entries
 abbrev pub named_cells : List (CellId × Option Row) → List CellId
 named_cells rows = map (λ e. e.0) rows
 
--- those of some cells that have no row
+-- of some cells, those that have no row
 abbrev pub cells_without_rows : Content → List CellId → List CellId
 cells_without_rows content cells = filter (λ cell. not (is_some (row_at content cell))) cells

@@ -1,10 +1,12 @@
 -- Reading a list element by element: those read before, and then the others.
-use Rattle.std.proofs.Common.{◌≡◌, ℕ, ◌+◌, ◌≤◌, ◌<◌, List, [], ◌∷◌, ◌++◌, length, get_or, drop, Result, Ok, refl, sym, ap, ◌∙◌, add-one}
+use Rattle.std.proofs.Common.{◌≡◌, ℕ, ◌+◌, ◌<◌, List, [], ◌∷◌, ◌++◌, length, get_or, drop, Result, Ok, refl, sym, ap, ◌∙◌, add-one}
 use Rattle.std.proofs.Math.Seq.{drop-cons}
-use Rattle.std.proofs.lemmas.List.{append-nil, drop_all}
+use Rattle.std.proofs.lemmas.List.{append-nil}
+use Rattle.serde_json.specs.Data.{Data}
 use Rattle.clr_readings.specs.Readings.{◌>>=◌, Fails}
 use Rattle.clr_rule_text.specs.declared.faults.TextFault.{TextFault}
-use Rattle.clr_rule_text.specs.Fields.{each_in, text_lacks_memory}
+use Rattle.clr_rule_text.specs.Fields.{each, each_in, text_lacks_memory}
+use Rattle.clr_rule_text.specs.Seen.{items_seen}
 use Rattle.clr_readings.proofs.FaultTurns.{fails_with}
 use Rattle.clr_readings.proofs.Fronts.{regroup_after, with_front}
 
@@ -28,20 +30,12 @@ pub is_done : {X A : Type 0} (f : X → Result A TextFault) (front : List A) (wh
 unfolding each_in
 is_done f front whole so_far = sym so_far ∙ ap (λ ys. Ok ys) (append-nil front)
 
--- the same, of what is left from a position on
-from_position : {X : Type 0} (xs : List X) (i : ℕ) (x : X) → i < length xs → x ≡ get_or xs i x → drop i xs ≡ x ∷ drop (i + 1) xs
+-- what is left from a position on
+pub from_position : {X : Type 0} (xs : List X) (i : ℕ) (x : X) → i < length xs → x ≡ get_or xs i x → drop i xs ≡ x ∷ drop (i + 1) xs
 from_position xs i x lt is = rw (add-one i, drop-cons xs i x) (rw (← is) refl)
 
-pub goes_on_at : {X A : Type 0} (f : X → Result A TextFault) (front : List A) (xs : List X) (i : ℕ) (x : X) (y : A) (whole : Result (List A) TextFault)
-    → i < length xs → x ≡ get_or xs i x → f x ≡ Ok y
-    → with_front front (each_in f (drop i xs)) ≡ whole → with_front (front ++ y ∷ []) (each_in f (drop (i + 1) xs)) ≡ whole
-goes_on_at f front xs i x y whole lt is was so_far = goes_on f front x (drop (i + 1) xs) y whole was (rw (from_position xs i x lt is) at so_far)
-
-pub ends_at : {X A : Type 0} (f : X → Result A TextFault) (e : TextFault) (front : List A) (xs : List X) (i : ℕ) (x : X) (whole : Result (List A) TextFault)
-    → i < length xs → x ≡ get_or xs i x → Fails text_lacks_memory e (f x)
-    → with_front front (each_in f (drop i xs)) ≡ whole → Fails text_lacks_memory e whole
-ends_at f e front xs i x whole lt is failed so_far = ends f e front x (drop (i + 1) xs) whole failed (rw (from_position xs i x lt is) at so_far)
-
-pub is_done_at : {X A : Type 0} (f : X → Result A TextFault) (front : List A) (xs : List X) (i : ℕ) (whole : Result (List A) TextFault) → length xs ≤ i
-    → with_front front (each_in f (drop i xs)) ≡ whole → whole ≡ Ok front
-is_done_at f front xs i whole le so_far = is_done f front whole (rw (drop_all i xs le) at so_far)
+-- f of the items that values stand for is f of what each stands for
+pub each_seen : {A J : Type 0} (view : J → Data) (f : Data → Result A TextFault) (vs : List J) → each f (items_seen view vs) ≡ each_in (λ v. f (view v)) vs
+unfolding each each_in
+each_seen view f [] = refl
+each_seen view f (v ∷ vs) = rw (each_seen view f vs) refl

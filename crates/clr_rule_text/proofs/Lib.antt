@@ -1,3 +1,2 @@
 pub mod EachIn
-pub mod EachItem
 pub mod JsonSeen

@@ -1,4 +1,5 @@
 pub mod Fields
+pub mod Lists
 pub mod Rules
 pub mod Seen
 pub mod Values

@@ -5,6 +5,7 @@
 //!   whose texts stand in the text that it was read from.
 //! - `read_value`: the value of a text, over that text, as `serde_json` reads it, or NotJson.
 //! - `fields`, `values`: what stands at a key of a JSON value, or `BadField`.
+//! - `lists`: what a call reads of each element of a list, or its first fault.
 //! - `named_rules`, `named_sides`: rules as they are written, with names of tables and columns.
 //! - `read_rules` [`value`, `fits`]: the book of the rules over a schema, or the first fault. Each
 //!   rule is read for BadField before any is looked up in the schema.
@@ -14,6 +15,7 @@ pub mod borrowed;
 mod faults;
 pub mod fields;
 pub mod json_values;
+pub mod lists;
 pub mod named_rules;
 pub mod named_sides;
 mod numbers;

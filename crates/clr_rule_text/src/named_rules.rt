@@ -2,14 +2,14 @@
 
 ghost use Rattle.std.specs.Prelude.{◌≡◌};
 ghost use Rattle.clr_readings.specs.Readings.{Gives};
-ghost use Rattle.clr_rule_text.specs.Fields.{each, text_lacks_memory};
-ghost use Rattle.clr_rule_text.specs.Seen.{items_seen};
+ghost use Rattle.clr_rule_text.specs.Fields.{text_lacks_memory};
 ghost use Rattle.clr_rule_text.specs.Rules.{crossing_of, end_node_of, named_rule_of, named_rules_of, near_of, partner_of};
 ghost use Rattle.clr_rule_text.specs.Rules.{rule_of_kind as meant_by, tip_of, unique_of};
 
 use crate::faults::TextFault;
 use crate::fields::{number_in, optional_list, text_in};
 use crate::json_values::JsonValue;
+use crate::lists::read_items;
 use crate::named_sides::{ColumnNames, NamedSide, names_in, side_in};
 use clr_rules::Tip;
 use std::alloc::Global;
@@ -136,22 +136,13 @@ pub fn named_rule<J: JsonValue>(alloc: Global, json: &J) -> Result<NamedRule, Te
     rule_of_kind(alloc, text_in(json, "kind")?, json)
 }
 
-fn each_named_rule<J: JsonValue>(alloc: Global, items: &[J]) -> Result<Vec<NamedRule>, TextFault>
-    ensures { Gives text_lacks_memory (λ v. v.items) result (each named_rule_of (items_seen J.stands_for items.now)) }
-{
-    let mut rules = Vec::new(alloc);
-    for item in items {
-        let one = named_rule(alloc, item)?;
-        rules.push(one)?;
-    }
-    Ok(rules)
-}
-
 /// Returns the rules of an office text with their names; a missing list is empty. Fails with
 /// `BadField` where a key is missing, or a value is none of those that may stand there.
 #[tactic(auto, unfolding(crate::specs::Rules::named_rules_of))]
 pub fn named_rules<J: JsonValue>(alloc: Global, json: &J) -> Result<Vec<NamedRule>, TextFault>
     ensures { Gives text_lacks_memory (λ v. v.items) result (named_rules_of (J.stands_for json.now)) }
 {
-    each_named_rule(alloc, optional_list(json, "rules")?)
+    read_items(alloc, optional_list(json, "rules")?, |item| {
+        named_rule(alloc, item)
+    })
 }

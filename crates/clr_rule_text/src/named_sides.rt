@@ -2,13 +2,14 @@
 
 ghost use Rattle.std.specs.Prelude.{◌≡◌};
 ghost use Rattle.clr_readings.specs.Readings.{Gives};
-ghost use Rattle.clr_rule_text.specs.Fields.{each, text_lacks_memory, words_of};
+ghost use Rattle.clr_rule_text.specs.Fields.{text_lacks_memory};
 ghost use Rattle.clr_rule_text.specs.Seen.{items_seen};
 ghost use Rattle.clr_rule_text.specs.Rules.{filter_of, literal_of, literal_pair, list_of_words_at, side_at, side_of};
 
 use crate::faults::TextFault;
 use crate::fields::{field, list, list_in, optional_list, words, words_from, words_in};
 use crate::json_values::JsonValue;
+use crate::lists::read_items;
 use crate::values::value;
 use clr_rows::{List, Value, Words};
 use std::alloc::Global;
@@ -46,22 +47,13 @@ fn literal<J: JsonValue>(alloc: Global, json: &J) -> Result<(Words, Value), Text
     literal_of_pair(alloc, list(json)?)
 }
 
-fn each_literal<J: JsonValue>(alloc: Global, items: &[J]) -> Result<Vec<(Words, Value)>, TextFault>
-    ensures { Gives text_lacks_memory (λ v. v.items) result (each literal_of (items_seen J.stands_for items.now)) }
-{
-    let mut literals = Vec::new(alloc);
-    for item in items {
-        let one = literal(alloc, item)?;
-        literals.push(one)?;
-    }
-    Ok(literals)
-}
-
 #[tactic(auto, unfolding(crate::specs::Rules::filter_of))]
 fn filter<J: JsonValue>(alloc: Global, json: &J) -> Result<NamedFilter, TextFault>
     ensures { Gives text_lacks_memory (λ f. f) result (filter_of (J.stands_for json.now)) }
 {
-    let list = each_literal(alloc, optional_list(json, "where")?)?;
+    let list = read_items(alloc, optional_list(json, "where")?, |item| {
+        literal(alloc, item)
+    })?;
     Ok(NamedFilter::new(list))
 }
 
@@ -82,28 +74,13 @@ pub fn side_in<J: JsonValue>(alloc: Global, json: &J, key: &str) -> Result<Named
     side(alloc, field(json, key)?)
 }
 
-fn name<J: JsonValue>(alloc: Global, json: &J) -> Result<Words, TextFault>
-    ensures { Gives text_lacks_memory (λ w. w) result (words_of (J.stands_for json.now)) }
-{
-    words_from(alloc, words(json)?)
-}
-
-fn each_name<J: JsonValue>(alloc: Global, items: &[J]) -> Result<Vec<Words>, TextFault>
-    ensures { Gives text_lacks_memory (λ v. v.items) result (each words_of (items_seen J.stands_for items.now)) }
-{
-    let mut names = Vec::new(alloc);
-    for item in items {
-        let one = name(alloc, item)?;
-        names.push(one)?;
-    }
-    Ok(names)
-}
-
 /// Returns the list of names at a key. Fails with `BadField` where there is none.
 #[tactic(auto, unfolding(crate::specs::Rules::list_of_words_at))]
 pub fn names_in<J: JsonValue>(alloc: Global, json: &J, key: &str) -> Result<ColumnNames, TextFault>
     ensures { Gives text_lacks_memory (λ v. v) result (list_of_words_at key.now (J.stands_for json.now)) }
 {
-    let list = each_name(alloc, list_in(json, key)?)?;
+    let list = read_items(alloc, list_in(json, key)?, |item| {
+        words_from(alloc, words(item)?)
+    })?;
     Ok(ColumnNames::new(list))
 }

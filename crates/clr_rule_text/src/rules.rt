@@ -4,11 +4,12 @@ ghost use Rattle.std.specs.Prelude.{◌≡◌, IfOk};
 ghost use Rattle.clr_rules.specs.Books.{FitsBook};
 ghost use Rattle.clr_readings.specs.Readings.{Gives};
 ghost use Rattle.clr_rule_text.specs.Fields.{each_in, text_lacks_memory};
-ghost use Rattle.clr_rule_text.specs.Rules.{column_number as number_meant, column_over, columns_over, crossing_over, end_node_over, filter_over};
+ghost use Rattle.clr_rule_text.specs.Rules.{column_number as number_meant, column_over, columns_over, crossing_over, end_node_over};
 ghost use Rattle.clr_rule_text.specs.Rules.{literal_over, near_over, partner_over, rule_over, rules_of, side_over, unique_over};
 
 use crate::faults::TextFault;
 use crate::json_values::JsonValue;
+use crate::lists::{make_each, read_each};
 use crate::named_rules::{NamedRule, named_rules};
 use crate::named_sides::{ColumnNames, NamedSide};
 use clr_rows::{KEY, Schema, Value, Words};
@@ -31,22 +32,6 @@ fn literal(schema: &Schema, table: u16, named: (Words, Value)) -> Result<(u16, V
     Ok((number, named.1))
 }
 
-fn each_literal(
-    alloc: Global,
-    schema: &Schema,
-    table: u16,
-    named: Vec<(Words, Value)>,
-) -> Result<Vec<(u16, Value)>, TextFault>
-    ensures { Gives text_lacks_memory (λ v. v.items) result (filter_over schema.now table named.items) }
-{
-    let mut literals = Vec::new(alloc);
-    for item in named {
-        let one = literal(schema, table, item)?;
-        literals.push(one)?;
-    }
-    Ok(literals)
-}
-
 #[tactic(auto, unfolding(crate::specs::Rules::side_over))]
 fn side(alloc: Global, schema: &Schema, named: NamedSide) -> Result<Side, TextFault>
     ensures { Gives text_lacks_memory (λ s. s) result (side_over schema.now named) }
@@ -54,7 +39,9 @@ fn side(alloc: Global, schema: &Schema, named: NamedSide) -> Result<Side, TextFa
     let Some(table) = schema.table(named.table.as_str()) else {
         return Err(TextFault::BadRule);
     };
-    let literals = each_literal(alloc, schema, table, named.filter.into_vec())?;
+    let literals = make_each(alloc, named.filter.into_vec(), |item| {
+        literal(schema, table, item)
+    })?;
     Ok(Side {
         table,
         filter: Filter::new(literals),
@@ -70,22 +57,6 @@ fn column(schema: &Schema, table: u16, name: &Words) -> Result<Col, TextFault>
     Ok(Col::At(column_number(schema, table, name)?))
 }
 
-fn each_column(
-    alloc: Global,
-    schema: &Schema,
-    table: u16,
-    names: &[Words],
-) -> Result<Vec<Col>, TextFault>
-    ensures { Gives text_lacks_memory (λ v. v.items) result (columns_over schema.now table names.now) }
-{
-    let mut columns = Vec::new(alloc);
-    for name in names {
-        let one = column(schema, table, name)?;
-        columns.push(one)?;
-    }
-    Ok(columns)
-}
-
 fn columns(
     alloc: Global,
     schema: &Schema,
@@ -94,7 +65,7 @@ fn columns(
 ) -> Result<ColumnList, TextFault>
     ensures { Gives text_lacks_memory (λ v. v) result (columns_over schema.now table names.now) }
 {
-    let list = each_column(alloc, schema, table, names.as_slice())?;
+    let list = read_each(alloc, names.as_slice(), |name| column(schema, table, name))?;
     Ok(ColumnList::new(list))
 }
 
@@ -216,12 +187,7 @@ pub fn each_rule(
 ) -> Result<Vec<Rule>, TextFault>
     ensures { Gives text_lacks_memory (λ v. v.items) result (each_in (rule_over schema.now) named.items) }
 {
-    let mut rules = Vec::new(alloc);
-    for item in named {
-        let one = rule(alloc, schema, item)?;
-        rules.push(one)?;
-    }
-    Ok(rules)
+    make_each(alloc, named, |item| rule(alloc, schema, item))
 }
 
 /// Returns the book of the rules of an office text; a missing list is empty. Fails with `BadField`

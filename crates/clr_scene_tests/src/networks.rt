@@ -16,7 +16,7 @@ pub(crate) const MAINS: &str = r#"{"format":3,"tables":[
 {"kind":"PARTNER","subject":{"table":"hydrant"},"columns":["main"],"server":{"table":"main"},"server_columns":["KEY"]}],
 "live":["#;
 
-/// The same, the mains being paths.
+/// The network with paths as its mains.
 pub(crate) const PATHS: &str = r#"{"format":3,"tables":[
 {"name":"node","columns":[["kind","TEXT"]],"shape":"POINT"},
 {"name":"main","columns":[["code","TEXT"]],"shape":"PATH"},

@@ -174,7 +174,7 @@ script_again tables name root edits is =
       steps_again tables name root edits is.sound fit is.few,
     ) refl
 
--- the same of the parts that are known where it is written
+-- a design's script is read as it was written, by what is known where it is written
 pub written_again : (tables : List TableDef) (name root : List ℕ) (edits : List Edit) (text : List ℕ) → text ≡ design_script tables name root edits
     → schema_fault tables ≡ None → IsUtf8 name → IsUtf8 root → length edits < 2 ^ 63 → All HasTexts edits → All (Fits tables) edits
     → script_in_text tables text ≡ Ok (design_steps name root edits)

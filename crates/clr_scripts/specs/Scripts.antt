@@ -83,7 +83,7 @@ removal_of word = if bytes_eq word (codes "keep") then Ok false else (if bytes_e
 abbrev pub merge_of : List (List ℕ) → Result Command RecordFault
 merge_of fields = with_count 3 fields (removal_of (field_of fields 2) >>= λ remove. Ok (Merge (field_of fields 1) remove))
 
--- whose row stands from now on
+-- the word that says whose row stands from now on
 abbrev pub keep_of : List ℕ → Result Keep RecordFault
 keep_of word =
     if bytes_eq word (codes "PARENT") then Ok Parent

@@ -136,7 +136,7 @@ meet_by_x Once a b c d line n h = (
 )
 meet_by_x Overlap a b c d line n h = two_from_common_x a b c d line n h
 
--- ---- and the y coordinates otherwise: the same with the axes exchanged
+-- ---- the y coordinates otherwise, by an exchange of the axes
 abbrev pub mirror_of : Place → Place
 mirror_of p = record { x = p.y; y = p.x }
 

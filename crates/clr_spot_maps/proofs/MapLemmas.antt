@@ -67,7 +67,7 @@ filed_next m xs e n x left (done, is, whole) = (
       ∙ whole,
 )
 
--- it is filed at the first of them
+-- an entry is filed at the first of some spots
 pub filed_some : (m : EntriesBySpot) (xs : List Spot) (e : FiledPart) (n : EntriesBySpot) (left : List Spot) → IsFiledTo m xs e n left → (k : ℕ)
     × (n ≡ filed_at_all m (take k xs) e)
 filed_some m xs e n left (done, is, whole) = (

@@ -112,7 +112,7 @@ part_listed (Line p q) (suc n) (Some a) x e h =
 part_listed (Chain vertices) (suc n) (Some a) x e h =
     listed_in_boxes x (box_between a.0 a.1) (boxes_in (Chain vertices)) (box_among (parts_of (Chain vertices)) n a e) h
 
--- so is the square of a point
+-- the squares that are listed for a point are those of the box of this point alone
 only_listed : (x y : Spot) → Listed x (y ∷ []) → x ≡ y
 only_listed x y h = elim (or_cases (same_spot x y) false h) [ inl same ↦ same_spot_is x y same | inr other ↦ absurd (false≢true other) ]
 
@@ -242,7 +242,7 @@ server_meets (Crossing a b server) ask s (Some t) r e f =
     (in_both _ _ _ _ have.0 both.0 met.0, in_both _ _ _ _ both.0 have.1 met.1)
 server_meets rule ask s t r e f = absurd (false≢true (and_parts (is_of (sides rule).server r) (suits rule ask s t r) f).1)
 
--- ---- so they share
+-- ---- rows that meet share a spot
 pub subjects_share : SubjectsShare
 subjects_share rule ask s None k e = tt
 subjects_share rule ask s (Some t) k e =

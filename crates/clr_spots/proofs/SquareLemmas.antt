@@ -86,7 +86,7 @@ in_reach : (i j a b : ℤ) (m n : ℕ) → Reaches i m a → Reaches j n b → C
 in_reach i j a b m n h g = subst₂ (λ (x y : ℤ). Contains (grid_of_squares i j m n) (Square x y)) (steps_to i a h.0) (steps_to j b g.0)
     (in_grid i j m n (up (a -ℤ i)) (up (b -ℤ j)) (steps_below i a m h) (steps_below j b n g))
 
--- ---- and nothing else
+-- ---- no other spot is a square of the box
 abbrev Inside : ℤ → ℤ → ℕ → ℕ → Spot → Type 0
 Inside i j m n (Square a b) = Reaches i m a × Reaches j n b
 Inside i j m n (Values vs) = ⊥

@@ -93,7 +93,7 @@ module _ (sets : List Changes) (q : CellId) where
       by None alone = with_new k c changes alone (first_of_either k c h) (none_of_either k c alone h)
       by (Some m) two = (first_of_either k c h, subst (IsFound sets q (c.first + 1) (k + 1)) (sym two) (second_of_either k c m two h))
 
-  -- those below the number of all are those of all
+  -- the changers among as many sets as there are, are the changers among all
   pub changers_exact : (x : Option Changers) → AreChangersAt sets (length sets) q x → x ≡ changers_at sets q
   changers_exact None none = ap (changers_from sets q) (found_is sets q 0 (length sets) None (subst (NoneChanges sets q 0) from_none none))
   changers_exact (Some c) h =

@@ -17,7 +17,7 @@ greater_place a b = record { x = int_max a.x b.x; y = int_max a.y b.y }
 abbrev pub joined_box : Bounds → Bounds → Bounds
 joined_box a b = record { least = lesser_place a.least b.least; most = greater_place a.most b.most }
 
--- the same where there may be no first box
+-- the box around a box and another one, where there may be no first box
 abbrev pub box_with_box : Option Bounds → Bounds → Bounds
 box_with_box None b = b
 box_with_box (Some a) b = joined_box a b
@@ -31,7 +31,7 @@ with_extent extent (Some b) = Some (box_with_box extent b)
 abbrev pub extent_with : Option Bounds → Shape → Option Bounds
 extent_with extent shape = with_extent extent (box_of_shape shape)
 
--- the same of shapes
+-- the extent of shapes, beside one that there may be
 abbrev pub extent_with_all : Option Bounds → List Shape → Option Bounds
 extent_with_all extent shapes = fold extent_with extent shapes
 

@@ -30,7 +30,7 @@ no_tree text first read found = by (office_in text) refl read
     by (Ok o) is ok = falls (whole_office o) first (found o is)
     by (Err e) is ok = absurd cc
 
--- and those that can make one
+-- texts that can make a draft
 pub is_draft : (text : List ℕ) → IsOk (office_in text) → StandsIfRead text → IsOk (draft_in text)
 unfolding draft_in
 is_draft text read found = by (office_in text) refl read

@@ -19,7 +19,7 @@ pub enum Meeting {
     Overlap,
     /// Nowhere.
     Apart,
-    /// They are no parts of a shape: a coordinate is out of range, or the ends of one are the same.
+    /// No parts of a shape: a coordinate is out of range, or the ends of one are the same.
     NoParts,
 }
 

@@ -20,7 +20,7 @@ use std::alloc::{AllocError, Global};
 pub(crate) enum Action {
     /// The others are merged without this member.
     LeaveOut(usize),
-    /// This member makes this edit.
+    /// A member makes an edit; the member is given by its position.
     Make(usize, Edit),
 }
 

@@ -5,7 +5,7 @@ use Rattle.clr_office_json.specs.Values.{list_data}
 use Rattle.clr_office_json.specs.WorkspaceData.{delta_data}
 use Rattle.clr_office_writer.proofs.writing.with_workspaces.Given as goal
 
--- those before the position are written
+-- the workspaces before the position are written
 abbrev pub invariant-loop-position : goal.invariant-loop-position
 invariant-loop-position l =
     l.text ++ list_tokens (delta_data l.office.schema) (map (delta_in l.office) (drop l.position l.office.workspaces))
