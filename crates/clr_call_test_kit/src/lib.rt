@@ -1,4 +1,4 @@
-//! What tests of calls of every layer share: memory that is wanting, budgets of it, cases in texts, and dice.
+//! What tests of calls share at every level: want of memory, budgets of it, cases in texts, and dice.
 #![tactic(auto)]
 
 mod budgets;

@@ -14,14 +14,14 @@ use Rattle.clr_needs.proofs.NeedSubjects.{subjects_once}
 use Rattle.clr_needs.proofs.Reading.{none_taken, one_more, all_taken}
 use Rattle.clr_needs.proofs.PickLaws.{listed_serves, serving_listed}
 use Rattle.clr_clearance.proofs.CheckLemmas.{one_lived}
-use Rattle.clr_check.specs.Entries.{HasCover, lives_with_subject, same_too}
-use Rattle.clr_merge_sets.specs.Told.{IsTold}
+use Rattle.clr_check.specs.Entries.{HasCover, is_life_of, lives_with_subject}
+use Rattle.clr_merge_sets.specs.Tests.{IsTestOf}
 use Rattle.clr_cert.specs.declared.certificates.Entry.{Entry}
 use Rattle.clr_merge_sets.proofs.SearchLemmas.{either_told, it_is_not, told_as, told_by}
 
 -- lives ------------------------------------------------------------------------------------------
 
-same_number : (m n : ℕ) (P : Type 0) → (m ≡ n → P) → (P → m ≡ n) → IsTold (m == n) P
+same_number : (m n : ℕ) (P : Type 0) → (m ≡ n → P) → (P → m ≡ n) → IsTestOf (m == n) P
 same_number m n P from to = told_by (m == n) P (λ e. from ((Decides-eqb m n).0 e)) (λ p. (Decides-eqb m n).1 (to p))
 
 member_of : ℕ → Lifetime ℕ → ℕ
@@ -29,7 +29,7 @@ member_of d Always = d
 member_of d (With n) = n
 member_of d (Without n) = n
 
-same_told : (x y : Lifetime ℕ) → IsTold (same_life x y) (x ≡ y)
+same_told : (x y : Lifetime ℕ) → IsTestOf (same_life x y) (x ≡ y)
 unfolding member_of
 same_told Always Always = refl
 same_told Always (With n) = λ e. cc
@@ -41,7 +41,7 @@ same_told (Without m) Always = λ e. cc
 same_told (Without m) (With n) = λ e. cc
 same_told (Without m) (Without n) = same_number m n (Without m ≡ Without n) (λ e. ap Without e) (λ e. ap (member_of m) e)
 
-pub opposed_told : (x y : Lifetime ℕ) → IsTold (are_opposed x y) (AreOpposed x y)
+pub opposed_told : (x y : Lifetime ℕ) → IsTestOf (are_opposed x y) (AreOpposed x y)
 opposed_told Always Always = λ h. h
 opposed_told Always (With n) = λ h. h
 opposed_told Always (Without n) = λ h. h
@@ -56,12 +56,12 @@ life_of : Option (Lived ℕ) → Option (Lifetime ℕ)
 life_of None = None
 life_of (Some b) = Some b.life
 
-too_told : (l : Lifetime ℕ) (b : Option (Lived ℕ)) → IsTold (same_too l (life_of b)) (IsLifeOf l b)
+too_told : (l : Lifetime ℕ) (b : Option (Lived ℕ)) → IsTestOf (is_life_of l (life_of b)) (IsLifeOf l b)
 unfolding life_of
 too_told l None = λ h. h
 too_told l (Some b) = same_told l b.life
 
-lasts_told : (l : Lifetime ℕ) (a : Lived ℕ) (b : Option (Lived ℕ)) → IsTold (lives_with_subject l (Some a.life) (life_of b)) (Lasts l a b)
+lasts_told : (l : Lifetime ℕ) (a : Lived ℕ) (b : Option (Lived ℕ)) → IsTestOf (lives_with_subject l (Some a.life) (life_of b)) (Lasts l a b)
 lasts_told l a b = either_told _ _ (l ≡ Always) _ (same_told l Always) (either_told _ _ (l ≡ a.life) (IsLifeOf l b) (same_told l a.life) (too_told l b))
 
 -- versions that serve ----------------------------------------------------------------------------
@@ -96,14 +96,14 @@ module _ (c : Setting ℕ) where
 
     pub alone_told : (v : VersionId) (life : Lifetime ℕ) (first second : Option (Lifetime ℕ)) (told : Bool) → Contains servers v → Some life ≡ life_at v → first
         ≡ life_at n.first → second ≡ life_at_if_any n.second
-        → told ≡ lives_with_subject life first second → IsTold told (CoversAlone c n a b v)
+        → told ≡ lives_with_subject life first second → IsTestOf told (CoversAlone c n a b v)
     alone_told v life first second told h at e f is =
         let (l, there, same) = lived_at v life at in
         let first_is : first ≡ Some a.life = e ∙ ap (option_map (λ (x : Lived ℕ). x.life)) possible.first_is in
         let second_is : second ≡ life_of b = f ∙ second_life n.first a n.second b possible.second_is in
         let whole : told ≡ lives_with_subject l.life (Some a.life) (life_of b) = is ∙ (λ i. lives_with_subject (sym same i) (first_is i) (second_is i)) in
         let (m, serves) = listed_serves c n servers are a b possible v h in
-        subst (λ t. IsTold t (CoversAlone c n a b v)) (sym whole)
+        subst (λ t. IsTestOf t (CoversAlone c n a b v)) (sym whole)
         (told_as _ (Lasts l.life a b) (CoversAlone c n a b v)
         (λ lasting. (l, subst (Serves c n a b v) (one_lived c v m l serves.is there) serves, lasting))
         (λ (k, serving, lasting). subst (λ (z : Lived ℕ). Lasts z.life a b) (one_lived c v k l serving.is there) lasting) (lasts_told l.life a b))
@@ -116,14 +116,14 @@ module _ (c : Setting ℕ) where
 
     pub together_told : (v w : VersionId) (one two : Lifetime ℕ) (told : Bool) → Contains servers v → Contains servers w → Some one ≡ life_at v → Some two
         ≡ life_at w → told ≡ are_opposed one two
-        → IsTold told (CoverTogether c n a b v w)
+        → IsTestOf told (CoverTogether c n a b v w)
     together_told v w one two told h k at at_too is =
         let (l, there, same) = lived_at v one at in
         let (m, there_too, same_too) = lived_at w two at_too in
         let (x, serves) = listed_serves c n servers are a b possible v h in
         let (y, serves_if_any) = listed_serves c n servers are a b possible w k in
         let whole : told ≡ are_opposed l.life m.life = is ∙ (λ i. are_opposed (sym same i) (sym same_too i)) in
-        subst (λ t. IsTold t (CoverTogether c n a b v w)) (sym whole)
+        subst (λ t. IsTestOf t (CoverTogether c n a b v w)) (sym whole)
         (told_as _ (AreOpposed l.life m.life) (CoverTogether c n a b v w)
         (λ opposed. (
           l,
@@ -139,8 +139,8 @@ module _ (c : Setting ℕ) where
 
   module _ (n : Need) (a : Lived ℕ) (b : Option (Lived ℕ)) where
     -- the versions of an entry
-    pub two_told : (v w : VersionId) (x y z : Bool) → IsTold x (CoversAlone c n a b v) → IsTold y (CoversAlone c n a b w) → IsTold z (CoverTogether c n a b v w)
-        → IsTold (x || (y || z)) (WitnessesCover c n a b v (Some w))
+    pub two_told : (v w : VersionId) (x y z : Bool) → IsTestOf x (CoversAlone c n a b v) → IsTestOf y (CoversAlone c n a b w)
+        → IsTestOf z (CoverTogether c n a b v w) → IsTestOf (x || (y || z)) (WitnessesCover c n a b v (Some w))
     two_told v w x y z one two both = either_told _ _ (CoversAlone c n a b v) _ one (either_told _ _ (CoversAlone c n a b w) (CoverTogether c n a b v w) two
         both)
 
@@ -152,7 +152,7 @@ module _ (c : Setting ℕ) where
     none_yet entries k h = absurd (none_taken entries k h)
 
     pub one_not : (entries : List Entry) (at : ℕ) (d : Entry) (told : Bool) → at < length entries → told ≡ false
-        → IsTold told (WitnessesCover c n a b (get_or entries at d).one (get_or entries at d).two) → NoneCovers (take at entries)
+        → IsTestOf told (WitnessesCover c n a b (get_or entries at d).one (get_or entries at d).two) → NoneCovers (take at entries)
         → NoneCovers (take (at + 1) entries)
     one_not entries at d told less e here before k h = by (one_more entries at d k less h)
       where

@@ -13,7 +13,7 @@ use Rattle.clr_clearance.specs.CheckLaws.{IsCovered}
 use Rattle.clr_clearance.proofs.CheckLemmas.{all_judged, first_judged}
 use Rattle.clr_merge_sets.specs.Certificates.{entries_in}
 use Rattle.clr_check.specs.Entries.{HasCover, IsEntryOf, IsLeastUncovered}
-use Rattle.clr_merge_sets.specs.Told.{IsTold}
+use Rattle.clr_merge_sets.specs.Tests.{IsTestOf}
 use Rattle.clr_check.proofs.EntryLemmas.{covered_has, has_covered}
 
 -- what a read past the end would give
@@ -34,7 +34,7 @@ pub record AreJudged (c : Setting ℕ) (entries : List Entry) (n : Need) (told :
   pub found : List Entry
   pub same : (e : Entry) → Contains sorted e ↔ Contains entries e
   pub those : (e : Entry) → Contains found e ↔ IsEntryOf sorted n e
-  pub tells : (a : Lived ℕ) (b : Option (Lived ℕ)) → IsPossible c n a b → IsTold told (HasCover c n a b found)
+  pub tells : (a : Lived ℕ) (b : Option (Lived ℕ)) → IsPossible c n a b → IsTestOf told (HasCover c n a b found)
 
 module _ (c : Setting ℕ) (entries : List Entry) (n : Need) where
   pub need_covered : AreJudged c entries n true → IsCovered c (entries_in entries) n

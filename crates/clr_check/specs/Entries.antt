@@ -17,13 +17,13 @@ abbrev pub IsEntryOf : List Entry → Need → Entry → Type 0
 IsEntryOf entries n e = Contains entries e × (e.need ≡ n)
 
 -- the life of a subject, if there is one
-abbrev pub same_too : Lifetime ℕ → Option (Lifetime ℕ) → Bool
-same_too l None = false
-same_too l (Some m) = same_life l m
+abbrev pub is_life_of : Lifetime ℕ → Option (Lifetime ℕ) → Bool
+is_life_of l None = false
+is_life_of l (Some m) = same_life l m
 
 -- Always, or the life of a subject
 abbrev pub lives_with_subject : Lifetime ℕ → Option (Lifetime ℕ) → Option (Lifetime ℕ) → Bool
-lives_with_subject l first second = same_life l Always || (same_too l first || same_too l second)
+lives_with_subject l first second = same_life l Always || (is_life_of l first || is_life_of l second)
 
 -- the versions of an entry cover the need
 abbrev pub HasCover : Setting ℕ → Need → Lived ℕ → Option (Lived ℕ) → List Entry → Type 0

@@ -2,8 +2,6 @@
 
 ghost use Rattle.std.specs.Prelude.{◌≡◌, ℕ, Contains, IfOk, MatchOption, Option, option_map};
 ghost use Rattle.std.specs.List.Sorted.{IsStrictlySortedBy};
-ghost use Rattle.clr_needs.specs.Blocking.{same_life};
-ghost use Rattle.clr_versions.specs.Candidates.{are_opposed};
 ghost use Rattle.clr_needs.specs.Covers.{AreCovered, CoverTogether, CoversAlone, WitnessesCover};
 ghost use Rattle.clr_needs.specs.Members.{lifetime};
 ghost use Rattle.clr_needs.specs.Needs.{AreServers, IsPossible, IsPossibleNeed};
@@ -11,8 +9,8 @@ ghost use Rattle.clr_needs.specs.Orders.{version_cmp};
 ghost use Rattle.clr_foot.specs.Scenes.{IsReady, model_of, setting_of};
 ghost use Rattle.clr_needs.specs.Settings.{Lived};
 ghost use Rattle.clr_merge_sets.specs.Certificates.{entries_in};
-ghost use Rattle.clr_check.specs.Entries.{HasCover, IsLeastUncovered, lives_with_subject, same_too};
-ghost use Rattle.clr_merge_sets.specs.Told.{IsTold};
+ghost use Rattle.clr_check.specs.Entries.{HasCover, IsLeastUncovered, is_life_of, lives_with_subject};
+ghost use Rattle.clr_merge_sets.specs.Tests.{IsTestOf};
 
 use crate::entries::{entries_of, sort_entries};
 use clr_cert::Entry;
@@ -20,34 +18,12 @@ use clr_finders::RowFinder;
 use clr_foot::Scene;
 use clr_needs::{Life, Need, VersionId};
 use clr_rows::RowView;
+use clr_versions::{are_opposed, are_same};
 use std::alloc::{AllocError, Global};
-
-/// Returns whether two lives are one.
-fn are_same(one: Life, other: Life) -> bool
-    ensures { result ≡ same_life (lifetime one) (lifetime other) }
-{
-    match (one, other) {
-        (Life::Always, Life::Always) => true,
-        (Life::With(member), Life::With(other)) => member == other,
-        (Life::Without(member), Life::Without(other)) => member == other,
-        _ => false,
-    }
-}
-
-/// Returns whether of two versions one lives with a member and the other without it.
-fn are_opposed(one: Life, other: Life) -> bool
-    ensures { result ≡ are_opposed (lifetime one) (lifetime other) }
-{
-    match (one, other) {
-        (Life::With(with), Life::Without(without)) => with == without,
-        (Life::Without(without), Life::With(with)) => with == without,
-        _ => false,
-    }
-}
 
 /// Returns whether a life is that of a subject, if there is one.
 fn is_life_of(life: Life, subject: Option<Life>) -> bool
-    ensures { result ≡ same_too (lifetime life) (option_map lifetime subject) }
+    ensures { result ≡ is_life_of (lifetime life) (option_map lifetime subject) }
 {
     match subject {
         Some(subject) => are_same(life, subject),
@@ -55,7 +31,7 @@ fn is_life_of(life: Life, subject: Option<Life>) -> bool
     }
 }
 
-/// Returns whether what lives so stands wherever the subjects do.
+/// Returns whether a version of this life stands wherever the subjects do.
 fn lasts(life: Life, first: Option<Life>, second: Option<Life>) -> bool
     ensures { result ≡ lives_with_subject (lifetime life) (option_map lifetime first) (option_map lifetime second) }
 {
@@ -65,7 +41,7 @@ fn lasts(life: Life, first: Option<Life>, second: Option<Life>) -> bool
 /// Returns whether a version is among some.
 fn is_among(versions: &[VersionId], id: VersionId) -> bool
     requires { IsStrictlySortedBy version_cmp versions.now }
-    ensures { IsTold result (Contains versions.now id) }
+    ensures { IsTestOf result (Contains versions.now id) }
 {
     versions.binary_search(&id).is_ok()
 }
@@ -79,7 +55,7 @@ fn covers_alone<V: RowView, F: RowFinder>(
 ) -> bool
     requires { AreServers (setting_of (model_of V.content scene.now)) need.now servers.now }
     ensures { (a : Lived ℕ) (b : Option (Lived ℕ)) → IsPossible (setting_of (model_of V.content scene.now)) need.now a b
-        → IsTold result (CoversAlone (setting_of (model_of V.content scene.now)) need.now a b id) }
+        → IsTestOf result (CoversAlone (setting_of (model_of V.content scene.now)) need.now a b id) }
 {
     if !is_among(servers, id) {
         return false;
@@ -104,7 +80,7 @@ fn cover_together<V: RowView, F: RowFinder>(
 ) -> bool
     requires { AreServers (setting_of (model_of V.content scene.now)) need.now servers.now }
     ensures { (a : Lived ℕ) (b : Option (Lived ℕ)) → IsPossible (setting_of (model_of V.content scene.now)) need.now a b
-        → IsTold result (CoverTogether (setting_of (model_of V.content scene.now)) need.now a b one two) }
+        → IsTestOf result (CoverTogether (setting_of (model_of V.content scene.now)) need.now a b one two) }
 {
     let _need = need;
     if !is_among(servers, one) || !is_among(servers, two) {
@@ -125,7 +101,7 @@ fn covers<V: RowView, F: RowFinder>(
 ) -> bool
     requires { AreServers (setting_of (model_of V.content scene.now)) need.now servers.now }
     ensures { (a : Lived ℕ) (b : Option (Lived ℕ)) → IsPossible (setting_of (model_of V.content scene.now)) need.now a b
-        → IsTold result (WitnessesCover (setting_of (model_of V.content scene.now)) need.now a b entry.now.one entry.now.two) }
+        → IsTestOf result (WitnessesCover (setting_of (model_of V.content scene.now)) need.now a b entry.now.one entry.now.two) }
 {
     match entry.two {
         None => covers_alone(scene, need, servers, entry.one),
@@ -146,7 +122,7 @@ fn is_covered<V: RowView, F: RowFinder>(
     requires ready { IsReady F.settled (model_of V.content scene.now) }
     requires possible { IsPossibleNeed (setting_of (model_of V.content scene.now)) need.now }
     ensures { IfOk result (λ told. (a : Lived ℕ) (b : Option (Lived ℕ)) → IsPossible (setting_of (model_of V.content scene.now)) need.now a b
-        → IsTold told (HasCover (setting_of (model_of V.content scene.now)) need.now a b entries.now)) }
+        → IsTestOf told (HasCover (setting_of (model_of V.content scene.now)) need.now a b entries.now)) }
 {
     if entries.is_empty() {
         return Ok(false);

@@ -73,7 +73,7 @@ LastingLaw = (o : Office) (merge_set : MergeSet) (entries : List Entry) (command
     → AreQuiet o merge_set commands lost
     → let now = (run o commands lost).office in StaysClear now (standing now merge_set)
 
--- both laws hold in whichever order the members that stand are named, each once
+-- the law of covers holds in whichever order the members that still stand are named, each once
 abbrev pub LastingCoverReorderedLaw : Type 0
 LastingCoverReorderedLaw = (o : Office) (merge_set : MergeSet) (entries : List Entry) (commands : List Command) (lost : ℕ → Bool)
     → Covers o merge_set entries

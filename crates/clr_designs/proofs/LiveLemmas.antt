@@ -30,7 +30,7 @@ module _ (o : Office) (content : Content) where
   unfolding edited_content
   live_edited = ap (λ (m : Content). after_edits m (edits_between o.live content)) live_content ∙ edits_lead o.live content
 
-  -- only a rule can refuse it
+  -- edits that make a content of LIVE are refused only where a rule is broken in that content
   pub live_refusal : OfficeFits o → FitsSchema o.schema content
       → refusal o (Apply live_name (edits_between o.live content)) ≡ option_map RuleBroken (first_broken o.book content)
   unfolding refusal edit_refusal breaks stands is_kept is_live

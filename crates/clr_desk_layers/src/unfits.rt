@@ -18,7 +18,7 @@ fn unfit_line(alloc: Global, why: &[u8], name: &str) -> Result<Vec<u8>, AllocErr
     Ok(line)
 }
 
-/// Returns that line as the only note, which refuses, without a text.
+/// Returns the print of a table that can't be a layer: no text, and the line that says why as its only note, which counts as a refusal.
 fn unfit_print(alloc: Global, why: &[u8], name: &str) -> Result<Print, AllocError>
     ensures { IfOk result (λ p. printed p ≡ unfit_print why.now name.now) }
 {

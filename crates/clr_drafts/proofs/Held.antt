@@ -17,7 +17,7 @@ use Rattle.clr_steps.proofs.UnheldLemmas.{none_then}
 use Rattle.clr_engine.specs.Drafts.{unheld_in}
 use Rattle.clr_drafts.specs.Laws.{HeldLaw}
 
--- the first workspace of a name, if it is kept
+-- the first workspace of a name breaks no rule, where it is kept and nothing kept is found to break one
 module _ (book : List Rule) (name : Name) where
   -- a workspace of this name is the first of a list, or stands behind the first
   none_by : (here : Bool) (at : ℕ) (v : Workspace) (ws : List Workspace) (w : Workspace) → cond v.kept (first_broken book v.current) None ≡ None

@@ -7,7 +7,7 @@ use Rattle.clr_rows.specs.Contents.{Content}
 use Rattle.clr_deltas.specs.Deltas.{Delta, workspaces_over}
 use Rattle.clr_workspaces.specs.Workspaces.{Workspace, live_workspace, workspace_at}
 use Rattle.clr_deltas.proofs.Meaning.{length-grow}
-use Rattle.clr_parts.specs.Parts.{IsFirstPartFault, first_below, name_fault_at, workspaces_fault}
+use Rattle.clr_parts.specs.Parts.{IsFirstPartFault, first_below, part_name_fault_at, workspaces_fault}
 use Rattle.clr_workspaces.specs.declared.limits.TheConstants.{MOST_WORKSPACES}
 use Rattle.clr_parts.specs.declared.parts.PartFault.{PartFault}
 use Rattle.clr_parts.specs.declared.parts.PartFault.TheVariants as part
@@ -43,8 +43,8 @@ no_first (Some x) second e = absurd (none-some _ (sym e))
 
 not_many : (live : Content) (ws : List Workspace) → MOST_WORKSPACES ≤ length ws → workspaces_fault live ws ≡ None → ⊥
 not_many live ws many e =
-    let names : first_below (name_fault_at (live_workspace live ∷ ws)) (length ws) ≡ None = no_first _ _ e in
-    let here = none_at (name_fault_at (live_workspace live ∷ ws)) (length ws) 255 names (omega (arith, many)) in
+    let names : first_below (part_name_fault_at (live_workspace live ∷ ws)) (length ws) ≡ None = no_first _ _ e in
+    let here = none_at (part_name_fault_at (live_workspace live ∷ ws)) (length ws) 255 names (omega (arith, many)) in
     let before : length (take 256 (live_workspace live ∷ ws)) ≡ 256 = length-take-le 256 (live_workspace live ∷ ws) (omega (arith, many)) in
     let few = (placed_from (take 256 (live_workspace live ∷ ws)) (workspace_at (live_workspace live ∷ ws) 256) here).few in
     omega (arith, before, few)

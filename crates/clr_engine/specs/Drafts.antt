@@ -29,7 +29,7 @@ part_at o (suc k) = slice_get o.workspaces k
 abbrev pub delta_in : Office → Workspace → Delta
 delta_in o w = delta_from (content_of o w.parent) w
 
--- the first that breaks a rule of LIVE, with position 0, and of the workspaces that are kept, in order of creation, and its least broken need
+-- the position and the least broken need of the first content in which a rule is broken: LIVE, at 0, or else a kept workspace, in order of creation
 abbrev pub unheld_in : Office → Option (ℕ × Broken)
 unheld_in o = option_or (option_map (λ need. (0, need)) (first_broken o.book o.live)) (unheld_from o.book 1 o.workspaces)
 

@@ -26,7 +26,7 @@ type Outline = (
 const STEP: usize = 16;
 
 fn words(alloc: Global, text: &str) -> Result<Words, AllocError> {
-    Ok(Words::new(String::from_str(alloc, text)?))
+    Words::from_str(alloc, text)
 }
 
 /// Returns the marks of children.

@@ -60,7 +60,7 @@ fn is_admitted(alloc: Global, hoard: &mut Hoard, draft: Draft) -> Option<bool> {
     }
 }
 
-/// Returns the same with so many bytes of memory.
+/// Returns whether a draft is admitted with a budget of bytes, or again with enough; none where its office has something else.
 fn is_admitted_within(alloc: Global, hoard: &mut Hoard, budget: usize) -> Option<bool> {
     let draft = read_office(alloc, DRAFT.as_bytes()).ok()?;
     match hoard.leave(budget) {

@@ -1,3 +1,3 @@
 pub mod StandingLemmas
-pub mod Told
+pub mod NamedFaults
 pub mod Values

@@ -10,7 +10,7 @@ use Rattle.clr_rule_text.specs.declared.faults.TextFault.{TextFault}
 use Rattle.clr_rule_text.specs.declared.faults.TextFault.TheVariants as fault
 use Rattle.clr_item_faults.proofs.Lost.{fails_exactly}
 use Rattle.clr_explanations.specs.Standing.{IsStandingFault, standing_fault}
-use Rattle.clr_explanations.proofs.Told.{of_ok}
+use Rattle.clr_explanations.proofs.NamedFaults.{of_ok}
 
 refused_exactly : (first : Option (ℕ × PartFault)) (n : ℕ) (f : PartFault) → f ≢ part.OutOfMemory → IsFirstPartFault first (n, f) → first ≡ Some (n, f)
 refused_exactly first n part.OutOfMemory kept refused = absurd (kept refl)

@@ -11,7 +11,7 @@ use Rattle.clr_faults.specs.declared.spots.Spot.{Spot}
 use Rattle.clr_faults.specs.declared.spots.Spot.TheVariants.{Whole}
 use Rattle.clr_explanations.specs.Places.{IsPlaceOf}
 use Rattle.clr_explanations.specs.Remarks.{TellsDroppedFault, TellsDroppedFaultIn}
-use Rattle.clr_explanations.proofs.Told.{no_fault, of_some}
+use Rattle.clr_explanations.proofs.NamedFaults.{no_fault, of_some}
 
 pub told_in : (text : List ℕ) (d : Data) (e : TextFault) (at : Spot) (s : List ℕ) → value_in text ≡ Some d → TellsDroppedFault d e at s →
     TellsDroppedFaultIn text e at s

@@ -24,23 +24,23 @@ abbrev pub tables_in : Data → Result (List TableDef) TextFault
 tables_in d = format_of d >>= λ format. schema_of format d
 
 -- the sentence begins with the name of the fault that the row of an item has over its table, where it has one
-abbrev pub IsRowTold : List TableDef → Data → List ℕ → Type 0
-IsRowTold tables item sentence = (f : RowFault) → put_fault_of tables item ≡ Some f → BeginsWithName (row_fault_name f) sentence
+abbrev pub NamesRowFault : List TableDef → Data → List ℕ → Type 0
+NamesRowFault tables item sentence = (f : RowFault) → put_fault_of tables item ≡ Some f → BeginsWithName (row_fault_name f) sentence
 
 -- a sentence begins with the name of the fault of the book of rules
-abbrev pub IsRuleTold : List TableDef → Data → List ℕ → Type 0
-IsRuleTold tables d sentence = (number : ℕ) (f : RuleFault) → book_fault_of tables d ≡ Some (number, f) → BeginsWithName (rule_fault_name f) sentence
+abbrev pub NamesRuleFault : List TableDef → Data → List ℕ → Type 0
+NamesRuleFault tables d sentence = (number : ℕ) (f : RuleFault) → book_fault_of tables d ≡ Some (number, f) → BeginsWithName (rule_fault_name f) sentence
 
 -- a sentence begins with the name of the fault of the tables
-abbrev pub IsSchemaTold : Format → Data → List ℕ → Type 0
-IsSchemaTold format d sentence = (f : SchemaFault) → tables_fault_of format d ≡ Some f → BeginsWithName (schema_fault_name f) sentence
+abbrev pub NamesSchemaFault : Format → Data → List ℕ → Type 0
+NamesSchemaFault format d sentence = (f : SchemaFault) → tables_fault_of format d ≡ Some f → BeginsWithName (schema_fault_name f) sentence
 
 -- the fault that the reader of a text drops is told
 abbrev pub TellsDroppedFault : Data → TextFault → Spot → List ℕ → Type 0
-TellsDroppedFault d fault.BadSchema at sentence = (format : Format) → format_of d ≡ Ok format → IsSchemaTold format d sentence
-TellsDroppedFault d fault.BadRule at sentence = (tables : List TableDef) → tables_in d ≡ Ok tables → IsRuleTold tables d sentence
+TellsDroppedFault d fault.BadSchema at sentence = (format : Format) → format_of d ≡ Ok format → NamesSchemaFault format d sentence
+TellsDroppedFault d fault.BadRule at sentence = (tables : List TableDef) → tables_in d ≡ Ok tables → NamesRuleFault tables d sentence
 TellsDroppedFault d fault.BadRow at sentence =
-    (tables : List TableDef) (item : Data) → tables_in d ≡ Ok tables → item_at_spot at d ≡ Ok item → IsRowTold tables item sentence
+    (tables : List TableDef) (item : Data) → tables_in d ≡ Ok tables → item_at_spot at d ≡ Ok item → NamesRowFault tables item sentence
 TellsDroppedFault d _ at sentence = Unit {0}
 
 abbrev pub TellsDroppedFaultIn : List ℕ → TextFault → Spot → List ℕ → Type 0

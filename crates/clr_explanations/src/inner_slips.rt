@@ -2,7 +2,7 @@
 ghost use Rattle.std.specs.Prelude.{string_bytes, IfOk};
 ghost use Rattle.serde_json.specs.View.{view};
 ghost use Rattle.clr_rule_text.specs.declared.faults.TextFault.TheVariants as text_fault;
-ghost use Rattle.clr_explanations.specs.Remarks.{IsRowTold, IsRuleTold, IsSchemaTold, TellsDroppedFault};
+ghost use Rattle.clr_explanations.specs.Remarks.{NamesRowFault, NamesRuleFault, NamesSchemaFault, TellsDroppedFault};
 
 use crate::items::item_at;
 use crate::readings::{format_in, schema_in};
@@ -25,9 +25,9 @@ pub fn slip_or_unknown(alloc: Global, slip: Option<Slip>) -> Result<Slip, AllocE
 }
 
 /// Returns why the tables of a text of a format make no schema.
-#[tactic(auto, using(crate::proofs::Told::schema_told, crate::proofs::Told::no_schema_fault))]
+#[tactic(auto, using(crate::proofs::NamedFaults::names_schema_fault, crate::proofs::NamedFaults::no_schema_fault))]
 fn slip_of_tables(alloc: Global, json: &Json, format: Format) -> Result<Slip, AllocError>
-    ensures { IfOk result (λ slip. IsSchemaTold format (view json.now) (string_bytes slip.sentence)) }
+    ensures { IfOk result (λ slip. NamesSchemaFault format (view json.now) (string_bytes slip.sentence)) }
 {
     match schema_fault_of(alloc, json, format)? {
         Some(fault) => explain_schema(alloc, json, fault),
@@ -36,7 +36,7 @@ fn slip_of_tables(alloc: Global, json: &Json, format: Format) -> Result<Slip, Al
 }
 
 /// Returns why the tables of a text make no schema.
-#[tactic(auto, using(crate::proofs::Told::bad_schema_told, crate::proofs::Told::no_format))]
+#[tactic(auto, using(crate::proofs::NamedFaults::names_bad_schema, crate::proofs::NamedFaults::no_format))]
 pub fn schema_slip(alloc: Global, json: &Json, spot: Spot) -> Result<Slip, AllocError>
     ensures { IfOk result (λ slip. TellsDroppedFault (view json.now) text_fault.BadSchema spot (string_bytes slip.sentence)) }
 {
@@ -61,9 +61,9 @@ fn slip_of_name(
 }
 
 /// Returns why a rule can't stand in a book over a schema.
-#[tactic(auto, using(crate::proofs::Told::rule_told, crate::proofs::Told::no_rule_fault))]
+#[tactic(auto, using(crate::proofs::NamedFaults::names_rule_fault, crate::proofs::NamedFaults::no_rule_fault))]
 fn slip_of_rule(alloc: Global, json: &Json, spot: Spot, schema: &Schema) -> Result<Slip, AllocError>
-    ensures { IfOk result (λ slip. IsRuleTold schema.now (view json.now) (string_bytes slip.sentence)) }
+    ensures { IfOk result (λ slip. NamesRuleFault schema.now (view json.now) (string_bytes slip.sentence)) }
 {
     match rule_fault_of(alloc, json, schema)? {
         Some((_, fault)) => explain_rule_fault(alloc, fault),
@@ -72,7 +72,7 @@ fn slip_of_rule(alloc: Global, json: &Json, spot: Spot, schema: &Schema) -> Resu
 }
 
 /// Returns why a rule can't stand over the schema.
-#[tactic(auto, using(crate::proofs::Told::bad_rule_told, crate::proofs::Told::no_tables))]
+#[tactic(auto, using(crate::proofs::NamedFaults::names_bad_rule, crate::proofs::NamedFaults::no_tables))]
 pub fn rule_slip(alloc: Global, json: &Json, spot: Spot) -> Result<Slip, AllocError>
     ensures { IfOk result (λ slip. TellsDroppedFault (view json.now) text_fault.BadRule spot (string_bytes slip.sentence)) }
 {
@@ -83,9 +83,9 @@ pub fn rule_slip(alloc: Global, json: &Json, spot: Spot) -> Result<Slip, AllocEr
 }
 
 /// Returns why the row of an item can't stand in its table.
-#[tactic(auto, using(crate::proofs::Told::row_told, crate::proofs::Told::no_row_fault))]
+#[tactic(auto, using(crate::proofs::NamedFaults::names_row_fault, crate::proofs::NamedFaults::no_row_fault))]
 fn slip_of_row(alloc: Global, item: &Json, schema: &Schema) -> Result<Slip, AllocError>
-    ensures { IfOk result (λ slip. IsRowTold schema.now (view item.now) (string_bytes slip.sentence)) }
+    ensures { IfOk result (λ slip. NamesRowFault schema.now (view item.now) (string_bytes slip.sentence)) }
 {
     match row_fault_at(alloc, item, schema)? {
         Some(fault) => explain_row_fault(alloc, item, schema, fault),
@@ -94,7 +94,7 @@ fn slip_of_row(alloc: Global, item: &Json, schema: &Schema) -> Result<Slip, Allo
 }
 
 /// Returns why the row at an item can't stand in its table.
-#[tactic(auto, using(crate::proofs::Told::bad_row_told, crate::proofs::Told::no_tables_of_row, crate::proofs::Told::no_item))]
+#[tactic(auto, using(crate::proofs::NamedFaults::names_bad_row, crate::proofs::NamedFaults::no_tables_of_row, crate::proofs::NamedFaults::no_item))]
 pub fn row_slip(alloc: Global, json: &Json, spot: Spot) -> Result<Slip, AllocError>
     ensures { IfOk result (λ slip. TellsDroppedFault (view json.now) text_fault.BadRow spot (string_bytes slip.sentence)) }
 {

@@ -52,7 +52,7 @@ fn first_beside(json: &Json, spot: Spot) -> Result<Option<usize>, AllocError> {
     }
 }
 
-/// Returns that the cell of an item stands earlier in its list, and where.
+/// Returns the slip that the cell of an item stands earlier in its list, with the place where.
 pub fn repeated_slip(
     alloc: Global,
     text: &[u8],

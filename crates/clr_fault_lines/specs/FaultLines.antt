@@ -8,7 +8,7 @@ use Rattle.clr_fault_lines.specs.declared.remarks.Remark.{Remark}
 abbrev pub line_number_of : List ℕ → ℕ → ℕ
 line_number_of text offset = count_by is_line_end (take offset text) + 1
 
--- its column in characters, counted from 1
+-- the column of a byte in its line, in characters, counted from 1
 abbrev pub column_number_of : List ℕ → ℕ → ℕ
 column_number_of text offset = count_by begins_character (last_line (take offset text)) + 1
 

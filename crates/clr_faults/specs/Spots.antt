@@ -16,7 +16,7 @@ HasFirst faults e at = faults ≡ Ok (Some (at, e))
 abbrev pub HasNone : Result (Option (ℕ × TextFault)) TextFault → TextFault → Type 0
 HasNone faults e = (at : ℕ) → faults ≢ Ok (Some (at, e))
 
--- the item is the first of its list whose own reading answers the fault, and so is each that it stands in; no item in it is so
+-- the item, and each item that it stands in, is the first of its list whose own reading answers the fault; no item within it answers it
 abbrev pub IsFaultAt : Data → TextFault → Spot → Type 0
 IsFaultAt d e Whole = HasNone (table_faults d) e × HasNone (rule_faults d) e × HasNone (live_faults d) e × HasNone (workspace_faults d) e
 IsFaultAt d e (Table at) = HasFirst (table_faults d) e at

@@ -25,9 +25,9 @@ pub(crate) const PARTNER: u16 = 1;
 
 fn table(alloc: Global, name: &str, shape: Form) -> Result<TableDef, AllocError> {
     let mut columns = Vec::new(alloc);
-    columns.push((Words::new(String::from_str(alloc, "number")?), Kind::Int))?;
+    columns.push((Words::from_str(alloc, "number")?, Kind::Int))?;
     Ok(TableDef {
-        name: Words::new(String::from_str(alloc, name)?),
+        name: Words::from_str(alloc, name)?,
         columns: Columns::new(columns),
         shape,
     })

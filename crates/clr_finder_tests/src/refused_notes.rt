@@ -123,7 +123,7 @@ const LONG: Drawn = (MAIN, 2, 0, [0, 0, 3_000_000, 0]);
 
 const OTHER: Drawn = (MAIN, 1, 0, [0, -500_000, 10, -500_000]);
 
-/// Returns the same of a finder without rows, where main 2 stands nowhere at first, or as a short main.
+/// Returns whether a finder without rows notes a change of main 2 whole or not at all, where main 2 stands nowhere at first, or as a short main.
 fn is_noted_whole<F: RowFinder>(
     alloc: Global,
     finder: &mut F,

@@ -57,7 +57,7 @@ pub fn begin_collection(alloc: Global, system: Option<u32>) -> Result<Vec<u8>, A
     Ok(text)
 }
 
-/// Adds a feature to a collection that was begun, on a line of its own. If memory runs out, the text is lost.
+/// Adds a feature to a collection that was begun, on a line of its own. If memory runs out, the text is dropped.
 #[tactic(auto, unfolding(crate::specs::Collections::line_of, crate::specs::Collections::next_text))]
 pub fn add_feature(text: &mut Vec<u8>, feature: &Feature) -> Result<(), AllocError>
     ensures { OnOk result (text.new.items ≡ text.old.items ++ next_text feature.now) }

@@ -8,7 +8,7 @@ use std::alloc::{AllocError, Global};
 use std::mem;
 
 /// Adds a text as a string of JSON, in quotation marks, with `\` before what has to be escaped. If memory runs out,
-/// what was there before is lost.
+/// what was there before is dropped.
 pub(crate) fn add_string(text: &mut Vec<u8>, words: &str) -> Result<(), AllocError>
     ensures { OnOk result (text.new.items ≡ text.old.items ++ quoted words.now) }
 {

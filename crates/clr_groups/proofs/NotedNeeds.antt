@@ -105,7 +105,7 @@ module _ (c : Setting ℕ) (count : ℕ) where
         noted = other_noted;
       }
 
-    -- another one had it
+    -- another member had the need before
     module _ (w : ℕ) (some : first n ≡ Some w) (after : List ℕ) (is : AreMoved (label labels x) (label labels w) labels after) where
       abbrev from : ℕ
       from = label labels x

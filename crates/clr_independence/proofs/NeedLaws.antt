@@ -10,7 +10,7 @@ use Rattle.clr_needs.specs.Needs.{Lists}
 use Rattle.clr_needs.specs.Orders.{need_cmp}
 use Rattle.clr_needs.specs.Settings.{Setting}
 use Rattle.clr_needs.proofs.Reading.{all_taken, one_more, read_in}
-use Rattle.clr_merge_sets.specs.Told.{IsTold}
+use Rattle.clr_merge_sets.specs.Tests.{IsTestOf}
 use Rattle.clr_merge_sets.proofs.SearchLemmas.{it_is, it_is_not}
 use Rattle.clr_foot.proofs.InvolvedLaws.{both_depend}
 use Rattle.clr_groups.proofs.LabelledGroups.{PutAt, earlier, last, put_at}
@@ -41,11 +41,11 @@ module _ (needs others : List Need) where
   abbrev pub NoneShared : ℕ → Type 0
   NoneShared k = (n : Need) → Contains (take k needs) n → Contains others n → ⊥
 
-  pub one_shared : (k : ℕ) (d : Need) (answer : Bool) → k < length needs → IsTold answer (Contains others (get_or needs k d)) → answer ≡ true
+  pub one_shared : (k : ℕ) (d : Need) (answer : Bool) → k < length needs → IsTestOf answer (Contains others (get_or needs k d)) → answer ≡ true
       → ShareOne needs others
   one_shared k d answer less tells e = (get_or needs k d, read_in needs k d less, it_is answer (Contains others (get_or needs k d)) e tells)
 
-  pub one_not_shared : (k : ℕ) (d : Need) (answer : Bool) → k < length needs → IsTold answer (Contains others (get_or needs k d)) → answer ≡ false
+  pub one_not_shared : (k : ℕ) (d : Need) (answer : Bool) → k < length needs → IsTestOf answer (Contains others (get_or needs k d)) → answer ≡ false
       → NoneShared k → NoneShared (k + 1)
   one_not_shared k d answer less tells e before n h j = elim (one_more needs k d n less h) [
     | inl taken ↦ before n taken j

@@ -10,7 +10,7 @@ use Rattle.std.proofs.lemmas.List.Elements.{Contains-append_cases}
 use Rattle.clr_rules.proofs.Elements.{among}
 use Rattle.clr_needs.specs.declared.needs.Need.{Need}
 use Rattle.clr_needs.specs.Settings.{Setting}
-use Rattle.clr_merge_sets.specs.Told.{IsTold}
+use Rattle.clr_merge_sets.specs.Tests.{IsTestOf}
 use Rattle.clr_independence.specs.declared.member_pairs.Pair.{Pair}
 use Rattle.clr_independence.specs.Pairs.{AddsPairs, AreAscending, AreNeedsOf, ArePairs, IsPairByNeeds, ShareOne, TellsIfApart, pair_members, pairs_below}
 use Rattle.clr_independence.specs.Pairs.{pairs_with}
@@ -43,12 +43,12 @@ module _ (lists : List (List Need)) (first : ℕ) where
   abbrev pub pair : ℕ → Bool → Pair
   pair second answer = record { first = first; second = second; independent = not answer }
 
-  apart_by : (b : Bool) (needs others : List Need) → IsTold b (ShareOne needs others) → TellsIfApart (not b) needs others
+  apart_by : (b : Bool) (needs others : List Need) → IsTestOf b (ShareOne needs others) → TellsIfApart (not b) needs others
   apart_by true needs others h = h
   apart_by false needs others h = h
 
   pub one_pair_with : (second : ℕ) (needs others : List Need) (answer : Bool) (old list new : List Pair) → first + 1 ≤ second → slice_get lists first
-      ≡ Some needs → slice_get lists second ≡ Some others → IsTold answer (ShareOne needs others)
+      ≡ Some needs → slice_get lists second ≡ Some others → IsTestOf answer (ShareOne needs others)
       → new ≡ list ++ pair second answer ∷ []
       → AddsPairsTo second old list
       → AddsPairsTo (second + 1) old new

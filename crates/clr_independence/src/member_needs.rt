@@ -4,7 +4,7 @@ ghost use Rattle.std.specs.Prelude.{◌≡◌, ◌<◌, ◌≤◌, length, map, 
 ghost use Rattle.std.specs.List.Sorted.{IsStrictlySortedBy};
 ghost use Rattle.clr_needs.specs.Orders.{need_cmp};
 ghost use Rattle.clr_foot.specs.Scenes.{IsReady, model_of, setting_of};
-ghost use Rattle.clr_merge_sets.specs.Told.{IsTold};
+ghost use Rattle.clr_merge_sets.specs.Tests.{IsTestOf};
 ghost use Rattle.clr_independence.specs.Pairs.{AreNeedsOf, ShareOne};
 
 use clr_finders::RowFinder;
@@ -16,7 +16,7 @@ use std::alloc::{AllocError, Global};
 /// Returns whether a need is among some.
 fn is_among(needs: &[Need], need: Need) -> bool
     requires { IsStrictlySortedBy need_cmp needs.now }
-    ensures { IsTold result (Contains needs.now need) }
+    ensures { IsTestOf result (Contains needs.now need) }
 {
     needs.binary_search(&need).is_ok()
 }
@@ -24,7 +24,7 @@ fn is_among(needs: &[Need], need: Need) -> bool
 /// Returns whether two lists have a need in common.
 pub(crate) fn share_one(needs: &[Need], others: &[Need]) -> bool
     requires { IsStrictlySortedBy need_cmp others.now }
-    ensures { IsTold result (ShareOne needs.now others.now) }
+    ensures { IsTestOf result (ShareOne needs.now others.now) }
 {
     for need in needs {
         if is_among(others, *need) {

@@ -43,7 +43,7 @@ fn kind_word(kind: Kind) -> &'static str {
     }
 }
 
-/// Returns that there are more or fewer values than columns.
+/// Returns the slip that there are more or fewer values than columns.
 fn wrong_count(alloc: Global, json: &Json, table: &TableDef) -> Result<Slip, AllocError> {
     let count = items_at(json, Key::V).len();
     let columns = column_names(alloc, table)?;
@@ -57,7 +57,7 @@ fn wrong_count(alloc: Global, json: &Json, table: &TableDef) -> Result<Slip, All
     Slip::new(alloc, &[Step::Key(Key::V)], sentence)
 }
 
-/// Returns that a value is of another kind than its column.
+/// Returns the slip that a value is of another kind than its column.
 fn wrong_kind(alloc: Global, json: &Json, table: &TableDef) -> Result<Slip, AllocError> {
     for (at, value) in items_at(json, Key::V).iter().enumerate() {
         let Some((name, kind)) = column_at(table, at) else {
@@ -78,7 +78,7 @@ fn wrong_kind(alloc: Global, json: &Json, table: &TableDef) -> Result<Slip, Allo
     )
 }
 
-/// Returns that a text is too long.
+/// Returns the slip that a text is too long.
 fn words_too_long(alloc: Global, json: &Json) -> Result<Slip, AllocError> {
     for (at, value) in items_at(json, Key::V).iter().enumerate() {
         let bytes = value.as_str().unwrap_or("").len();
@@ -92,7 +92,7 @@ fn words_too_long(alloc: Global, json: &Json) -> Result<Slip, AllocError> {
     Slip::of_words(alloc, &[Step::Key(Key::V)], "a text is too long")
 }
 
-/// Returns that the shape isn't the table's.
+/// Returns the slip that the shape isn't the table's.
 fn wrong_shape(alloc: Global, json: &Json, table: &TableDef) -> Result<Slip, AllocError> {
     let count = items_at(json, Key::S).len();
     let wanted = coordinates_of(Some(table.shape));
@@ -111,7 +111,7 @@ fn far_key(json: &Json) -> Option<i64> {
     }
 }
 
-/// Returns that the key or a coordinate is beyond its limits.
+/// Returns the slip that the key or a coordinate is beyond its limits.
 fn out_of_range(alloc: Global, json: &Json) -> Result<Slip, AllocError> {
     if let Some(key) = far_key(json) {
         let sentence = format!(in alloc; "the key {key} isn't from 1 to {GREATEST_KEY}")?;
@@ -129,7 +129,7 @@ fn out_of_range(alloc: Global, json: &Json) -> Result<Slip, AllocError> {
     Slip::of_words(alloc, &[], "the key or a coordinate is out of range")
 }
 
-/// Returns that no table has the name of a cell.
+/// Returns the slip that no table has the name of a cell.
 fn no_table(alloc: Global, json: &Json, schema: &Schema) -> Result<Slip, AllocError> {
     let name = text_at(json, Key::T);
     let names = table_names(alloc, schema)?;
@@ -178,7 +178,7 @@ pub fn explain_row_fault(
     slip.named(alloc, row_fault_word(fault))
 }
 
-/// Returns that the table of an item isn't known, where it isn't.
+/// Returns the slip that the table of an item isn't known, or none where it is.
 pub fn explain_unknown_table(
     alloc: Global,
     json: &Json,

@@ -12,7 +12,7 @@ use clr_rules::RuleFault;
 use serde_json::Value as Json;
 use std::alloc::{AllocError, Global};
 
-/// Returns that the schema hasn't the table of a side, where it hasn't.
+/// Returns the slip that the schema hasn't the table of a side, or none where it has.
 fn unknown_table(alloc: Global, side: &Json, schema: &Schema) -> Result<Option<Slip>, AllocError> {
     let name = text_at(side, Key::Table);
     if table_of(schema, name).is_some() {
@@ -24,7 +24,7 @@ fn unknown_table(alloc: Global, side: &Json, schema: &Schema) -> Result<Option<S
     Ok(Some(Slip::new(alloc, &[Step::Key(Key::Table)], sentence)?.with_hint(hint)))
 }
 
-/// Returns that a table hasn't a column of a name, where it hasn't.
+/// Returns the slip that a table has no column of a name, or none where it has one.
 fn unknown_column(alloc: Global, name: &str, table: &TableDef) -> Result<Option<Slip>, AllocError> {
     let names = column_names(alloc, table)?;
     if names.as_slice().contains(&name) {

@@ -33,7 +33,7 @@ fn bad_column(alloc: Global, json: &Json) -> Result<Option<Slip>, AllocError> {
     Ok(None)
 }
 
-/// Returns that a table has a bad name, or a column with one.
+/// Returns the slip that a table has a bad name, or a column with one; none where neither has.
 fn bad_name_in(alloc: Global, table: &Json) -> Result<Option<Slip>, AllocError> {
     let name = text_at(table, Key::Name);
     if good_name(name) {
@@ -72,7 +72,7 @@ fn column_taken(alloc: Global, json: &Json) -> Result<Option<Slip>, AllocError> 
     Ok(None)
 }
 
-/// Returns that a table has one of these names, or a column whose name stands there before.
+/// Returns the slip that a table has one of these names, or a column whose name stands there before; none where neither is so.
 fn name_taken_in(alloc: Global, table: &Json, names: &[&str]) -> Result<Option<Slip>, AllocError> {
     let name = text_at(table, Key::Name);
     if !names.contains(&name) {
@@ -98,7 +98,7 @@ fn name_taken(alloc: Global, json: &Json) -> Result<Slip, AllocError> {
     )
 }
 
-/// Returns that there are too many tables, or too many columns in one.
+/// Returns the slip that there are too many tables, or too many columns in one.
 fn too_many(alloc: Global, json: &Json) -> Result<Slip, AllocError> {
     for (at, table) in items_at(json, Key::Tables).iter().enumerate() {
         let count = items_at(table, Key::Columns).len();

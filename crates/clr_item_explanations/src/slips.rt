@@ -30,7 +30,7 @@ impl Slip {
         Slip::new(alloc, steps, sentence)
     }
 
-    /// Returns the same with a hint, if there is one.
+    /// Returns this slip with a hint, if there is one.
     pub fn with_hint(self, hint: Option<String>) -> Slip
         ensures { result.sentence ≡ self.sentence }
     {
@@ -41,7 +41,7 @@ impl Slip {
         }
     }
 
-    /// Returns the same of an item that holds this one: with steps before its own.
+    /// Returns this slip as one of the item that holds this item, with more steps before its own.
     pub fn below(self, alloc: Global, steps: &[Step]) -> Result<Slip, AllocError>
         ensures { IfOk result (λ slip. slip.sentence ≡ self.sentence) }
     {
@@ -54,7 +54,7 @@ impl Slip {
         })
     }
 
-    /// Returns the same with the name of a fault before its sentence.
+    /// Returns this slip with the name of a fault and a colon before its sentence.
     pub fn named(self, alloc: Global, name: &str) -> Result<Slip, AllocError>
         ensures { IfOk result (λ slip. string_bytes slip.sentence ≡ name.now ++ codes ": " ++ string_bytes self.sentence) }
     {

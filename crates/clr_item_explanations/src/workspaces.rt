@@ -25,7 +25,7 @@ fn earlier_names<'a>(
     Ok(names)
 }
 
-/// Returns that the parent of a workspace is neither LIVE nor an earlier one, where it isn't.
+/// Returns the slip that a workspace's parent is neither LIVE nor an earlier workspace, or none where it is one of them.
 fn explain_parent(alloc: Global, json: &Json, names: &[&str]) -> Result<Option<Slip>, AllocError> {
     let parent = text_at(json, Key::Parent);
     if names.contains(&parent) {

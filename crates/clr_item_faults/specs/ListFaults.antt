@@ -13,7 +13,7 @@ use Rattle.clr_office_text.specs.Workspaces.{named_mark_of}
 use Rattle.clr_item_faults.specs.FirstFaults.{alone, first_fault_from}
 use Rattle.clr_item_faults.specs.Readings.{deltas_with, mark_reading, put_cell_of, put_row_of, readable, rule_reading}
 
--- the first fault of a list whose items are read by their names first, and then so
+-- the fault of a list whose items are read twice: that of the first reading, or else that of the second
 abbrev pub fault_else : Option (ℕ × TextFault) → Option (ℕ × TextFault) → Option (ℕ × TextFault)
 fault_else None other = other
 fault_else (Some first) other = Some first

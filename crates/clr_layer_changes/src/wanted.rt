@@ -13,7 +13,7 @@ use crate::options::{GivenLayer, LayerOptions};
 use clr_rows::{CellId, Row, Schema, Sheet};
 use std::alloc::{AllocError, Global};
 
-/// Returns that no row stands at each cell of a table that has one.
+/// Returns, for each cell of a table that has a row, the change that leaves no row there.
 fn without_rows(
     alloc: Global,
     content: &Sheet,

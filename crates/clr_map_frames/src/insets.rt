@@ -42,7 +42,7 @@ fn on_pixels(spot: Spot) -> Spot {
     }
 }
 
-/// Returns the same steps on whole pixels, without lines of no length.
+/// Returns the steps of a path moved to whole pixels, without the lines that then have no length.
 fn coarse(alloc: Global, steps: &[Step]) -> Result<Vec<Step>, AllocError> {
     let mut coarse = Vec::new(alloc);
     let mut last = None;

@@ -9,28 +9,28 @@ use Rattle.std.specs.declared.cmp.Ordering.{Ordering}
 use Rattle.std.specs.declared.cmp.Ordering.TheVariants.{Less, Equal, Greater}
 use Rattle.std.proofs.lemmas.Bool.{false≢true}
 use Rattle.std.proofs.lemmas.List.Sorted.{searchable_from_sorted}
-use Rattle.clr_merge_sets.specs.Told.{IsTold}
+use Rattle.clr_merge_sets.specs.Tests.{IsTestOf}
 
 -- tests ------------------------------------------------------------------------------------------
 
-pub told_by : (b : Bool) (P : Type 0) → (b ≡ true → P) → (P → b ≡ true) → IsTold b P
+pub told_by : (b : Bool) (P : Type 0) → (b ≡ true → P) → (P → b ≡ true) → IsTestOf b P
 told_by true P from to = from refl
 told_by false P from to = λ p. false≢true (to p)
 
-pub told_as : (b : Bool) (P Q : Type 0) → (P → Q) → (Q → P) → IsTold b P → IsTold b Q
+pub told_as : (b : Bool) (P Q : Type 0) → (P → Q) → (Q → P) → IsTestOf b P → IsTestOf b Q
 told_as true P Q from to told = from told
 told_as false P Q from to told = λ q. told (to q)
 
-pub either_told : (a b : Bool) (P Q : Type 0) → IsTold a P → IsTold b Q → IsTold (a || b) (P ⊎ Q)
+pub either_told : (a b : Bool) (P Q : Type 0) → IsTestOf a P → IsTestOf b Q → IsTestOf (a || b) (P ⊎ Q)
 either_told true b P Q p q = inl p
 either_told false true P Q p q = inr q
 either_told false false P Q p q = λ h. elim h [ inl x ↦ p x | inr y ↦ q y ]
 
-pub it_is : (b : Bool) (P : Type 0) → b ≡ true → IsTold b P → P
+pub it_is : (b : Bool) (P : Type 0) → b ≡ true → IsTestOf b P → P
 it_is true P e told = told
 it_is false P e told = absurd (false≢true e)
 
-pub it_is_not : (b : Bool) (P : Type 0) → b ≡ false → IsTold b P → ¬ P
+pub it_is_not : (b : Bool) (P : Type 0) → b ≡ false → IsTestOf b P → ¬ P
 it_is_not true P e told = absurd (false≢true (sym e))
 it_is_not false P e told = told
 
@@ -56,7 +56,7 @@ module _ {K : Type 0} (cmp : K → K → Ordering) (total : IsTotalOrder cmp) (e
   ties x y e = ap (cmp x) (sym e) ∙ tied_itself total x
 
   pub found_or_not : (xs : List K) (x : K) (r : Result ℕ ℕ) → IsStrictlySortedBy cmp xs → IsSearchInRange r (length xs)
-      → IsBinarySearchResult (λ y. cmp y x) xs r → IsTold (is_ok r) (Contains xs x)
+      → IsBinarySearchResult (λ y. cmp y x) xs r → IsTestOf (is_ok r) (Contains xs x)
   found_or_not xs x (Ok k) rises within search = (k, within, exact (get_or xs k x) x (search x))
   found_or_not xs x (Err i) rises within search = λ h. not_there h
     where

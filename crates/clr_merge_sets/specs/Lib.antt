@@ -2,4 +2,4 @@ pub mod Certificates
 pub mod Faults
 pub mod MergeSetNames
 pub mod MergeSets
-pub mod Told
+pub mod Tests

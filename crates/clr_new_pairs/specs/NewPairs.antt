@@ -83,12 +83,12 @@ is_unserved_by (Some rule) = is_unserved rule
 unfoldable pub is_unserved_under : List Rule → ℕ → Bool
 is_unserved_under rules number = is_unserved_by (slice_get rules number)
 
--- a cell stands behind the last one that counts, where there is such a one
+-- a cell stands behind the last cell that counts, if there is a last one
 abbrev pub is_past : Option CellId → CellId → Bool
 is_past None q = false
 is_past (Some last) q = is_gt (cell_cmp q last)
 
--- the first subject isn't past it
+-- the statement holds of the need, whose first subject isn't past the last cell that counts
 abbrev pub UpTo : Option CellId → (Need → Type 0) → Need → Type 0
 UpTo last P n = P n × (is_past last n.first.cell ≡ false)
 
@@ -99,7 +99,7 @@ pub record BreaksAtOnce (rules : List Rule) (leaves_out : Bool) (n : Need) : Typ
   pub first : n.first.fresh ≡ true
   pub second : is_fresh n.second ≡ true
 
--- one of some needs is such a one of a rule, with its first subject at this cell
+-- one of some needs breaks a rule at once, and has its first subject at this cell
 abbrev pub HasBreakAt : List Rule → Bool → ℕ → List Need → CellId → Type 0
 HasBreakAt rules leaves_out number needs q = (n : Need) × Contains needs n × BreaksAtOnce rules leaves_out n × (n.rule ≡ number) × (n.first.cell ≡ q)
 

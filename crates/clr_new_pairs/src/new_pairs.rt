@@ -45,7 +45,7 @@ fn is_of_two_new(rule: u16, need: &Need) -> bool
     }
 }
 
-/// Returns whether two cells stand behind the last one that counts, where there is such a one.
+/// Returns whether two cells stand behind the last cell that counts, if there is a last one.
 fn are_past(last: Option<CellId>, one: CellId, other: CellId) -> bool
     ensures { result ≡ (is_past last one && is_past last other) }
 {

@@ -90,7 +90,7 @@ fn write_live(text: &mut JsonText, schema: &Schema, live: &Sheet) -> Result<(), 
 }
 
 /// Returns a text with the rows of LIVE written at its end, ascending by cell. If memory runs out,
-/// the text is lost.
+/// the text is dropped.
 pub fn with_live(mut text: JsonText, schema: &Schema, live: &Sheet) -> Result<JsonText, AllocError>
     ensures { IfOk result (λ longer. longer ≡ text ++ tokens_of (live_data schema.now live.now)) }
 {

@@ -225,7 +225,7 @@ fn write_rules(text: &mut JsonText, schema: &Schema, rules: &[Rule]) -> Result<(
 }
 
 /// Returns a text with the rules of a book written at its end, in their order, with the names that
-/// the schema has for tables and columns. If memory runs out, the text is lost.
+/// the schema has for tables and columns. If memory runs out, the text is dropped.
 pub fn with_rules(
     mut text: JsonText,
     schema: &Schema,

@@ -72,7 +72,7 @@ fn write_tables(text: &mut JsonText, tables: &[TableDef]) -> Result<(), AllocErr
 }
 
 /// Returns a text with the tables of a schema written at its end, in their order. If memory runs
-/// out, the text is lost.
+/// out, the text is dropped.
 pub fn with_tables(mut text: JsonText, schema: &Schema) -> Result<JsonText, AllocError>
     ensures { IfOk result (λ longer. longer ≡ text ++ tokens_of (list_data table_data schema.now)) }
 {

@@ -114,7 +114,7 @@ fn write_workspace(
 
 /// Returns a text with a workspace written at its end by what is stored of it: the differences of
 /// its base, of its rows and of its savepoints, its marks in their order, and its flag. If memory
-/// runs out, the text is lost.
+/// runs out, the text is dropped.
 pub fn with_workspace(
     mut text: JsonText,
     schema: &Schema,

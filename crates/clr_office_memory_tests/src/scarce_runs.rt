@@ -29,7 +29,7 @@ fn replies_of(run: &Result<ClearedRun, Verdict>) -> &[Reply] {
     }
 }
 
-/// Returns whether commands are answered by these lines when they are given again; it is never true, and none where that isn't so.
+/// Returns `Some(false)` where commands are answered by these lines when they are given again, and none where they aren't.
 fn is_right_again(
     alloc: Global,
     office: &mut Office,

@@ -43,8 +43,7 @@ fn lost_again(
     reply_lines(alloc, office.schema(), again.as_slice())
 }
 
-/// Returns whether the lost commands are answered the same in two offices when they are given again, which have the same text then; it is
-/// never true, and none where that isn't so.
+/// Returns `Some(false)` where two offices answer the lost commands alike when they are given again and then have the same text, and none where they don't.
 fn is_right_of_lost(
     alloc: Global,
     (office, other): (&mut Office, &mut Office),
@@ -59,9 +58,8 @@ fn is_right_of_lost(
     }
 }
 
-/// Returns whether no command was lost, where another office, which was the same before, answers those that weren't lost the same, and has the
-/// same text then. Where some were lost both offices must answer these the same when they are given again, and have the same text then.
-/// None where that isn't so.
+/// Returns whether no command was lost. Another office, which was the same before, must answer the commands that weren't lost alike and then have the same
+/// text. Where some were lost, both offices must answer them alike when they are given again, and have the same text then. Returns none where that isn't so.
 pub fn is_right_but_for_lost(
     alloc: Global,
     (office, other): (&mut Office, &mut Office),

@@ -69,7 +69,7 @@ fn found_in(alloc: Global, office: &Office, needs: &[u16]) -> Option<(usize, usi
     }
 }
 
-/// Returns the same after a script, each command of which is done.
+/// Returns how many groups and dependent pairs an office has after a script, each command of which is done.
 fn found_after(alloc: Global, office: &mut Office, made: &MadeUp) -> Option<(usize, usize)> {
     let needs = needs_of(alloc, made.versions.as_slice()).ok()?;
     if perform_script(alloc, office, made.script.as_str())? {
@@ -79,7 +79,7 @@ fn found_after(alloc: Global, office: &mut Office, made: &MadeUp) -> Option<(usi
     }
 }
 
-/// Returns the same in the office that a seed makes.
+/// Returns how many groups and dependent pairs the office that a seed makes has.
 fn found_of(alloc: Global, seed: u64) -> Option<(usize, usize)> {
     let mut dice = Dice::new(seed);
     let made = made_up(alloc, &mut dice).ok()?;

@@ -153,7 +153,7 @@ fn is_said_in(alloc: Global, office: &Office, case: Case, memory: &mut Memory) -
     Some(said.as_slice() == wanted.as_bytes() && before.as_slice() == after.as_slice())
 }
 
-/// Returns the same in the office of a case.
+/// Returns whether the office of a case says of its members what the case expects, and stays as it was.
 fn is_said(alloc: Global, case: Case, memory: &mut Memory) -> bool {
     match office_after(alloc, case.0) {
         Some(office) => is_said_in(alloc, &office, case, memory) == Some(true),

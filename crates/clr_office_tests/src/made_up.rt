@@ -182,7 +182,7 @@ fn outcome_in(
     Some(if is_so { outcome } else { Outcome::Wrong })
 }
 
-/// Returns the same in the office of a text.
+/// Returns how the plan for members of LIVE turns out in the office of a text after a script.
 fn outcome_over(
     alloc: Global,
     (network, script): (&str, &str),

@@ -14,7 +14,8 @@ use Rattle.clr_workspaces.specs.Marks.{Name, Mark, Saved, ChildMark, is_mark_of,
 use Rattle.clr_workspaces.specs.Workspaces.{Workspace, depth_of, depth_within, find, is_child_named, no_workspace, one_above, parent_of, live_workspace}
 use Rattle.clr_workspaces.specs.Workspaces.{workspace_at}
 use Rattle.clr_workspaces.proofs.FindLemmas.{first_is, first_of, has_name}
-use Rattle.clr_parts.specs.Parts.{first_below, has_good_marks, is_childs, is_marked_once, is_under, marks_fault_at, name_fault_at, workspaces_fault}
+use Rattle.clr_parts.specs.Parts.{first_below, has_good_marks, is_marked_once, is_savepoint_or_child, is_under, marks_fault_at}
+use Rattle.clr_parts.specs.Parts.{part_name_fault_at, workspaces_fault}
 use Rattle.clr_workspaces.specs.Roots.{IsRooted}
 use Rattle.clr_workspaces.specs.Soundness.{IsSound}
 use Rattle.clr_parts.specs.declared.parts.PartFault.{PartFault}
@@ -127,14 +128,14 @@ all_at p [] d each = refl
 all_at p (x ∷ xs) d each = and_from _ _ (each 0 (omega arith)) (all_at p xs d (λ k lt. each (suc k) (omega arith)))
 
 -- marks of children, each of which is found
-childs_found : (ws : List Workspace) (parent : Name) (marks : List Mark) → ((name : Name) → 0 < tally (is_mark_of name) marks
-    → is_under ws parent (find ws name) ≡ true) → list_all (is_childs ws parent) marks ≡ true
-childs_found ws parent [] each = refl
-childs_found ws parent (Saved name content ∷ marks) each = childs_found ws parent marks each
-childs_found ws parent (ChildMark child ∷ marks) each =
+children_found : (ws : List Workspace) (parent : Name) (marks : List Mark) → ((name : Name) → 0 < tally (is_mark_of name) marks
+    → is_under ws parent (find ws name) ≡ true) → list_all (is_savepoint_or_child ws parent) marks ≡ true
+children_found ws parent [] each = refl
+children_found ws parent (Saved name content ∷ marks) each = children_found ws parent marks each
+children_found ws parent (ChildMark child ∷ marks) each =
     let itself : bytes_eq child child ≡ true = (bytes_decides child child).1 refl in
     and_from _ _ (each child (subst (λ b. 0 < cond b (suc (tally (is_mark_of child) marks)) (tally (is_mark_of child) marks)) (sym itself) (omega arith)))
-    (childs_found ws parent marks (λ name some. each name (more (bytes_eq name child) (tally (is_mark_of name) marks) some)))
+    (children_found ws parent marks (λ name some. each name (more (bytes_eq name child) (tally (is_mark_of name) marks) some)))
   where
     more : (b : Bool) (n : ℕ) → 0 < n → 0 < cond b (suc n) n
     more true n some = omega arith
@@ -152,7 +153,7 @@ module _ (live : Content) (rest : List Workspace) (sound : IsSound (live_workspa
   abbrev ws : List Workspace
   ws = live_workspace live ∷ rest
 
-  name_clear : (i : ℕ) → i < length rest → name_fault_at ws i ≡ None
+  name_clear : (i : ℕ) → i < length rest → part_name_fault_at ws i ≡ None
   name_clear i lt =
       let r = sound.rooted in
       let w = workspace_at ws (suc i) in
@@ -204,11 +205,11 @@ module _ (live : Content) (rest : List Workspace) (sound : IsSound (live_workspa
       let within : suc i < length ws = omega (arith, lt) in
       let w = workspace_at ws (suc i) in
       let good : has_good_marks ws w ≡ true = and_from _ _ (sound.saved (suc i) within)
-      (and_from _ _ (childs_found ws w.name w.marks (child_found (suc i) (omega arith) within))
+      (and_from _ _ (children_found ws w.name w.marks (child_found (suc i) (omega arith) within))
       (all_at (is_marked_once w.name w.marks) ws no_workspace (marked_once (suc i) (omega arith) within))) in
       ap (λ b. cond b None (Some fault.BadMarks)) good
 
   pub no_fault : workspaces_fault live rest ≡ None
   no_fault =
-      ap (λ first. option_or first (first_below (marks_fault_at ws) (length rest))) (none_below (name_fault_at ws) (length rest) name_clear)
+      ap (λ first. option_or first (first_below (marks_fault_at ws) (length rest))) (none_below (part_name_fault_at ws) (length rest) name_clear)
       ∙ none_below (marks_fault_at ws) (length rest) marks_clear

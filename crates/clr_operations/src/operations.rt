@@ -88,7 +88,7 @@ pub fn mark(live: &Sheet, map: &mut WorkspaceMap, at: usize, name: &str) -> Resu
 {
     let _live = live;
     let differences = map.current(at).copy()?;
-    let name = Words::new(String::from_str(map.allocator(), name)?);
+    let name = Words::from_str(map.allocator(), name)?;
     map.push_mark(at, StoredMark::Saved(name, differences))
 }
 
@@ -257,7 +257,7 @@ fn refresh_base(
     ensures elsewhere { StayOwnButNear at cells.now map.old map.new }
 {
     let alloc = map.allocator();
-    let name = Words::new(String::from_str(alloc, map.name_at(at))?);
+    let name = Words::from_str(alloc, map.name_at(at))?;
     pin_children(live, map, at, cells)?;
     let differences = Differences::of_rows(alloc, rows)?;
     move_mark(map, above, name)?;
@@ -358,7 +358,7 @@ fn move_row(
 }
 
 /// Resolves one cell of a workspace. Neutral entries that this makes stay.
-fn settle(
+fn resolve_row(
     live: &Sheet,
     map: &mut WorkspaceMap,
     at: usize,
@@ -418,7 +418,7 @@ fn resolve(
     ensures err { OnErr result (wholes live.now map.new ≡ wholes live.now map.old) }
     ensures lean { IsLean live.now map.old → IsLean live.now map.new }
 {
-    let done = settle(live, map, at, above, cell, keep);
+    let done = resolve_row(live, map, at, above, cell, keep);
     sweep_cell(live, map, at, cell);
     done
 }
@@ -508,8 +508,8 @@ pub fn create(
 {
     let _live = live;
     let alloc = map.allocator();
-    let above = Words::new(String::from_str(alloc, map.name_at(parent))?);
-    let child = Words::new(String::from_str(alloc, name)?);
+    let above = Words::from_str(alloc, map.name_at(parent))?;
+    let child = Words::from_str(alloc, name)?;
     let name = String::from_str(alloc, name)?;
     let last = map.len();
     push_leaf(map, name, above)?;

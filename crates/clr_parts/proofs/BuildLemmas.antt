@@ -12,7 +12,7 @@ use Rattle.clr_workspaces.specs.Workspaces.{Workspace, live_workspace, workspace
 use Rattle.clr_workspaces.proofs.FindLemmas.{find_within}
 use Rattle.clr_deltas.proofs.Meaning.{length-wholes, name-whole, parent-whole, find-wholes, named_found}
 use Rattle.clr_deltas.proofs.Places.{wholes-push}
-use Rattle.clr_parts.specs.Parts.{marks_of, workspace_of, marks_fault_at, first_below, first_name_fault, first_marks_fault, workspaces_fault, number_of}
+use Rattle.clr_parts.specs.Parts.{marks_of, workspace_of, marks_fault_at, first_below, first_part_name_fault, first_marks_fault, workspaces_fault, number_of}
 use Rattle.clr_parts.specs.Parts.{IsPartFault, IsFirstPartFault}
 use Rattle.clr_workspaces.specs.Soundness.{IsSound}
 use Rattle.clr_parts.specs.declared.parts.Part.{Part}
@@ -83,17 +83,19 @@ module _ (live : Content) (ls : List Delta) (rest : List Workspace) (is : wholes
       let count : length ls - 1 ≡ length rest = omega (arith, all) in
       λ i. first_below (marks_fault_at (is i)) (count i)
 
-  pub sound_deltas : first_name_fault live rest ≡ None → first_below (marks_fault_at (wholes live ls)) (length ls - 1) ≡ None → IsSound (wholes live ls)
+  pub sound_deltas : first_part_name_fault live rest ≡ None → first_below (marks_fault_at (wholes live ls)) (length ls - 1) ≡ None → IsSound (wholes live ls)
   sound_deltas names marks = subst IsSound (sym is) (sound_spaces live rest names (sym marks_in ∙ marks))
 
-  pub none_wrong : first_name_fault live rest ≡ None → first_below (marks_fault_at (wholes live ls)) (length ls - 1) ≡ None → workspaces_fault live rest ≡ None
+  pub none_wrong : first_part_name_fault live rest ≡ None → first_below (marks_fault_at (wholes live ls)) (length ls - 1) ≡ None
+      → workspaces_fault live rest ≡ None
   none_wrong names marks = λ i. option_or (names i) ((sym marks_in ∙ marks) i)
 
-  pub marks_wrong : first_name_fault live rest ≡ None → (e : ℕ × PartFault) → IsFirstPartFault (first_below (marks_fault_at (wholes live ls)) (length ls - 1)) e
+  pub marks_wrong : first_part_name_fault live rest ≡ None → (e : ℕ × PartFault)
+      → IsFirstPartFault (first_below (marks_fault_at (wholes live ls)) (length ls - 1)) e
       → IsFirstPartFault (workspaces_fault live rest) e
   marks_wrong names e r = subst (λ o. IsFirstPartFault o e) (marks_in ∙ sym (ap (λ o. option_or o (first_marks_fault live rest)) names)) r
 
-pub names_wrong : (live : Content) (ws : List Workspace) (e : ℕ × PartFault) → IsFirstPartFault (first_name_fault live ws) e →
+pub names_wrong : (live : Content) (ws : List Workspace) (e : ℕ × PartFault) → IsFirstPartFault (first_part_name_fault live ws) e →
     IsFirstPartFault (workspaces_fault live ws) e
 names_wrong live ws (n, fault.OutOfMemory) r = r
 names_wrong live ws (n, fault.BadName) r = ap (λ o. option_or o (first_marks_fault live ws)) r

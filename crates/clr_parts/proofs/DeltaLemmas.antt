@@ -8,7 +8,7 @@ use Rattle.clr_deltas.specs.Deltas.{Delta, above_in, grow, leaf, whole_of, whole
 use Rattle.clr_workspaces.specs.Workspaces.{Workspace, live_workspace, workspace_at}
 use Rattle.clr_deltas.proofs.Meaning.{length-wholes, name-whole, parent-whole}
 use Rattle.clr_workspaces.specs.Roots.{IsRooted}
-use Rattle.clr_parts.specs.Parts.{place_fault, name_fault_at, first_below, first_name_fault, number_of, IsPartFault, IsFirstPartFault}
+use Rattle.clr_parts.specs.Parts.{place_fault, part_name_fault_at, first_below, first_part_name_fault, number_of, IsPartFault, IsFirstPartFault}
 use Rattle.clr_parts.specs.declared.parts.PartFault.{PartFault}
 use Rattle.clr_deltas.proofs.Meaning.{root_made}
 use Rattle.clr_parts.proofs.FaultLemmas.{below_none, below_next, below_all, shaped_take}
@@ -38,11 +38,11 @@ grow-none ws = refl
 pub record ArePushed (live : Content) (rest : List Workspace) (ls others : List Delta) : Type 0 where
   pub made : wholes live ls ++ grow (wholes live ls) others ≡ live_workspace live ∷ rest
   pub filled : 0 < length ls
-  pub clear : first_below (name_fault_at (live_workspace live ∷ rest)) (length ls - 1) ≡ None
+  pub clear : first_below (part_name_fault_at (live_workspace live ∷ rest)) (length ls - 1) ≡ None
 
 pub pushed_first : (live : Content) (ls others : List Delta) → ls ≡ leaf live_name [] ∷ [] → ArePushed live (workspaces_over live others) ls others
 pushed_first live ls others is =
-    let wrong = name_fault_at (live_workspace live ∷ workspaces_over live others) in
+    let wrong = part_name_fault_at (live_workspace live ∷ workspaces_over live others) in
     record {
       made = ap (λ (ks : List Delta). wholes live ks ++ grow (wholes live ks) others) is ∙ ap (λ (vs : List Workspace). vs ++ grow vs others) (root_made live);
       filled = subst (λ (ks : List Delta). 0 < length ks) (sym is) (omega arith);
@@ -54,7 +54,7 @@ module _ (live : Content) (rest : List Workspace) (ls : List Delta) where
   ws = wholes live ls
 
   abbrev wrong : ℕ → Option PartFault
-  wrong = name_fault_at (live_workspace live ∷ rest)
+  wrong = part_name_fault_at (live_workspace live ∷ rest)
 
   module _ (others : List Delta) (p : ArePushed live rest ls others) where
     position : suc (length ls - 1) ≡ length ws
@@ -71,7 +71,7 @@ module _ (live : Content) (rest : List Workspace) (ls : List Delta) where
         p.clear).rooted
 
   -- all of them stand
-  pub pushed_all : ArePushed live rest ls [] → (wholes live ls ≡ live_workspace live ∷ rest) × (first_name_fault live rest ≡ None)
+  pub pushed_all : ArePushed live rest ls [] → (wholes live ls ≡ live_workspace live ∷ rest) × (first_part_name_fault live rest ≡ None)
   pushed_all p =
       let made : ws ≡ live_workspace live ∷ rest = sym (append-nil ws) ∙ ap (λ (vs : List Workspace). ws ++ vs) (sym (grow-none ws)) ∙ p.made in
       let here = position [] p in
@@ -104,7 +104,7 @@ module _ (live : Content) (rest : List Workspace) (ls : List Delta) where
         }
 
     pub pushed_not : (why : PartFault) → IsPartFault (place_fault ws l.name l.parent) why
-        → IsFirstPartFault (first_name_fault live rest) (number_of (length ls - 1) why, why)
+        → IsFirstPartFault (first_part_name_fault live rest) (number_of (length ls - 1) why, why)
     pushed_not why e =
         let all = room (l ∷ others) p in
         let here = position (l ∷ others) p in

@@ -16,8 +16,8 @@ use Rattle.clr_workspaces.specs.Marks.{Name, Mark, Saved, ChildMark, is_mark_of,
 use Rattle.clr_workspaces.specs.Workspaces.{Workspace, no_workspace, live_workspace, workspace_at, find, parent_of, is_child_named, child_count, depth_of}
 use Rattle.clr_workspaces.proofs.FindLemmas.{find_more, find_named, find_within}
 use Rattle.clr_workspaces.proofs.FindLemmas.{not_from}
-use Rattle.clr_parts.specs.Parts.{workspace_of, list_of, name_fault, parent_fault, is_under, is_childs, is_marked_once, has_child_marks, has_good_marks}
-use Rattle.clr_parts.specs.Parts.{name_fault_at, marks_fault_at, first_below, first_name_fault, first_marks_fault}
+use Rattle.clr_parts.specs.Parts.{workspace_of, list_of, parent_fault, is_under, is_savepoint_or_child, is_marked_once, has_child_marks, has_good_marks}
+use Rattle.clr_parts.specs.Parts.{part_name_fault, part_name_fault_at, marks_fault_at, first_below, first_part_name_fault, first_marks_fault}
 use Rattle.clr_workspaces.specs.Roots.{IsRooted}
 use Rattle.clr_workspaces.specs.Soundness.{IsSound, HasChildMarks, are_good_savepoints}
 use Rattle.clr_workspaces.specs.declared.limits.TheConstants.{MOST_WORKSPACES, MOST_LEVELS}
@@ -103,7 +103,7 @@ pub record IsPlaced (ws : List Workspace) (w : Workspace) : Type 0 where
 at_most : (a b : ℕ) → nat_le (suc a) b ≡ true → a < b
 at_most a b e = grind (arith, common_steps)
 
-pub placed_from : (ws : List Workspace) (w : Workspace) → name_fault ws w ≡ None → IsPlaced ws w
+pub placed_from : (ws : List Workspace) (w : Workspace) → part_name_fault ws w ≡ None → IsPlaced ws w
 placed_from ws w e = by (is_good_name w.name) refl (find ws w.name) refl (find ws w.parent) refl e
   where
     by : (g : Bool) → is_good_name w.name ≡ g → (f : Option ℕ) → find ws w.name ≡ f → (p : Option ℕ) → find ws w.parent ≡ p
@@ -128,7 +128,7 @@ pub record IsShaped (ws : List Workspace) : Type 0 where
 pub shaped_root : (live : Content) → IsShaped (live_workspace live ∷ [])
 shaped_root live = let s = root_sound live in record { rooted = s.rooted; few = s.few; shallow = s.shallow }
 
-pub shaped_more : (ws : List Workspace) (w : Workspace) → IsShaped ws → name_fault ws w ≡ None → IsShaped (ws ++ w ∷ [])
+pub shaped_more : (ws : List Workspace) (w : Workspace) → IsShaped ws → part_name_fault ws w ≡ None → IsShaped (ws ++ w ∷ [])
 shaped_more ws w s clear =
     let p = placed_from ws w clear in
     let more = length-append ws (w ∷ []) in
@@ -153,12 +153,12 @@ take_next [] i lt = absurd (omega arith)
 take_next (w ∷ ws) zero lt = refl
 take_next (w ∷ ws) (suc i) lt = ap (λ vs. w ∷ vs) (take_next ws i (omega arith))
 
-pub shaped_take : (live : Content) (rest : List Workspace) (i : ℕ) → i ≤ length rest → first_below (name_fault_at (live_workspace live ∷ rest)) i ≡ None
+pub shaped_take : (live : Content) (rest : List Workspace) (i : ℕ) → i ≤ length rest → first_below (part_name_fault_at (live_workspace live ∷ rest)) i ≡ None
     → IsShaped (take (suc i) (live_workspace live ∷ rest))
 shaped_take live rest zero le clear = shaped_root live
 shaped_take live rest (suc i) le clear =
     let ws = live_workspace live ∷ rest in
-    let less = one_less (name_fault_at ws) i clear in
+    let less = one_less (part_name_fault_at ws) i clear in
     subst IsShaped (sym (take_next ws (suc i) (omega arith))) (shaped_more (take (suc i) ws) (workspace_at ws (suc i))
     (shaped_take live rest i (omega arith) less.0) less.1)
 
@@ -174,11 +174,11 @@ is_one a true h e = grind (arith, common_steps)
 is_one a false h e = absurd (false≢true h)
 
 module _ (ws : List Workspace) (r : IsRooted ws) (parent n : Name) where
-  no_marks : (ms : List Mark) → list_all (is_childs ws parent) ms ≡ true → is_under ws parent (find ws n) ≡ false → tally (is_mark_of n) ms ≡ 0
+  no_marks : (ms : List Mark) → list_all (is_savepoint_or_child ws parent) ms ≡ true → is_under ws parent (find ws n) ≡ false → tally (is_mark_of n) ms ≡ 0
   no_marks [] all other = refl
   no_marks (Saved name content ∷ ms) all other = no_marks ms all other
   no_marks (ChildMark name ∷ ms) all other =
-      let parts = and_parts (is_under ws parent (find ws name)) (list_all (is_childs ws parent) ms) all in
+      let parts = and_parts (is_under ws parent (find ws name)) (list_all (is_savepoint_or_child ws parent) ms) all in
       let apart : bytes_eq n name ≡ false = not_from (bytes_eq n name) (λ e.
       let same : n ≡ name = (bytes_decides n name).0 e in
       false≢true (sym other ∙ ap (λ m. is_under ws parent (find ws m)) same ∙ parts.0)) in
@@ -200,8 +200,8 @@ marks_right ws j r lt all n = by (find ws n) refl
     w : Workspace
     w = workspace_at ws j
 
-    parts : (list_all (is_childs ws w.name) w.marks ≡ true) × (list_all (is_marked_once w.name w.marks) ws ≡ true)
-    parts = and_parts (list_all (is_childs ws w.name) w.marks) (list_all (is_marked_once w.name w.marks) ws) all
+    parts : (list_all (is_savepoint_or_child ws w.name) w.marks ≡ true) × (list_all (is_marked_once w.name w.marks) ws ≡ true)
+    parts = and_parts (list_all (is_savepoint_or_child ws w.name) w.marks) (list_all (is_marked_once w.name w.marks) ws) all
 
     neither : is_under ws w.name (find ws n) ≡ false → mark_count w.marks n ≡ child_count ws w.name n
     neither other = count-tally (is_mark_of n) w.marks ∙ no_marks ws r w.name n w.marks parts.0 other ∙ sym (no_children ws r w.name n other)
@@ -236,7 +236,7 @@ length-parts live (p ∷ parts) = ap suc (length-parts live parts)
 whole_take : {A : Type 0} (xs : List A) (n : ℕ) → length xs ≡ n → take n xs ≡ xs
 whole_take xs n e = take_all xs n (omega (arith, e))
 
-module _ (live : Content) (rest : List Workspace) (names : first_name_fault live rest ≡ None) where
+module _ (live : Content) (rest : List Workspace) (names : first_part_name_fault live rest ≡ None) where
   abbrev ws : List Workspace
   ws = live_workspace live ∷ rest
 

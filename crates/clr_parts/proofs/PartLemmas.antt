@@ -15,7 +15,7 @@ use Rattle.clr_workspaces.specs.Marks.{Name, Mark, Saved, ChildMark, find_mark, 
 use Rattle.clr_workspaces.specs.Workspaces.{Workspace, find, depth_of}
 use Rattle.clr_deltas.specs.declared.stored_marks.StoredMark.{StoredMark}
 use Rattle.clr_deltas.specs.declared.stored_marks.StoredMark.TheVariants as stored
-use Rattle.clr_parts.specs.Parts.{place_fault, has_new_name, is_under, is_childs, is_marked_once, has_child_marks}
+use Rattle.clr_parts.specs.Parts.{place_fault, has_new_name, is_under, is_savepoint_or_child, is_marked_once, has_child_marks}
 use Rattle.clr_workspaces.specs.Soundness.{are_good_savepoints}
 use Rattle.clr_workspaces.specs.declared.limits.TheConstants.{MOST_WORKSPACES, MOST_LEVELS, MOST_SAVEPOINTS}
 use Rattle.clr_parts.specs.declared.parts.PartFault.TheVariants as fault
@@ -125,10 +125,11 @@ same_names b c (stored.Saved name d ∷ ms) = ap (λ names. name ∷ names) (sam
 same_names b c (stored.Child name ∷ ms) = same_names b c ms
 
 module _ (ws : List Workspace) (parent : Name) (b c : Content) where
-  same_childs : (ms : List StoredMark) → list_all (is_childs ws parent) (map (whole_mark b) ms) ≡ list_all (is_childs ws parent) (map (whole_mark c) ms)
-  same_childs [] = refl
-  same_childs (stored.Saved name d ∷ ms) = same_childs ms
-  same_childs (stored.Child name ∷ ms) = ap (λ rest. is_under ws parent (find ws name) && rest) (same_childs ms)
+  same_children : (ms : List StoredMark) → list_all (is_savepoint_or_child ws parent) (map (whole_mark b) ms)
+      ≡ list_all (is_savepoint_or_child ws parent) (map (whole_mark c) ms)
+  same_children [] = refl
+  same_children (stored.Saved name d ∷ ms) = same_children ms
+  same_children (stored.Child name ∷ ms) = ap (λ rest. is_under ws parent (find ws name) && rest) (same_children ms)
 
   same_counts : (ms : List StoredMark) (vs : List Workspace) → list_all (is_marked_once parent (map (whole_mark b) ms)) vs
       ≡ list_all (is_marked_once parent (map (whole_mark c) ms)) vs
@@ -139,7 +140,7 @@ module _ (ws : List Workspace) (parent : Name) (b c : Content) where
   pub good_alike : (ms : List StoredMark)
       → (are_good_savepoints (saved_names (map (whole_mark b) ms)) && has_child_marks ws parent (map (whole_mark b) ms))
       ≡ (are_good_savepoints (saved_names (map (whole_mark c) ms)) && has_child_marks ws parent (map (whole_mark c) ms))
-  good_alike ms = λ i. are_good_savepoints (same_names b c ms i) && (same_childs ms i && same_counts ms ws i)
+  good_alike ms = λ i. are_good_savepoints (same_names b c ms i) && (same_children ms i && same_counts ms ws i)
 
 -- names and places -----------------------------------------------------------------------------------
 

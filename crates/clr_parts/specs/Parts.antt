@@ -58,17 +58,17 @@ place_fault before name parent =
     else parent_fault before (find before parent))
 
 -- why a workspace can't stand under its name and its parent after those before it, if it can't
-abbrev pub name_fault : List Workspace → Workspace → Option PartFault
-name_fault before w = place_fault before w.name w.parent
+abbrev pub part_name_fault : List Workspace → Workspace → Option PartFault
+part_name_fault before w = place_fault before w.name w.parent
 
 -- the workspace found under the name of a child's mark is a child of the one of the given name
 abbrev pub is_under : List Workspace → Name → Option ℕ → Bool
 is_under ws parent None = false
 is_under ws parent (Some at) = bytes_eq parent (workspace_at ws at).parent
 
-abbrev pub is_childs : List Workspace → Name → Mark → Bool
-is_childs ws parent (Saved name content) = true
-is_childs ws parent (ChildMark name) = is_under ws parent (find ws name)
+abbrev pub is_savepoint_or_child : List Workspace → Name → Mark → Bool
+is_savepoint_or_child ws parent (Saved name content) = true
+is_savepoint_or_child ws parent (ChildMark name) = is_under ws parent (find ws name)
 
 -- a workspace has one mark, if it is a child of the one of the given name
 abbrev pub is_marked_once : Name → List Mark → Workspace → Bool
@@ -76,7 +76,7 @@ is_marked_once parent marks w = not (bytes_eq parent w.parent) || mark_count mar
 
 -- the marks of children are the children, each once
 abbrev pub has_child_marks : List Workspace → Name → List Mark → Bool
-has_child_marks ws parent marks = list_all (is_childs ws parent) marks && list_all (is_marked_once parent marks) ws
+has_child_marks ws parent marks = list_all (is_savepoint_or_child ws parent) marks && list_all (is_marked_once parent marks) ws
 
 abbrev pub has_good_marks : List Workspace → Workspace → Bool
 has_good_marks ws w = are_good_savepoints (saved_names w.marks) && has_child_marks ws w.name w.marks
@@ -91,22 +91,22 @@ first_below wrong zero = None
 first_below wrong (suc n) = option_or (first_below wrong n) (option_map (λ why. (n, why)) (wrong n))
 
 -- the fault of the workspace at a position under LIVE, of names and places, and of marks
-abbrev pub name_fault_at : List Workspace → ℕ → Option PartFault
-name_fault_at ws i = name_fault (take (suc i) ws) (workspace_at ws (suc i))
+abbrev pub part_name_fault_at : List Workspace → ℕ → Option PartFault
+part_name_fault_at ws i = part_name_fault (take (suc i) ws) (workspace_at ws (suc i))
 
 abbrev pub marks_fault_at : List Workspace → ℕ → Option PartFault
 marks_fault_at ws i = marks_fault ws (workspace_at ws (suc i))
 
 -- the first of some workspaces under LIVE whose name or place has a fault, and the first whose marks have one
-abbrev pub first_name_fault : Content → List Workspace → Option (ℕ × PartFault)
-first_name_fault live ws = first_below (name_fault_at (live_workspace live ∷ ws)) (length ws)
+abbrev pub first_part_name_fault : Content → List Workspace → Option (ℕ × PartFault)
+first_part_name_fault live ws = first_below (part_name_fault_at (live_workspace live ∷ ws)) (length ws)
 
 abbrev pub first_marks_fault : Content → List Workspace → Option (ℕ × PartFault)
 first_marks_fault live ws = first_below (marks_fault_at (live_workspace live ∷ ws)) (length ws)
 
 -- the first of some workspaces that can't stand under LIVE, and why: names and places of all come before the marks of any
 abbrev pub workspaces_fault : Content → List Workspace → Option (ℕ × PartFault)
-workspaces_fault live ws = option_or (first_name_fault live ws) (first_marks_fault live ws)
+workspaces_fault live ws = option_or (first_part_name_fault live ws) (first_marks_fault live ws)
 
 abbrev pub first_fault : Content → List Part → Option (ℕ × PartFault)
 first_fault live parts = workspaces_fault live (map workspace_of parts)

@@ -6,7 +6,8 @@ ghost use Rattle.clr_differences.specs.Differences.{seen_over};
 ghost use Rattle.clr_deltas.specs.Entries.{delta_of};
 ghost use Rattle.clr_deltas.specs.Deltas.{leaf, whole_mark, whole_of, wholes};
 ghost use Rattle.clr_workspaces.specs.Workspaces.{workspace_at, find};
-ghost use Rattle.clr_parts.specs.Parts.{mark_of, marks_of, workspace_of, list_of, name_fault_at, first_name_fault, IsPartFault, IsFirstPartFault, number_of};
+ghost use Rattle.clr_parts.specs.Parts.{mark_of, marks_of, workspace_of, list_of, part_name_fault_at, first_part_name_fault};
+ghost use Rattle.clr_parts.specs.Parts.{IsPartFault, IsFirstPartFault, number_of};
 ghost use Rattle.clr_parts.specs.declared.parts.PartFault.TheVariants.{OutOfMemory};
 ghost use Rattle.clr_workspaces.specs.Roots.{IsRooted};
 
@@ -124,8 +125,8 @@ fn push_part(
     requires rooted { IsRooted (wholes live.now map.old) }
     requires before { wholes live.now map.old ≡ take (suc at) (list_of live.now parts.now) }
     ensures ok { OnOk result (wholes live.now map.new ≡ take (suc (suc at)) (list_of live.now parts.now)) }
-    ensures passed { OnOk result (name_fault_at (list_of live.now parts.now) at ≡ None) }
-    ensures refused { IfErr result (IsPartFault (name_fault_at (list_of live.now parts.now) at)) }
+    ensures passed { OnOk result (part_name_fault_at (list_of live.now parts.now) at ≡ None) }
+    ensures refused { IfErr result (IsPartFault (part_name_fault_at (list_of live.now parts.now) at)) }
 {
     let part = &parts[at];
     let above = match judge_place(live, map, part.name.as_str(), part.parent.as_str()) {
@@ -170,8 +171,8 @@ pub fn push_parts(
     parts: &[Part],
 ) -> Result<WorkspaceMap, (usize, PartFault)>
     ensures made { IfOk result (λ map. wholes live.now map ≡ list_of live.now parts.now) }
-    ensures passed { OnOk result (first_name_fault live.now (map workspace_of parts.now) ≡ None) }
-    ensures refused { IfErr result (IsFirstPartFault (first_name_fault live.now (map workspace_of parts.now))) }
+    ensures passed { OnOk result (first_part_name_fault live.now (map workspace_of parts.now) ≡ None) }
+    ensures refused { IfErr result (IsFirstPartFault (first_part_name_fault live.now (map workspace_of parts.now))) }
 {
     let mut map = start(alloc)?;
     for at in 0..parts.len() {

@@ -4,7 +4,7 @@ ghost use Rattle.std.specs.Prelude.{◌≡◌, ◌++◌, [], ◌∷◌, None, On
 ghost use Rattle.clr_deltas.specs.Entries.{stored_delta};
 ghost use Rattle.clr_deltas.specs.Deltas.{above_in, whole_of, wholes};
 ghost use Rattle.clr_workspaces.specs.Workspaces.{live_workspace};
-ghost use Rattle.clr_parts.specs.Parts.{spaces_of, place_fault, first_name_fault, IsPartFault, IsFirstPartFault};
+ghost use Rattle.clr_parts.specs.Parts.{spaces_of, place_fault, first_part_name_fault, IsPartFault, IsFirstPartFault};
 ghost use Rattle.clr_workspaces.specs.Roots.{IsRooted};
 
 use crate::builds::{number_of, start};
@@ -42,8 +42,8 @@ pub fn push_deltas(
     parts: Vec<StoredPart>,
 ) -> Result<WorkspaceMap, (usize, PartFault)>
     ensures made { IfOk result (λ made. wholes live.now made ≡ live_workspace live.now ∷ spaces_of live.now parts.items) }
-    ensures passed { OnOk result (first_name_fault live.now (spaces_of live.now parts.items) ≡ None) }
-    ensures refused { IfErr result (IsFirstPartFault (first_name_fault live.now (spaces_of live.now parts.items))) }
+    ensures passed { OnOk result (first_part_name_fault live.now (spaces_of live.now parts.items) ≡ None) }
+    ensures refused { IfErr result (IsFirstPartFault (first_part_name_fault live.now (spaces_of live.now parts.items))) }
 {
     let mut map = start(alloc)?;
     for part in parts {

@@ -6,7 +6,7 @@ ghost use Rattle.std.specs.Str.{bytes_eq};
 ghost use Rattle.clr_deltas.specs.Deltas.{wholes};
 ghost use Rattle.clr_workspaces.specs.Marks.{saved_names};
 ghost use Rattle.clr_workspaces.specs.Workspaces.{workspace_at, find};
-ghost use Rattle.clr_parts.specs.Parts.{bare_mark, bare_marks, place_fault, has_new_name, is_childs, is_marked_once};
+ghost use Rattle.clr_parts.specs.Parts.{bare_mark, bare_marks, place_fault, has_new_name, is_savepoint_or_child, is_marked_once};
 ghost use Rattle.clr_parts.specs.Parts.{has_good_marks, marks_fault_at, first_below, IsFirstPartFault};
 ghost use Rattle.clr_workspaces.specs.Roots.{IsRooted};
 ghost use Rattle.clr_workspaces.specs.Soundness.{are_good_savepoints};
@@ -86,8 +86,8 @@ fn has_good_savepoints(marks: &[StoredMark]) -> bool
 }
 
 /// Returns whether a mark is a savepoint, or that of a child of the workspace of a name.
-fn is_childs(live: &Sheet, map: &WorkspaceMap, parent: &str, mark: &StoredMark) -> bool
-    ensures { result ≡ is_childs (wholes live.now map.now) parent.now (bare_mark mark.now) }
+fn is_savepoint_or_child(live: &Sheet, map: &WorkspaceMap, parent: &str, mark: &StoredMark) -> bool
+    ensures { result ≡ is_savepoint_or_child (wholes live.now map.now) parent.now (bare_mark mark.now) }
 {
     let _live = live;
     match mark {
@@ -100,10 +100,15 @@ fn is_childs(live: &Sheet, map: &WorkspaceMap, parent: &str, mark: &StoredMark) 
 }
 
 /// Returns whether each mark is a savepoint, or that of a child of the workspace of a name.
-fn are_childrens(live: &Sheet, map: &WorkspaceMap, parent: &str, marks: &[StoredMark]) -> bool
-    ensures { result ≡ list_all (λ m. is_childs (wholes live.now map.now) parent.now (bare_mark m)) marks.now }
+fn are_savepoints_or_children(
+    live: &Sheet,
+    map: &WorkspaceMap,
+    parent: &str,
+    marks: &[StoredMark],
+) -> bool
+    ensures { result ≡ list_all (λ m. is_savepoint_or_child (wholes live.now map.now) parent.now (bare_mark m)) marks.now }
 {
-    marks.iter().all(|mark| is_childs(live, map, parent, mark))
+    marks.iter().all(|mark| is_savepoint_or_child(live, map, parent, mark))
 }
 
 /// Returns whether the workspace at a position has exactly one mark, if it is a child of the one of
@@ -145,7 +150,7 @@ fn has_good_marks(live: &Sheet, map: &WorkspaceMap, at: usize) -> bool
     if !has_good_savepoints(marks) {
         return false;
     }
-    if !are_childrens(live, map, name, marks) {
+    if !are_savepoints_or_children(live, map, name, marks) {
         return false;
     }
     are_marked_once(live, map, name, marks)

@@ -55,7 +55,7 @@ fn mark_parts(live: &Sheet, map: &WorkspaceMap, at: usize) -> Result<Vec<MarkPar
 pub fn live_part(alloc: Global, live: &Sheet) -> Result<Part, AllocError>
     ensures { IfOk result (λ part. workspace_of part ≡ live_workspace live.now) }
 {
-    let name = Words::new(String::from_str(alloc, LIVE)?);
+    let name = Words::from_str(alloc, LIVE)?;
     let no_name = String::new(alloc);
     let parent = Words::new(no_name);
     let base = Sheet::new(alloc);
@@ -78,8 +78,8 @@ pub fn part_at(live: &Sheet, map: &WorkspaceMap, at: usize) -> Result<Part, Allo
     requires rooted { IsRooted (wholes live.now map.now) }
     ensures { IfOk result (λ part. workspace_of part ≡ workspace_at (wholes live.now map.now) at) }
 {
-    let name = Words::new(String::from_str(map.allocator(), map.name_at(at))?);
-    let parent = Words::new(String::from_str(map.allocator(), map.parent_name(at))?);
+    let name = Words::from_str(map.allocator(), map.name_at(at))?;
+    let parent = Words::from_str(map.allocator(), map.parent_name(at))?;
     let base = base_rows(live, map, at)?;
     let current = whole_rows(live, map, at)?;
     let marks = mark_parts(live, map, at)?;

@@ -28,7 +28,7 @@ fn avoid_set(labels: &mut Labels, scene: &Scene<'_>, set: &ChangeSet) -> Result<
     Ok(())
 }
 
-/// Notes what labels should leave free, where there is so much room that it is worth the while.
+/// Notes the spots that labels should leave free, if the map has room enough for it to matter.
 pub(crate) fn avoid_rows(labels: &mut Labels, scene: &Scene<'_>) -> Result<(), AllocError> {
     if scene.detail.is_fine() {
         for (_, row) in scene.field.rows.iter() {

@@ -20,7 +20,7 @@ fn add_need(table: &mut Table, setting: Setting<'_>, entry: &Entry) -> Result<()
     Ok(table.rows.push(row_of(setting.alloc, &cells)?)?)
 }
 
-/// Adds that needs are left out, if some are.
+/// Adds the sentence that says how many needs are left out, if some are.
 fn add_rest(section: &mut Builder, count: usize) -> Result<(), AllocError> {
     if count <= MOST_NEEDS {
         return Ok(());

@@ -21,7 +21,7 @@ fn add_order(text: &mut String, setting: Setting<'_>, order: &[usize]) -> Result
     }
 }
 
-/// Adds that members are blocked, and in which order.
+/// Adds the sentence that members are blocked, and in which order.
 fn add_blocked(text: &mut String, setting: Setting<'_>, order: &[usize]) -> Result<(), AllocError> {
     let root = setting.members.root;
     add_names(text, setting.members.names)?;
@@ -29,7 +29,7 @@ fn add_blocked(text: &mut String, setting: Setting<'_>, order: &[usize]) -> Resu
     add_order(text, setting, order)
 }
 
-/// Adds that members can be merged in every order.
+/// Adds the sentence that members can be merged in every order.
 fn add_cleared(text: &mut String, setting: Setting<'_>) -> Result<(), AllocError> {
     let root = setting.members.root;
     if setting.members.names.is_empty() {

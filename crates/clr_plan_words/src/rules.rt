@@ -111,7 +111,7 @@ impl Setting<'_> {
         self.add_changed(text, rows, changes.as_slice(), false)
     }
 
-    /// Adds that no row stands that would serve.
+    /// Adds the sentence that no row stands that would serve.
     fn add_no_server(
         &self,
         text: &mut String,

@@ -43,7 +43,7 @@ fn fits(office: &Office, held: Held<'_>) -> bool
 }
 
 /// Returns whether a row fits the schema of an office, where there is one.
-fn fits_too(office: &Office, held: Option<Held<'_>>) -> bool
+fn fits_if_any(office: &Office, held: Option<Held<'_>>) -> bool
     ensures value { result ≡ list_all (fits office.now.schema) (option_to_list (option_map held_of held.entry)) }
     ensures cells { result ≡ true → All (FitsCell office.now.schema) (option_to_list (option_map held_of held.entry)) }
 {
@@ -63,7 +63,7 @@ impl Asked<'_> {
         if self.need.rule as usize >= book.len() || !fits(office, self.first) {
             return false;
         }
-        if !fits(office, server) || !fits_too(office, self.second) {
+        if !fits(office, server) || !fits_if_any(office, self.second) {
             return false;
         }
         book.serves(self.need.ask(), self.first, self.second, server)

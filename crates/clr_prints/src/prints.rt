@@ -66,7 +66,7 @@ impl Print {
         Print::new(text, Vec::new(alloc), false, false)
     }
 
-    /// Returns the same with lines behind the notes.
+    /// Returns this print with lines behind its notes.
     pub fn with_notes(mut self, lines: &[u8]) -> Result<Print, AllocError>
         ensures { IfOk result (λ p. printed p ≡ with_lines lines.now (printed self)) }
     {

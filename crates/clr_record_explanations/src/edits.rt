@@ -17,7 +17,7 @@ const TABLE: usize = 1;
 /// How many fields stand before the values of an edit: its word, the table and the key.
 const FIRST_VALUE: usize = 3;
 
-/// Returns that an edit begins with another word.
+/// Returns the slip that an edit begins with another word.
 fn bad_word(alloc: Global, fields: &StringRecord) -> Result<RecordSlip, AllocError> {
     let word = field(fields, 0);
     let sentence = format!(in alloc;
@@ -27,7 +27,7 @@ fn bad_word(alloc: Global, fields: &StringRecord) -> Result<RecordSlip, AllocErr
     Ok(RecordSlip::new(0, sentence).with_hint(hint))
 }
 
-/// Returns that an edit of a table has another count of fields than it must have.
+/// Returns the slip that an edit of a table has another count of fields than it must have.
 fn bad_count_in(
     alloc: Global,
     fields: &StringRecord,
@@ -48,7 +48,7 @@ fn bad_count_in(
     Ok(RecordSlip::new(0, sentence))
 }
 
-/// Returns that an edit has another count of fields than it must have.
+/// Returns the slip that an edit has another count of fields than it must have.
 fn bad_count(
     alloc: Global,
     schema: &Schema,
@@ -88,7 +88,7 @@ fn number_field(schema: &Schema, fields: &StringRecord) -> usize {
     2
 }
 
-/// Returns that a field of an edit is no number and must be one.
+/// Returns the slip that a field of an edit is no number and must be one.
 fn bad_number(
     alloc: Global,
     schema: &Schema,

@@ -11,7 +11,7 @@ use std::alloc::{AllocError, Global};
 
 const KINDS: &[&str] = &["root", "member", "need"];
 
-/// Returns that a record has another count of fields than six.
+/// Returns the slip that a record has another count of fields than six.
 fn bad_count(alloc: Global, fields: &StringRecord) -> Result<RecordSlip, AllocError> {
     let count = fields.len();
     let sentence = format!(in alloc; "a record has {RECORD_FIELDS} fields, and here are {count}")?;
@@ -23,7 +23,7 @@ fn bad_count(alloc: Global, fields: &StringRecord) -> Result<RecordSlip, AllocEr
     Ok(slip.with_hint(Some(hint)))
 }
 
-/// Returns that a record begins with none of the three words.
+/// Returns the slip that a record begins with none of the three words.
 fn bad_kind(alloc: Global, fields: &StringRecord) -> Result<RecordSlip, AllocError> {
     let word = field(fields, 0);
     let sentence = format!(in alloc; "'{word}' is none of root, member and need")?;

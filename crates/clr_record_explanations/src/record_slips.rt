@@ -25,7 +25,7 @@ impl RecordSlip {
         Ok(RecordSlip::new(field, String::from_str(alloc, sentence)?))
     }
 
-    /// Returns the same with a hint, if there is one.
+    /// Returns this slip with a hint, if there is one.
     pub fn with_hint(self, hint: Option<String>) -> RecordSlip {
         RecordSlip {
             field: self.field,

@@ -45,7 +45,7 @@ fn table_hint(alloc: Global, schema: &Schema, text: &str) -> Result<Option<Strin
     name_hint(alloc, table, names.as_slice())
 }
 
-/// Returns that a field of a need is no version of a row.
+/// Returns the slip that a field of a need is no version of a row.
 fn bad_version(
     alloc: Global,
     schema: &Schema,

@@ -64,7 +64,7 @@ fn all_words(alloc: Global) -> Result<Vec<&'static str>, AllocError> {
     Ok(words)
 }
 
-/// Returns that a word isn't known where it stands.
+/// Returns the slip that a word isn't known where it stands.
 fn bad_word(alloc: Global, fields: &StringRecord) -> Result<RecordSlip, AllocError> {
     match field(fields, 0) {
         "merge" => RecordSlip::of_words(alloc, 2, "the third field of a merge is keep or remove"),
@@ -82,7 +82,7 @@ fn bad_word(alloc: Global, fields: &StringRecord) -> Result<RecordSlip, AllocErr
     }
 }
 
-/// Returns that no step begins with a word.
+/// Returns the slip that no step begins with a word.
 fn unknown_word(alloc: Global, word: &str) -> Result<RecordSlip, AllocError> {
     let words = all_words(alloc)?;
     let sentence = format!(in alloc; "no step begins with '{word}'")?;
@@ -95,7 +95,7 @@ fn count_of(pattern: &str) -> usize {
     pattern.split(',').count()
 }
 
-/// Returns that a step has another count of fields than its word asks for.
+/// Returns the slip that a step has another count of fields than its word asks for.
 fn bad_count(alloc: Global, fields: &StringRecord) -> Result<RecordSlip, AllocError> {
     let word = field(fields, 0);
     let count = fields.len();
@@ -107,7 +107,7 @@ fn bad_count(alloc: Global, fields: &StringRecord) -> Result<RecordSlip, AllocEr
     Ok(RecordSlip::new(0, sentence))
 }
 
-/// Returns that the number of a step isn't one.
+/// Returns the slip that the number of a step isn't one.
 fn bad_number(alloc: Global, fields: &StringRecord) -> Result<RecordSlip, AllocError> {
     let at = if field(fields, 0) == "resolve" { 3 } else { 2 };
     let text = field(fields, at);
@@ -132,7 +132,7 @@ pub fn explain_step(
     }
 }
 
-/// Returns that an `apply` asks for more edits than records stand behind it.
+/// Returns the slip that an `apply` asks for more edits than records stand behind it.
 pub fn explain_short_apply(alloc: Global, fields: &StringRecord) -> Result<RecordSlip, AllocError> {
     let wanted = field(fields, 2);
     let sentence = format!(in alloc; "apply asks for {wanted} edits, and fewer records follow")?;

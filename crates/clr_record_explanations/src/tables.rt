@@ -7,7 +7,7 @@ use clr_rows::Schema;
 use csv::StringRecord;
 use std::alloc::{AllocError, Global};
 
-/// Returns that no table has the name in a field, which counts from 0.
+/// Returns the slip that no table has the name in a field, which counts from 0.
 pub fn no_table(
     alloc: Global,
     schema: &Schema,

@@ -15,7 +15,7 @@ pub fn ordinal(text: &str) -> Option<u16> {
 
 /// Returns the text itself.
 pub fn words(alloc: Global, text: &str) -> Option<Words> {
-    Some(Words::new(String::from_str(alloc, text).ok()?))
+    Words::from_str(alloc, text).ok()
 }
 
 /// Returns a text as often as the number after a star says.

@@ -30,7 +30,7 @@ fn segment(text: &str) -> Option<Shape> {
     Some(Shape::Line(place(first)?, place(second)?))
 }
 
-/// As many places from (0, 0), each so far to the right of the one before.
+/// Returns a path of a number of places from (0, 0), each the same step to the right of the one before; none where the text is no such path.
 fn walk(alloc: Global, text: &str) -> Option<Shape> {
     let (count, step) = text.split_once(' ')?;
     let step = i64::from(ordinal(step)?);

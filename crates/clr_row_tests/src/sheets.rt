@@ -177,7 +177,7 @@ fn first_wrong_of_copy(alloc: Global, sheet: &mut Sheet) -> Option<&'static str>
     }
 }
 
-/// Returns the same of three points.
+/// Returns the first line that a sheet of three points, or its copy, doesn't answer as it says, or none.
 fn first_wrong_of_points(alloc: Global) -> Option<&'static str> {
     let mut sheet = Sheet::new(alloc);
     match first_wrong(alloc, &mut sheet, POINTS) {

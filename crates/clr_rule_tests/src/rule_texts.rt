@@ -110,7 +110,7 @@ fn add(rules: &mut Vec<Rule>, alloc: Global, text: &str) -> Option<()> {
     Some(())
 }
 
-/// Rules that are parted by semicolons.
+/// Returns the rules of a text, which semicolons part; none where one of them can't be read.
 pub(crate) fn rules(alloc: Global, text: &str) -> Option<Vec<Rule>> {
     let mut list = Vec::new(alloc);
     for part in text.split(';') {

@@ -71,7 +71,7 @@ pub(crate) fn text_in<'a, J: JsonValue>(json: &'a J, key: &str) -> Result<&'a st
 pub fn words_from(alloc: Global, text: &str) -> Result<Words, TextFault>
     ensures { Gives text_lacks_memory (λ w. w) result (Ok text.now) }
 {
-    Ok(Words::new(String::from_str(alloc, text)?))
+    Ok(Words::from_str(alloc, text)?)
 }
 
 /// Returns the text at a key. Fails with `BadField` where there is none.

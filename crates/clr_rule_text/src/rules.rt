@@ -179,7 +179,7 @@ pub fn rule(alloc: Global, schema: &Schema, named: NamedRule) -> Result<Rule, Te
     }
 }
 
-/// Rules with their tables and columns by their numbers. Fails as `rule` does at the first that fails.
+/// Returns rules with their tables and columns by number. Fails with the fault of the first rule for which `rule` fails.
 pub fn each_rule(
     alloc: Global,
     schema: &Schema,

@@ -8,8 +8,8 @@ use Rattle.clr_rows.proofs.SameLemmas.{value_decides, place_decides}
 use Rattle.clr_rules.specs.Sides.{same_field}
 use Rattle.clr_rules.specs.Calls.{are_one_point}
 
-pub field_told : (told : Bool) (v w : Value) → (IsTrue told ↔ (v ≡ w)) → told ≡ same_field (Some v) (Some w)
-field_told told v w h = same_from_decides told (same_value v w) h (value_decides v w)
+pub is_same_field : (told : Bool) (v w : Value) → (IsTrue told ↔ (v ≡ w)) → told ≡ same_field (Some v) (Some w)
+is_same_field told v w h = same_from_decides told (same_value v w) h (value_decides v w)
 
-pub place_told : (told : Bool) (p q : Place) → (IsTrue told ↔ (p ≡ q)) → told ≡ are_one_point (Some p) (Some q)
-place_told told p q h = same_from_decides told (same_place p q) h (place_decides p q)
+pub is_one_point : (told : Bool) (p q : Place) → (IsTrue told ↔ (p ≡ q)) → told ≡ are_one_point (Some p) (Some q)
+is_one_point told p q h = same_from_decides told (same_place p q) h (place_decides p q)

@@ -23,7 +23,7 @@ both_have_roles a b s t e = elim (either_way (is_of_side a s) (is_of_side b t) (
   | inr h ↦ (or_right _ _ h.1, or_left _ _ h.0)
 ]
 
--- both are of it where there is one side for both
+-- where the two sides are one, both rows are of it
 pub both_of_one : (side : Side) (s t : Held) → are_of_sides side side s t ≡ true → (is_of_side side s ≡ true) × (is_of_side side t ≡ true)
 both_of_one side s t e = elim (either_way (is_of_side side s) (is_of_side side t) (is_of_side side t) (is_of_side side s) e) [
   | inl h ↦ h

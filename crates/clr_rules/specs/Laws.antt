@@ -57,14 +57,15 @@ CrossingServers = (tables : List TableDef) (a b server : Side) (ask : Ask) (s t 
 
 -- roles --------------------------------------------------------------------------------------
 
--- the second subject, if there is one, has a role
-abbrev pub HasRoleToo : Rule → Option Held → Type 0
-HasRoleToo rule None = ⊤
-HasRoleToo rule (Some t) = has_role_in rule t ≡ true
+-- a rule's second subject, if there is one, has a role in the rule
+abbrev pub SecondHasRole : Rule → Option Held → Type 0
+SecondHasRole rule None = ⊤
+SecondHasRole rule (Some t) = has_role_in rule t ≡ true
 
 -- subjects have a role in their rule
 abbrev pub SubjectsHaveRoles : Type 0
-SubjectsHaveRoles = (rule : Rule) (ask : Ask) (s : Held) (t : Option Held) → are_subjects rule ask s t ≡ true → (has_role_in rule s ≡ true) × HasRoleToo rule t
+SubjectsHaveRoles = (rule : Rule) (ask : Ask) (s : Held) (t : Option Held) → are_subjects rule ask s t ≡ true
+    → (has_role_in rule s ≡ true) × SecondHasRole rule t
 
 -- a row that serves subjects has a role in their rule
 abbrev pub ServersHaveRoles : Type 0

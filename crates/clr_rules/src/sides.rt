@@ -28,7 +28,7 @@ fn value_in(row: &Row, column: u16) -> Option<&Value>
 }
 
 /// Returns whether a row has a value in a column.
-#[tactic(auto, using(crate::proofs::FieldLemmas::field_told))]
+#[tactic(auto, using(crate::proofs::FieldLemmas::is_same_field))]
 fn has_value(row: &Row, column: u16, value: &Value) -> bool
     ensures { result ≡ same_field (slice_get row.now.values column) (Some value.now) }
 {
@@ -80,7 +80,7 @@ fn have_same_field(first: Held, column: Col, second: Held, other: Col) -> bool
 
 /// Returns whether one row has in a column what another row has in another column: the same value,
 /// or none in both.
-#[tactic(auto, using(crate::proofs::FieldLemmas::field_told))]
+#[tactic(auto, using(crate::proofs::FieldLemmas::is_same_field))]
 fn have_same_value(first: &Row, column: u16, second: &Row, other: u16) -> bool
     ensures { result ≡ same_field (slice_get first.now.values column) (slice_get second.now.values other) }
 {

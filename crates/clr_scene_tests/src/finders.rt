@@ -98,7 +98,7 @@ fn lines_under<F: RowFinder>(
     Ok(lines)
 }
 
-/// Returns the same by an office's own finder, which looks at the spots of the row alone.
+/// Returns a line for each row of LIVE under a rule, found by the office's own finder, which looks at the spots of the row alone.
 fn indexed_lines_under(alloc: Global, office: &Office, rule: u16) -> Result<Vec<u8>, Fail> {
     let finder = office.finder(0).ok_or("no finder")?;
     lines_under(alloc, office, finder, rule)

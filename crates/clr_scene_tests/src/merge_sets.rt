@@ -38,7 +38,7 @@ fn plain_scene<'a>(
     }
 }
 
-/// Returns this scene, once calls that have this memory made it too. It fails where too little memory isn't refused.
+/// Returns the scene of some parts, after calls with little memory have made it too. Fails where too little memory isn't refused.
 fn scene_of<'a>(
     alloc: Global,
     office: &'a Office,
@@ -82,7 +82,7 @@ fn lines_of_parts(
     }
 }
 
-/// Returns the same by names. It fails for want of memory, and where a test of names or for conflicts fails.
+/// Returns the lines of the scene of members that are given by name. Fails if memory runs out, and where a test of names or of conflicts fails.
 pub(crate) fn merge_set_lines(
     alloc: Global,
     office: &Office,
@@ -130,7 +130,7 @@ fn are_parts_independent(
     }
 }
 
-/// Returns the same by names. It fails for want of memory, and where the members make no scene.
+/// Returns whether two members that are given by name are independent. Fails if memory runs out, and where the members make no scene.
 pub(crate) fn are_independent(
     alloc: Global,
     office: &Office,
@@ -180,7 +180,7 @@ fn first_broken_of_parts(
     }
 }
 
-/// Returns the same by names. It fails for want of memory, and where the member makes no scene.
+/// Returns the least need that the merge of a member breaks, which is given by name. Fails if memory runs out, and where the member makes no scene.
 pub(crate) fn first_broken(
     alloc: Global,
     office: &Office,

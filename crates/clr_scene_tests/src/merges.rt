@@ -23,7 +23,7 @@ pub(crate) fn broken_line(
     Ok(line)
 }
 
-/// Returns the same of changes over the crossing and more rows.
+/// Returns the least need that changes over the crossing and more rows break, as it stands in a reply, or nothing.
 fn line_of_changes(
     alloc: Global,
     rules: &str,

@@ -253,7 +253,7 @@ fn are_broken(alloc: Global, office: &Office, needs: &[&str; 3]) -> Result<bool,
     Ok(true)
 }
 
-/// Returns the same in the office of a scene.
+/// Returns whether these needs are broken in the office of a scene, once the changes of each member alone are made.
 fn are_broken_in(alloc: Global, scene: &SceneOver, needs: &[&str; 3]) -> Result<bool, Fail> {
     let office = network(alloc, STREETS, scene.0, scene.1)?;
     are_broken(alloc, &office, needs)

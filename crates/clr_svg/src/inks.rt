@@ -55,7 +55,7 @@ impl Ink {
         }
     }
 
-    /// Returns the same ink with dashes, where it draws a line.
+    /// Returns this ink with its line drawn in dashes, if it draws one.
     pub fn dashed(self, dash: Pixels, gap: Pixels) -> Ink
         ensures { result ≡ dashed_ink self dash gap }
     {
@@ -72,7 +72,7 @@ impl Ink {
         }
     }
 
-    /// Returns the same ink that fills with a colour.
+    /// Returns this ink, filling with a colour.
     pub fn over(self, colour: Colour) -> Ink
         ensures { result ≡ ink_over self colour }
     {

@@ -111,8 +111,7 @@ fn bytes_that_are_no_text(rt: HostRuntime) -> Result<(), Fail> {
 fn two_names(alloc: Global) -> Option<Names> {
     let mut list = Vec::new(alloc);
     for name in ["W1", "W2"] {
-        list.push(Words::new(String::from_str(alloc, name).ok()?))
-            .ok()?;
+        list.push(Words::from_str(alloc, name).ok()?).ok()?;
     }
     Some(Names::new(list))
 }

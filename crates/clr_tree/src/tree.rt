@@ -482,8 +482,8 @@ impl Tree {
         refresh_changes(&self.live, &mut self.map, at, changed)
     }
 
-    /// Moves the base of the workspace at a position, which isn't LIVE: it is refreshed or merged, as
-    /// above, or takes the parent's row over at one cell. If memory runs out, nothing changes.
+    /// Moves the base of the workspace at a position, which isn't LIVE: it is refreshed or merged, as by `refresh_changes` and `merge_changes`, or takes the
+    /// parent's row over at one cell. If memory runs out, nothing changes.
     /// For example, where main 1 has the code `A` in the base, `W` in the workspace and `L` in its parent, `OneRow` with
     /// main 1 leaves the code `W` in the workspace for `Keep::Child`, `L` for `Keep::Parent` and `A` for `Keep::Base`.
     /// The base then has the code `L`.

@@ -12,7 +12,7 @@ use std::alloc::{AllocError, Global};
 /// What is done to a workspace of a tree. What can't be done does nothing.
 #[derive(Clone, Copy, Debug)]
 pub enum Deed<'a> {
-    /// Makes it under another.
+    /// Makes the workspace, under another one.
     Create(&'a str),
     Remove,
     /// Puts a row with a number at a key.

@@ -5,7 +5,7 @@ use std::alloc::{AllocError, Global};
 
 /// Returns a text of these letters.
 pub fn words(alloc: Global, text: &str) -> Result<Words, AllocError> {
-    Ok(Words::new(String::from_str(alloc, text)?))
+    Words::from_str(alloc, text)
 }
 
 /// Returns a cell of table 0.

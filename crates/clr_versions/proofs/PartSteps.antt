@@ -23,7 +23,7 @@ module _ (refs : List (Bor Changes)) (positions : List ℕ) (i : ℕ) where
       ≡ sets_at (sets_of refs) positions
   all_sets list past so_far = so_far ∙ ap (sets_at (sets_of refs)) (take_all i positions past)
 
--- there are no more than positions
+-- the sets at some positions are no more than the positions
 few_of : (o : Option Changes) (sets : List Changes) (n : ℕ) → length sets ≤ n → length (cons_option o sets) ≤ n + 1
 few_of None sets n few = omega (arith, few)
 few_of (Some s) sets n few = omega (arith, few)

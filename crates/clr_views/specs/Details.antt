@@ -10,7 +10,7 @@ use Rattle.clr_views.specs.Areas.{height_of, width_of}
 unfoldable pub pixels_of : Area → ℤ
 pixels_of area = stopped (int_div (width_of area).tenths (pos 10) *ℤ int_div (height_of area).tenths (pos 10))
 
--- there are more of them than in a square of this many pixels for each row
+-- the area has more pixels than a square of this many pixels for each row
 unfoldable pub has_room : Area → ℕ → ℤ → Bool
 has_room area rows square = int_lt (stopped (stopped (pos rows) *ℤ square)) (pixels_of area)
 

@@ -21,10 +21,10 @@ rule_line None = []
 rule_line (Some r) = rule_sentence r ++ codes "\n"
 
 -- the name of the workspace at a position, and none of LIVE
-abbrev pub name_told : Office → ℕ → Option Name
-name_told o zero = None
-name_told o (suc position) = name_at o (suc position)
+abbrev pub name_under_live : Office → ℕ → Option Name
+name_under_live o zero = None
+name_under_live o (suc position) = name_at o (suc position)
 
 -- the line of a need that no row serves, and what its rule asks for
 abbrev pub unheld_lines : Office → ℕ → Broken → List ℕ
-unheld_lines o position need = unheld_text o.schema (name_told o position) need ++ rule_line (slice_get o.book need.rule)
+unheld_lines o position need = unheld_text o.schema (name_under_live o position) need ++ rule_line (slice_get o.book need.rule)

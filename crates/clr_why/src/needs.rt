@@ -1,6 +1,6 @@
 //! A need that no row serves, in words.
 ghost use Rattle.std.specs.Prelude.{◌≡◌, IfOk, option_map, slice_get};
-ghost use Rattle.clr_why.specs.Needs.{name_told, rule_line, rule_sentence, unheld_lines};
+ghost use Rattle.clr_why.specs.Needs.{name_under_live, rule_line, rule_sentence, unheld_lines};
 
 use clr_engine::{Broken, Draft};
 use clr_lines::unheld_line;
@@ -39,8 +39,8 @@ fn rule_line(alloc: Global, rules: &[Rule], number: usize) -> Result<Vec<u8>, Al
 }
 
 /// Returns the name of the workspace at a position, and none of LIVE.
-fn name_told(draft: &Draft, position: usize) -> Option<&str>
-    ensures { option_map (λ name. name.now) result ≡ name_told draft.now position }
+fn name_under_live(draft: &Draft, position: usize) -> Option<&str>
+    ensures { option_map (λ name. name.now) result ≡ name_under_live draft.now position }
 {
     match position {
         0 => None,
@@ -58,7 +58,7 @@ pub(crate) fn unheld_lines(
 ) -> Result<Vec<u8>, AllocError>
     ensures { IfOk result (λ lines. lines.items ≡ unheld_lines draft.now position need.now) }
 {
-    let mut lines = unheld_line(alloc, draft.schema(), name_told(draft, position), need)?;
+    let mut lines = unheld_line(alloc, draft.schema(), name_under_live(draft, position), need)?;
     let rule = rule_line(alloc, draft.book().rules(), need.rule as usize)?;
     lines.extend_from_slice(rule.as_slice())?;
     Ok(lines)

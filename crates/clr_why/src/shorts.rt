@@ -76,7 +76,7 @@ pub fn short_office_fault(
     }
 }
 
-/// Returns the same of a script over a schema.
+/// Returns the line that names the fault of a script over a schema and its place, or none where the script can be read.
 pub fn short_script_fault(
     alloc: Global,
     schema: &Schema,
@@ -91,7 +91,7 @@ pub fn short_script_fault(
     }
 }
 
-/// Returns the same of a certificate over a schema.
+/// Returns the line that names the fault of a certificate over a schema and its place, or none where the certificate can be read.
 pub fn short_certificate_fault(
     alloc: Global,
     schema: &Schema,

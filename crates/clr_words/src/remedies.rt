@@ -18,7 +18,7 @@ use std::alloc::{AllocError, Global};
 /// Something that may clear a set of members. Members are numbered by position.
 #[derive(Debug, Drop)]
 pub(crate) enum Action {
-    /// The others are merged without this member.
+    /// All members but this one are merged.
     LeaveOut(usize),
     /// A member makes an edit; the member is given by its position.
     Make(usize, Edit),
@@ -110,7 +110,7 @@ fn serving_row(
     })
 }
 
-/// Adds that a member leaves a cell as it took it over, if it changes it.
+/// Adds the action by which a member leaves a cell as it took it over, if it changes it.
 fn add_undoing(
     list: &mut Vec<Action>,
     members: &Members<'_>,
@@ -123,7 +123,7 @@ fn add_undoing(
     Ok(())
 }
 
-/// Adds that the member which brings a version doesn't bring it.
+/// Adds the action by which the member that brings a version doesn't bring it.
 fn add_giving_up(
     list: &mut Vec<Action>,
     members: &Members<'_>,
@@ -135,7 +135,7 @@ fn add_giving_up(
     }
 }
 
-/// Adds that members leave the rows that serve a need where they stand.
+/// Adds the actions by which members leave the rows that serve a need where they stand.
 fn add_keeping(
     list: &mut Vec<Action>,
     members: &Members<'_>,
@@ -166,7 +166,7 @@ fn free_key(setting: Setting<'_>, table: u16) -> Result<Option<i64>, AllocError>
     }
 }
 
-/// Adds that each of these members brings a row of a side at a place, where the table has points.
+/// Adds, for each of these members, the action by which it brings a row of a side at a place, where the table has points.
 fn add_serving(
     setting: Setting<'_>,
     list: &mut Vec<Action>,
@@ -194,7 +194,7 @@ fn add_serving(
     Ok(())
 }
 
-/// Adds that a row is brought that serves a need, where the need asks for one at a place.
+/// Adds the actions by which members bring a row that serves a need, where the need asks for one at a place.
 fn add_servers_for(
     setting: Setting<'_>,
     list: &mut Vec<Action>,

@@ -43,13 +43,6 @@ fn are_cleared(
     }
 }
 
-/// Returns a text of these words.
-fn words_of(alloc: Global, text: &str) -> Result<Words, AllocError>
-    ensures { IfOk result (λ words. words ≡ text.now) }
-{
-    Ok(Words::new(String::from_str(alloc, text)?))
-}
-
 /// Performs a command, and answers whether it was done; where it wasn't, nothing changes.
 fn is_done(office: &mut Office, command: &Command) -> Result<bool, AllocError>
     ensures { IfOk result (λ done. IsDone office.old command.now done office.new) }
@@ -66,8 +59,8 @@ fn set_savepoint(alloc: Global, office: &mut Office, ws: &str) -> Result<bool, A
     ensures { IfOk result (λ done. IsDone office.old (command.Mark ws.now SAVEPOINT.now) done office.new) }
 {
     let command = Command::Mark {
-        ws: words_of(alloc, ws)?,
-        name: words_of(alloc, BEFORE_TRIAL)?,
+        ws: Words::from_str(alloc, ws)?,
+        name: Words::from_str(alloc, BEFORE_TRIAL)?,
     };
     is_done(office, &command)
 }
@@ -79,7 +72,7 @@ fn make_edit(alloc: Global, office: &mut Office, ws: &str, edit: Edit) -> Result
     let mut edits = Vec::new(alloc);
     edits.push(edit)?;
     let command = Command::Apply {
-        ws: words_of(alloc, ws)?,
+        ws: Words::from_str(alloc, ws)?,
         edits: Edits::new(edits),
     };
     is_done(office, &command)
@@ -90,8 +83,8 @@ fn roll_back(alloc: Global, office: &mut Office, ws: &str) -> Result<bool, Alloc
     ensures { IfOk result (λ done. IsDone office.old (command.RollTo ws.now SAVEPOINT.now) done office.new) }
 {
     let command = Command::RollTo {
-        ws: words_of(alloc, ws)?,
-        name: words_of(alloc, BEFORE_TRIAL)?,
+        ws: Words::from_str(alloc, ws)?,
+        name: Words::from_str(alloc, BEFORE_TRIAL)?,
     };
     is_done(office, &command)
 }
@@ -101,8 +94,8 @@ fn drop_savepoint(alloc: Global, office: &mut Office, ws: &str) -> Result<bool, 
     ensures { IfOk result (λ done. IsDone office.old (command.Unmark ws.now SAVEPOINT.now) done office.new) }
 {
     let command = Command::Unmark {
-        ws: words_of(alloc, ws)?,
-        name: words_of(alloc, BEFORE_TRIAL)?,
+        ws: Words::from_str(alloc, ws)?,
+        name: Words::from_str(alloc, BEFORE_TRIAL)?,
     };
     is_done(office, &command)
 }

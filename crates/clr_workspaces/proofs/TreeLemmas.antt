@@ -414,7 +414,7 @@ module _ (ws : List Workspace) (at p : ℕ) (s : IsSound ws) (some : 0 < at) (lt
           zero_more : (k : ℕ) → k + 0 ≡ k
           zero_more k = omega arith
 
-  -- the others' are as they were
+  -- the marks of all workspaces but the parent are as they were
   marks_other : (j : ℕ) → 0 < j → j < length ws → j ≢ p → (n : Name) → mark_count (workspace_at ws j).marks n ≡ child_count gone (workspace_at ws j).name n
   marks_other j j_some j_lt other n =
       let p_lt : p < length ws = omega (arith, up, lt) in

@@ -16,7 +16,7 @@ use clr_rows::{Held, Place};
 use clr_segments::part;
 
 /// Returns whether both places are there and the same.
-#[tactic(auto, using(crate::proofs::FieldLemmas::place_told))]
+#[tactic(auto, using(crate::proofs::FieldLemmas::is_one_point))]
 fn are_one_point(p: Option<Place>, q: Option<Place>) -> bool
     ensures { result ≡ are_one_point p q }
 {

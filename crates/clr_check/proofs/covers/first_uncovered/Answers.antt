@@ -6,7 +6,7 @@ use Rattle.clr_needs.proofs.BreakLaws.{touched_possible}
 use Rattle.clr_needs.proofs.Reading.{read_of}
 use Rattle.clr_merge_sets.specs.Certificates.{entries_in}
 use Rattle.clr_check.specs.Entries.{HasCover}
-use Rattle.clr_merge_sets.specs.Told.{IsTold}
+use Rattle.clr_merge_sets.specs.Tests.{IsTestOf}
 use Rattle.clr_cert.specs.declared.certificates.Entry.{Entry}
 use Rattle.clr_check.proofs.JudgeLemmas.{AreJudged, all_before, first_after, need_covered, need_uncovered, no_need, none_before, one_before}
 use Rattle.clr_check.proofs.covers.first_uncovered.Goals as goal
@@ -35,7 +35,7 @@ loop-need-preserved g c =
       found = found;
       same = subst (λ (list : List Entry). (e : Entry) → Contains list e ↔ Contains entries e) (sym c.as_slice.ensures.value) c.in_ok-sorted.ensures.same;
       those = c.entries_of.ensures;
-      tells = subst (λ (told : Bool). (a : Lived ℕ) (b : Option (Lived ℕ)) → IsPossible s n a b → IsTold told (HasCover s n a b found)) c.if-not-branch.false
+      tells = subst (λ (told : Bool). (a : Lived ℕ) (b : Option (Lived ℕ)) → IsPossible s n a b → IsTestOf told (HasCover s n a b found)) c.if-not-branch.false
           c.in_ok-is_covered.ensures;
     } in
     one_before s (entries_in entries) read k no_need c.loop-need-test.true (need_covered s entries n judged) c.loop-need.invariant
@@ -54,7 +54,7 @@ returns-then-not-branch g c =
       found = found;
       same = subst (λ (list : List Entry). (e : Entry) → Contains list e ↔ Contains entries e) (sym c.as_slice.ensures.value) c.in_ok-sorted.ensures.same;
       those = c.entries_of.ensures;
-      tells = subst (λ (told : Bool). (a : Lived ℕ) (b : Option (Lived ℕ)) → IsPossible s n a b → IsTold told (HasCover s n a b found)) c.if-not-branch.true
+      tells = subst (λ (told : Bool). (a : Lived ℕ) (b : Option (Lived ℕ)) → IsPossible s n a b → IsTestOf told (HasCover s n a b found)) c.if-not-branch.true
           c.in_ok-is_covered.ensures;
     } in
     let possible = touched_possible s n needs c.in_ok-needs.ensures (read_of read needs k no_need c.deref-need-items.ensures.value c.loop-need-test.true) in

@@ -2,7 +2,7 @@ use Rattle.std.proofs.Common.{◌≡◌, ◌≤◌, Global, List, Vec, arith, le
 use Rattle.std.specs.List.Sorted.{IsStrictlySortedBy}
 use Rattle.std.proofs.lemmas.List.{length-map}
 use Rattle.clr_needs.specs.Orders.{need_cmp}
-use Rattle.clr_merge_sets.specs.Told.{IsTold}
+use Rattle.clr_merge_sets.specs.Tests.{IsTestOf}
 use Rattle.clr_independence.specs.Pairs.{ShareOne}
 use Rattle.clr_needs.specs.declared.needs.Need.{Need}
 use Rattle.clr_independence.proofs.PairLaws.{all_pairs_with, no_pairs_with, one_pair_with, there_at}
@@ -23,8 +23,9 @@ pub loop-second-preserved : goal.loop-second-preserved
 loop-second-preserved c =
     let at = there_at needs_in c.args.lists.now c.args.first c.index-lists-first.result c.requires.first c.index-lists-first.is in
     let other_at = there_at needs_in c.args.lists.now c.loop-second.second c.index-lists-second.result c.loop-second-test.true c.index-lists-second.is in
-    let answer = subst (λ ns. IsTold c.share_one-independent.result (ShareOne ns c.index-lists-second.result.items)) c.as_slice-needs.ensures.value
-    (subst (λ ns. IsTold c.share_one-independent.result (ShareOne c.as_slice-needs.result.now ns)) c.as_slice.ensures.value c.share_one-independent.ensures) in
+    let answer = subst (λ ns. IsTestOf c.share_one-independent.result (ShareOne ns c.index-lists-second.result.items)) c.as_slice-needs.ensures.value
+    (subst (λ ns. IsTestOf c.share_one-independent.result (ShareOne c.as_slice-needs.result.now ns)) c.as_slice.ensures.value
+      c.share_one-independent.ensures) in
     one_pair_with (map needs_in c.args.lists.now) c.args.first c.loop-second.second c.index-lists-first.result.items c.index-lists-second.result.items
     c.share_one-independent.result
     c.args.pairs.now.items c.loop-second.pairs.items c.push.new.self.items c.loop-second.auto.second at other_at answer c.in_ok-push.ensures.items

@@ -17,9 +17,9 @@ returns-in_default-clause-ok c =
     let ls = c.args.map.now in
     let p = c.args.parent in
     let own = c.in_ok-name.ensures.ok in
-    let above = c.new-above.ensures ∙ c.in_ok-from_str.ensures.ok ∙ c.name_at.ensures in
+    let above = c.in_ok-above.ensures ∙ c.name_at.ensures in
     let pushed = c.in_ok-push_leaf.ensures.ok ∙ (λ i. ls ++ leaf (own i) (above i) ∷ []) in
-    let child = c.new-child.ensures ∙ c.in_ok-from_str-2.ensures.ok in
+    let child = c.in_ok-child.ensures in
     ap (wholes live) c.in_default.ensures.ok
     ∙ (λ i. wholes live (delta_changed (pushed i) p (λ l. record l { marks = l.marks ++ stored.Child (child i) ∷ [] })))
     ∙ created_under live ls c.args.name.now p c.requires.rooted c.requires.within c.requires.absent c.requires.good (omega arith)
@@ -29,7 +29,7 @@ returns-else-parent-gt0-clause-ok c =
     let live = c.args.live.now in
     let ls = c.args.map.now in
     let own = c.in_ok-name.ensures.ok in
-    let above = c.new-above.ensures ∙ c.in_ok-from_str.ensures.ok ∙ c.name_at.ensures in
+    let above = c.in_ok-above.ensures ∙ c.name_at.ensures in
     let pushed = c.in_ok-push_leaf.ensures.ok ∙ (λ i. ls ++ leaf (own i) (above i) ∷ []) in
     ap (wholes live) pushed ∙ created_live live ls c.args.name.now c.args.parent c.requires.rooted c.requires.within (omega arith)
 
@@ -40,9 +40,9 @@ returns-in_default-clause-lean c = λ lean.
     let p = c.args.parent in
     let name = c.args.name.now in
     let own = c.in_ok-name.ensures.ok in
-    let above = c.new-above.ensures ∙ c.in_ok-from_str.ensures.ok ∙ c.name_at.ensures in
+    let above = c.in_ok-above.ensures ∙ c.name_at.ensures in
     let pushed = c.in_ok-push_leaf.ensures.ok ∙ (λ i. ls ++ leaf (own i) (above i) ∷ []) in
-    let child = c.new-child.ensures ∙ c.in_ok-from_str-2.ensures.ok in
+    let child = c.in_ok-child.ensures in
     let r = c.requires.rooted in
     let lt = c.requires.within in
     let absent = c.requires.absent in
@@ -56,7 +56,7 @@ returns-else-parent-gt0-clause-lean c = λ lean.
     let live = c.args.live.now in
     let ls = c.args.map.now in
     let own = c.in_ok-name.ensures.ok in
-    let above = c.new-above.ensures ∙ c.in_ok-from_str.ensures.ok ∙ c.name_at.ensures in
+    let above = c.in_ok-above.ensures ∙ c.name_at.ensures in
     let pushed = c.in_ok-push_leaf.ensures.ok ∙ (λ i. ls ++ leaf (own i) (above i) ∷ []) in
     subst (IsLean live) (sym pushed) (lean_leaf live ls c.args.name.now c.args.parent c.requires.rooted c.requires.within lean)
 

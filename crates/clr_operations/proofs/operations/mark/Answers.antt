@@ -13,7 +13,7 @@ returns-clause-ok c =
     let live = c.args.live.now in
     let ls = c.args.map.now in
     let at = c.args.at in
-    let name = c.new-name.ensures ∙ c.in_ok-from_str.ensures.ok in
+    let name = c.in_ok-name.ensures in
     let differences = c.in_ok-differences.ensures ∙ c.current.ensures in
     on_ok c.push_mark.result _ _ (λ is.
     ap (wholes live) is ∙ (λ i. wholes live (delta_changed ls at (λ l. record l { marks = l.marks ++ stored.Saved (name i) (differences i) ∷ [] })))
@@ -27,7 +27,7 @@ returns-clause-lean c = λ lean.
     let live = c.args.live.now in
     let ls = c.args.map.now in
     let at = c.args.at in
-    let name = c.new-name.ensures ∙ c.in_ok-from_str.ensures.ok in
+    let name = c.in_ok-name.ensures in
     let differences = c.in_ok-differences.ensures ∙ c.current.ensures in
     either c.push_mark.result _ _ _
     (λ is. subst (IsLean live) (sym (is ∙ (λ i. delta_changed ls at (λ l. record l { marks = l.marks ++ stored.Saved (name i) (differences i) ∷ [] }))))

@@ -23,7 +23,7 @@ pub restart-requires : goal.restart-requires
 restart-requires c =
     let hs = c.pin_children.new.map in
     let p_in : c.args.above < length hs = omega (arith, c.requires.within, c.requires.earlier, c.in_ok-pin_children.ensures.extends.long) in
-    let more : Extends hs c.move_mark.new.map = subst (Extends hs) (sym c.in_ok-move_mark.ensures.ok) (moved_extends hs c.args.above c.new-name.result p_in) in
+    let more : Extends hs c.move_mark.new.map = subst (Extends hs) (sym c.in_ok-move_mark.ensures.ok) (moved_extends hs c.args.above c.in_ok-name.name p_in) in
     omega (arith, c.requires.within, c.in_ok-pin_children.ensures.extends.long, more.long)
 
 pub returns-clause-ok : goal.returns-clause-ok
@@ -38,12 +38,12 @@ returns-clause-ok c =
     let h = c.in_ok-pin_children.ensures in
     let rows = c.args.rows.items in
     let changed = own_changes (workspace_at (wholes live ls) at) in
-    let child = c.new-name.result in
+    let child = c.in_ok-name.name in
     let p_in : p < length hs = omega (arith, lt, c.requires.earlier, h.extends.long) in
     let more : Extends hs gs = subst (Extends hs) (sym c.in_ok-move_mark.ensures.ok) (moved_extends hs p child p_in) in
     let lt_new : at < length gs = omega (arith, lt, h.extends.long, more.long) in
     let rooted = subst IsRooted (sym h.seen) c.requires.rooted in
-    let named = c.new-name.ensures ∙ c.in_ok-from_str.ensures.ok ∙ c.name_at.ensures ∙ sym (name-wholes live ls at) in
+    let named = c.in_ok-name.ensures ∙ c.name_at.ensures ∙ sym (name-wholes live ls at) in
     let end = ap (wholes live) c.in_ok-move_mark.ensures.ok ∙ moved_is live hs p child rooted p_in ∙ (λ i. change_marks (h.seen i) p (mark_last (named i))) in
     let same_name = (more.each at).name ∙ (h.extends.each at).name in
     let keep = λ (qs : List CellId). λ (held : ChildrenPin hs (delta_at ls at).name qs). subst (λ n. ChildrenPin gs n qs) (sym same_name)
@@ -69,7 +69,7 @@ pub returns-clause-long : goal.returns-clause-long
 returns-clause-long c =
     let hs = c.pin_children.new.map in
     let p_in : c.args.above < length hs = omega (arith, c.requires.within, c.requires.earlier, c.in_ok-pin_children.ensures.extends.long) in
-    let more : Extends hs c.move_mark.new.map = subst (Extends hs) (sym c.in_ok-move_mark.ensures.ok) (moved_extends hs c.args.above c.new-name.result p_in) in
+    let more : Extends hs c.move_mark.new.map = subst (Extends hs) (sym c.in_ok-move_mark.ensures.ok) (moved_extends hs c.args.above c.in_ok-name.name p_in) in
     ap (λ (ms : List Delta). length ms) c.restart.ensures ∙ length-set c.move_mark.new.map c.args.at _ ∙ more.long ∙ c.pin_children.ensures.extends.long
 
 pub returns-in_err-pin_children-clause-elsewhere : goal.returns-in_err-pin_children-clause-elsewhere
@@ -108,8 +108,8 @@ returns-clause-elsewhere c =
     let p = c.args.above in
     let long = c.in_ok-pin_children.ensures.extends.long in
     let p_in : p < length hs = omega (arith, c.requires.within, c.requires.earlier, long) in
-    let more : Extends hs gs = subst (Extends hs) (sym c.in_ok-move_mark.ensures.ok) (moved_extends hs p c.new-name.result p_in) in
-    let moved : StayOwnBut p [] hs gs = subst (StayOwnBut p [] hs) (sym c.in_ok-move_mark.ensures.ok) (but_mark_moved hs p c.new-name.result p_in) in
+    let more : Extends hs gs = subst (Extends hs) (sym c.in_ok-move_mark.ensures.ok) (moved_extends hs p c.in_ok-name.name p_in) in
+    let moved : StayOwnBut p [] hs gs = subst (StayOwnBut p [] hs) (sym c.in_ok-move_mark.ensures.ok) (but_mark_moved hs p c.in_ok-name.name p_in) in
     let none : (q : CellId) → is_among all q ≡ false → (is_among (cells_in c.args.rows.items) q ≡ false) × (finite.get (delta_at ls at).base q ≡ None) =
     λ q apart.
     let base = finite.keys (delta_at ls at).base in

@@ -8,8 +8,8 @@ returns c =
     let live = c.args.live.now in
     let ls = c.args.map.now in
     let at = c.args.at in
-    let name = c.new-name.ensures ∙ c.in_ok-from_str.ensures.ok ∙ c.name_at.ensures ∙ sym (name-wholes live ls at) in
-    let parent = c.new-parent.ensures ∙ c.in_ok-from_str-2.ensures.ok ∙ c.parent_name.ensures ∙ sym (parent-wholes live ls at) in
+    let name = c.in_ok-name.ensures ∙ c.name_at.ensures ∙ sym (name-wholes live ls at) in
+    let parent = c.in_ok-parent.ensures ∙ c.parent_name.ensures ∙ sym (parent-wholes live ls at) in
     let kept = c.is_kept.ensures ∙ sym (kept-wholes live ls at c.requires.child c.requires.within) in
     λ i. record {
       name = name i;
