@@ -177,10 +177,10 @@ impl Office {
         }
     }
 
-    /// Returns how many entries are stored of a workspace, or none for an unknown name: one for
+    /// Returns how many differences are stored of a workspace, or none for an unknown name: one for
     /// each cell where its base differs from its parent's current content, and one for each cell
     /// that it changed. LIVE has 0.
-    /// For example, a new workspace has 1 entry after it inserts a main. One that changes nothing has 1 after its parent
+    /// For example, a new workspace has 1 difference after it inserts a main. One that changes nothing has 1 after its parent
     /// inserts a main, and 0 after a refresh.
     pub fn stored(&self, ws: &str) -> Option<usize>
         ensures { result ≡ if_stands self.now ws.now (stored_in self.now ws.now) }

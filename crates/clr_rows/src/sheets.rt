@@ -125,7 +125,7 @@ impl Sheet {
     }
 
     /// Returns the cells with their rows, in the order of cells, by value.
-    fn into_entries(self) -> IntoIter<CellId, Row>
+    fn into_rows(self) -> IntoIter<CellId, Row>
         ensures rest { result ≡ finite.entries self }
         ensures runs { GivesInOrder (Cell × OneRow) }
     {

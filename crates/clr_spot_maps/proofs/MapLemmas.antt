@@ -5,7 +5,7 @@ use Rattle.std.proofs.lemmas.List.{nil_from_length}
 use Rattle.std.specs.Map.{lookup}
 use Rattle.std.specs.FinMap as finite
 use Rattle.std.specs.Ordering.{eq_by_cmp}
-use Rattle.clr_rows.proofs.Entries.{find_row}
+use Rattle.clr_rows.proofs.SortedMaps.{find_row}
 use Rattle.clr_spots.specs.declared.spots.Spot.{Spot}
 use Rattle.clr_spots.specs.SpotOrder.{same_spot, spot_cmp}
 use Rattle.clr_spots.specs.SpotOrderLaws.{same_spot_equiv, same_spot_is, spot_cmp_exact, spot_cmp_total, spots_tie}

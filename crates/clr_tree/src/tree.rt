@@ -35,7 +35,7 @@ use std::marker::Model;
 /// The workspaces in order of creation, LIVE first, each with whole contents. A workspace is named
 /// by its position, which is below `len`. LIVE is stored whole. Of every other workspace the base
 /// is stored by its differences from the parent's current content, and the current content and the
-/// savepoints by their differences from the base. Neutral entries, which have the row of what they
+/// savepoints by their differences from the base. Neutral differences, which have the row of what they
 /// lie over, come only from the parts that a tree is made of; after a sweep there are none.
 #[derive(Drop)]
 pub struct Tree {
@@ -99,7 +99,7 @@ impl Tree {
     }
 
     /// Returns a tree of LIVE with this content and of these parts by their differences, each base
-    /// over the current content of its parent. No content is made whole, and neutral entries stay
+    /// over the current content of its parent. No content is made whole, and neutral differences stay
     /// until a sweep. Fails with the position of the first part with a fault and which fault:
     /// `BadName`, `NameTaken`, `NoParent` or `TooMany` part by part, and only then `BadMarks` part
     /// by part. Fails with `OutOfMemory` at 0 if memory runs out.
@@ -251,7 +251,7 @@ impl Tree {
         base_row_of(&self.live, map, at, cell)
     }
 
-    /// Returns how many entries are stored of the base and of the current content of the workspace
+    /// Returns how many differences are stored of the base and of the current content of the workspace
     /// at a position, which isn't LIVE. Those that have the row of what they lie over count too, until
     /// `sweep` takes them away.
     pub fn stored(&self, at: usize) -> usize
@@ -259,7 +259,7 @@ impl Tree {
         requires within { at < length self.now.list }
         ensures { result ≡ stored_at self.now.stored at }
     {
-        self.map.count_entries(at)
+        self.map.count_differences(at)
     }
 
     /// Returns what is stored of the workspace at a position, which isn't LIVE, not copied.
@@ -515,8 +515,8 @@ impl Tree {
         self.map.set_kept(at, false);
     }
 
-    /// Takes away every neutral entry, without memory. No content changes. Afterwards a base has an
-    /// entry at exactly the cells where it isn't as the parent's current content, and a current
+    /// Takes away every neutral difference, without memory. No content changes. Afterwards a base has a
+    /// difference at exactly the cells where it isn't as the parent's current content, and a current
     /// content and a savepoint at exactly the cells where they aren't as the base.
     pub fn sweep(&mut self)
         ensures contents { self.new.list ≡ self.old.list }
