@@ -213,7 +213,7 @@ fn mark(reader: &mut Reader, schema: &Schema) -> Read<Mark> {
     }
 }
 
-/// Reads a workspace and puts it behind the others, without entries that have the row of what they lie over.
+/// Reads a workspace and puts it behind the others, without differences that have the row of what they lie over.
 fn workspace(reader: &mut Reader, office: &mut Office, format: i64) -> Read<()> {
     let (mut parent, mut space) = (None, Space::new("", LIVE));
     reader.object(|reader, key| {

@@ -66,7 +66,7 @@ impl Space {
     }
 }
 
-/// Makes an entry, or takes it away where it has the row that lies below.
+/// Stores a difference, or takes it away where it has the row that lies below.
 fn put(layer: &mut Layer, cell: Cell, row: &Option<Shared>, below: &Option<Shared>) {
     if row == below {
         layer.remove(&cell);
@@ -93,14 +93,14 @@ impl Office {
             return self.live.get(&cell);
         }
         match self.spaces[at].current.get(&cell) {
-            Some(entry) => entry.as_ref(),
+            Some(difference) => difference.as_ref(),
             None => self.base_row(at, cell),
         }
     }
 
     pub fn base_row(&self, at: usize, cell: Cell) -> Option<&Shared> {
         match self.spaces[at].base.get(&cell) {
-            Some(entry) => entry.as_ref(),
+            Some(difference) => difference.as_ref(),
             None => self.row(self.spaces[at].parent, cell),
         }
     }
@@ -194,7 +194,7 @@ impl Office {
         }
     }
 
-    /// The changes that a current content would have from other entries over its base.
+    /// The changes that a current content would have from other differences over its base.
     pub fn changes_to(&self, at: usize, layer: &Layer) -> Vec<Change> {
         let cells = self.spaces[at].current.keys().chain(layer.keys());
         let row_there = |cell: &Cell| layer.get(cell).cloned().unwrap_or_else(|| self.base_row(at, *cell).cloned());

@@ -31,17 +31,17 @@ use Rattle.clr_audit.specs.declared.role_index.RoleIndex.{RoleIndex}
 use Rattle.clr_audit.specs.declared.searching.Search.{Search}
 use Rattle.clr_spot_maps.specs.declared.spot_maps.FiledPart.{FiledPart}
 use Rattle.clr_rows.specs.Beginnings.{IsBegun}
-use Rattle.clr_spot_maps.specs.Filing.{Filed, IsEntered, near}
+use Rattle.clr_spot_maps.specs.Filing.{Filed, IsFiled, near}
 use Rattle.clr_audit.specs.RoleFiling.{filed_rows, no_rows_filed, partners}
 use Rattle.clr_audit.specs.PartServers.{is_on, may_serve_part, may_serve_part_by}
 use Rattle.clr_audit.specs.Searches.{may_serve_at, may_serve_if, server_if, servers_of_part, serves_if, serves_at, need_if_broken, need_with, need_beside}
 use Rattle.clr_audit.specs.Searches.{IsSecondAmong, IsBrokenAmong, GainsBroken, GainsBrokenAlone, IsAlone, IsOfPart, IsOfRow, IsPaired}
 use Rattle.clr_spot_maps.proofs.Filed.{found_near}
 use Rattle.clr_audit.proofs.Gaining.{gains_begun, gains_listed, gains_none, gains_more}
-use Rattle.clr_audit.proofs.RoleFiled.{IsRowFiled, IsSubjectFiled, entry, rows_filed}
+use Rattle.clr_audit.proofs.RoleFiled.{IsRowFiled, IsSubjectFiled, filed_part, rows_filed}
 
--- an entry that is filed where a row may stand beside it is among those near that row
-found_among : (m : Filed) (e : FiledPart) (xs ys : List Spot) → IsEntered m e ys → Common xs ys → Among e (near m (unless_many xs) (are_many xs))
+-- a part that is filed where a row may stand beside it is among those near that row
+found_among : (m : Filed) (e : FiledPart) (xs ys : List Spot) → IsFiled m e ys → Common xs ys → Among e (near m (unless_many xs) (are_many xs))
 found_among m e xs ys h w = among e (near m (unless_many xs) (are_many xs)) (found_near m e xs ys h w)
 
 -- lists by position ----------------------------------------------------------------------------
@@ -85,7 +85,7 @@ served_by_row rules ask rows s t e f = go (slice_get rows e.position) refl f
     go None at g = absurd (false≢true g)
     go (Some r) at g = any_by (serves rules ask s t) r rows (at_among rows e.position r at) g
 
--- among these entries a server is found exactly where some row serves
+-- among these filed parts a server is found exactly where some row serves
 abbrev pub FindServers : Search → ℕ → ℕ → Held → Option Held → List FiledPart → Type 0
 FindServers search part other s t servers = calls search.book.now (ask_of_parts search.rule part other) s t ≡ true
     → list_any (serves_at search.book.now (ask_of_parts search.rule part other) (map held_of search.rows.now) s t) servers
@@ -113,12 +113,13 @@ served_alike search spots part other s t ready called =
     (λ f. let (r, h, g) = some_of (serves rules ask s t) rows f in
     let (k, at) = placed r rows h in
     let filed = (row_filed search spots part s ready k r at).server (server_role rules ask s t r g) in
-    let found : Among (entry k 1) (near servers (unless_many xs) (are_many xs)) = found_among servers (entry k 1) xs (server_spots_under rules n r) filed
+    let found : Among (filed_part k 1) (near servers (unless_many xs) (are_many xs)) =
+    found_among servers (filed_part k 1) xs (server_spots_under rules n r) filed
     (servers_meet rules ask s t r called g) in
-    let here : Among (entry k 1) (near servers spots.list spots.wide) =
-    subst (λ (ys : List Spot). Among (entry k 1) (near servers ys spots.wide)) (sym ready.list)
-    (subst (λ (b : Bool). Among (entry k 1) (near servers (unless_many xs) b)) (sym ready.wide) found) in
-    any_by (serves_at rules ask rows s t) (entry k 1) (near servers spots.list spots.wide) here (ap (serves_if rules ask s t) at ∙ g))
+    let here : Among (filed_part k 1) (near servers spots.list spots.wide) =
+    subst (λ (ys : List Spot). Among (filed_part k 1) (near servers ys spots.wide)) (sym ready.list)
+    (subst (λ (b : Bool). Among (filed_part k 1) (near servers (unless_many xs) b)) (sym ready.wide) found) in
+    any_by (serves_at rules ask rows s t) (filed_part k 1) (near servers spots.list spots.wide) here (ap (serves_if rules ask s t) at ∙ g))
 
 -- what serves two parts may serve the first of them
 crossed : (e f : Option Segment) (p : Option Place) → is_crossing_at e f p ≡ true → is_on p e ≡ true
@@ -136,10 +137,10 @@ part_served (Some (Crossing a b server)) ask s t r h =
     (and_parts (is_of_side server r) (is_crossing_at (part_of s.1.shape ask.first_part) (part_of t.1.shape ask.second_part) (point_of r)) h).1
 part_served _ ask s t r h = refl
 
-entry_served : (search : Search) (part other : ℕ) (s t : Held) (e : FiledPart)
+filed_part_served : (search : Search) (part other : ℕ) (s t : Held) (e : FiledPart)
     → serves_at search.book.now (ask_of_parts search.rule part other) (map held_of search.rows.now) s (Some t) e ≡ true → may_serve_at search part s e ≡ true
 unfolding serves
-entry_served search part other s t e h = go (slice_get (map held_of search.rows.now) e.position) h
+filed_part_served search part other s t e h = go (slice_get (map held_of search.rows.now) e.position) h
   where
     go : (o : Option Held) → serves_if search.book.now (ask_of_parts search.rule part other) s (Some t) o ≡ true
         → may_serve_if search.book.now search.rule part s o ≡ true
@@ -159,7 +160,7 @@ part_alike search spots part s ready other t called =
     (λ f. let (e, _, g) = some_of test (servers_of_part search part s spots) f in served_by_row rules ask rows s (Some t) e g)
     (λ f. let (e, h, g) = some_of test found (served_alike search spots part other s (Some t) ready called ∙ f) in
     any_flat test (server_if search part s) e found h
-    (ap (λ (b : Bool). list_any test (cond b (e ∷ []) [])) (entry_served search part other s t e g) ∙ any_by test e (e ∷ []) (inl refl) g))
+    (ap (λ (b : Bool). list_any test (cond b (e ∷ []) [])) (filed_part_served search part other s t e g) ∙ any_by test e (e ∷ []) (inl refl) g))
 
 -- needs --------------------------------------------------------------------------------------------
 -- the need of these subjects, if no row serves them
@@ -267,7 +268,7 @@ beside_broken search servers part s alike listed es b h =
     go e None at m = absurd m
     go e (Some t) at m = by e t (is_after s t) refl (contained t (map held_of search.rows.now) (at_among (map held_of search.rows.now) e.position t at)) m
 
--- the entry of a row that may stand beside another is one of its partners
+-- the filed part of a row that may stand beside another is one of its partners
 partner_found : (index : RoleIndex) (roles others : Roles) (e : FiledPart) (xs ys : List Spot) → IsSubjectFiled index others e ys → Common xs ys
     → ((roles.first ≡ true) × (others.second ≡ true)) ⊎ ((others.first ≡ true) × (roles.second ≡ true))
     → Among e (partners index roles (unless_many xs) (are_many xs))
@@ -300,23 +301,23 @@ pair_found search spots servers part other s roles es ready alike is all t b h =
     let (k, at) = placed t rows (among t rows h.beside.0) in
     let xs = subject_spots_under rules n part s in
     let there = second_part_there rules ask s t h.they_call in
-    let filed : IsSubjectFiled index (roles_under rules n t) (entry k other) (subject_spots_under rules n other t) =
-    subst (λ (j : ℕ). IsSubjectFiled index (roles_under rules n t) (entry k j) (subject_spots_under rules n j t)) (sym there.2)
+    let filed : IsSubjectFiled index (roles_under rules n t) (filed_part k other) (subject_spots_under rules n other t) =
+    subst (λ (j : ℕ). IsSubjectFiled index (roles_under rules n t) (filed_part k j) (subject_spots_under rules n j t)) (sym there.2)
     ((row_filed search spots part s ready k t at).subject there.0 there.1) in
     let beside = subst (λ (r : Roles). ((r.first ≡ true) × ((roles_under rules n t).second ≡ true))
     ⊎ (((roles_under rules n t).first ≡ true) × (r.second ≡ true))) (sym is) (subjects_beside rules ask s t h.they_call) in
-    let found : Among (entry k other) (partners index roles (unless_many xs) (are_many xs)) =
-    partner_found index roles (roles_under rules n t) (entry k other) xs (subject_spots_under rules n other t) filed
+    let found : Among (filed_part k other) (partners index roles (unless_many xs) (are_many xs)) =
+    partner_found index roles (roles_under rules n t) (filed_part k other) xs (subject_spots_under rules n other t) filed
     (subjects_meet rules rows ask s t ready.fit h.they_call) beside in
-    let here : Among (entry k other) (partners index roles spots.list spots.wide) =
-    subst (λ (ys : List Spot). Among (entry k other) (partners index roles ys spots.wide)) (sym ready.list)
-    (subst (λ (w : Bool). Among (entry k other) (partners index roles (unless_many xs) w)) (sym ready.wide) found) in
+    let here : Among (filed_part k other) (partners index roles spots.list spots.wide) =
+    subst (λ (ys : List Spot). Among (filed_part k other) (partners index roles ys spots.wide)) (sym ready.list)
+    (subst (λ (w : Bool). Among (filed_part k other) (partners index roles (unless_many xs) w)) (sym ready.wide) found) in
     let one : Among b (need_if_broken search servers ask s (Some t)) = subst (Among b) (sym (need_is search servers part other s (Some t) (alike other t)))
     (needed_listed rules rows ask s (Some t) b h) in
-    let own : Among b (need_beside search servers s part (entry k other)) =
+    let own : Among b (need_beside search servers s part (filed_part k other)) =
     subst (λ (o : Option Held). Among b (need_with search servers ask s o)) (sym at)
     (subst (λ (after : Bool). Among b (cond after (need_if_broken search servers ask s (Some t)) [])) (sym h.beside.1) one) in
-    flat_among (need_beside search servers s part) (entry k other) b es (all (entry k other) here) own
+    flat_among (need_beside search servers s part) (filed_part k other) b es (all (filed_part k other) here) own
 
 -- the broken needs of a part of a row are gained
 pub part_gains : (search : Search) (spots : Spots) (servers : List FiledPart) (part : ℕ) (s : Held) (roles : Roles) (es : List FiledPart)
@@ -354,23 +355,23 @@ first_there rules rows n s b h number first =
     first_part_there rules (ask_of_parts n b.first_part b.second_part) s h.second (needed rules rows n b.first_part b.second_part s b h number refl refl
     first).they_call
 
--- the need with the row of an entry
+-- the need with the row of a filed part
 module _ (search : Search) (servers : List FiledPart) (s : Held) (part k j : ℕ) (o : Option Held) (t : Held)
     (at : o ≡ slice_get (map held_of search.rows.now) k) (is : o ≡ Some t) where
-  beside_told : (after : Bool) → is_after s t ≡ after → need_beside search servers s part (entry k j)
+  beside_told : (after : Bool) → is_after s t ≡ after → need_beside search servers s part (filed_part k j)
       ≡ cond after (need_if_broken search servers (ask_of_parts search.rule part j) s (Some t)) []
   beside_told after same = ap (need_with search servers (ask_of_parts search.rule part j) s) (sym at ∙ is)
       ∙ ap (λ (b : Bool). cond b (need_if_broken search servers (ask_of_parts search.rule part j) s (Some t)) []) same
 
-  pub beside_is : is_after s t ≡ true → need_beside search servers s part (entry k j)
+  pub beside_is : is_after s t ≡ true → need_beside search servers s part (filed_part k j)
       ≡ need_if_broken search servers (ask_of_parts search.rule part j) s (Some t)
   beside_is after = beside_told true after
 
-  pub beside_before : is_after s t ≡ false → need_beside search servers s part (entry k j) ≡ []
+  pub beside_before : is_after s t ≡ false → need_beside search servers s part (filed_part k j) ≡ []
   beside_before before = beside_told false before
 
 pub beside_none : (search : Search) (servers : List FiledPart) (s : Held) (part k j : ℕ) (o : Option Held) → o ≡ slice_get (map held_of search.rows.now) k → o
-    ≡ None → need_beside search servers s part (entry k j) ≡ []
+    ≡ None → need_beside search servers s part (filed_part k j) ≡ []
 beside_none search servers s part k j o at is = ap (need_with search servers (ask_of_parts search.rule part j) s) (sym at ∙ is)
 
 -- rows ---------------------------------------------------------------------------------------------

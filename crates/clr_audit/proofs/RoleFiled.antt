@@ -12,13 +12,13 @@ use Rattle.clr_rows.specs.Held.{Held}
 use Rattle.clr_spots.specs.Spots.{unless_many, are_many}
 use Rattle.clr_audit.specs.declared.role_index.RoleIndex.{RoleIndex}
 use Rattle.clr_spot_maps.specs.declared.spot_maps.FiledPart.{FiledPart}
-use Rattle.clr_spot_maps.specs.Filing.{Filed, IsEntered, filed_entry}
+use Rattle.clr_spot_maps.specs.Filing.{Filed, IsFiled, with_filed}
 use Rattle.clr_audit.specs.RoleFiling.{with_subject, with_parts, with_pairs, with_server, with_row, filed_rows}
-use Rattle.clr_spot_maps.proofs.Filed.{entry_stays, entry_filed}
+use Rattle.clr_spot_maps.proofs.Filed.{part_stays, new_part_filed}
 
 -- what is filed in one map is filed in another
 abbrev Stays : Filed → Filed → Type 0
-Stays m m' = (q : FiledPart) (ys : List Spot) → IsEntered m q ys → IsEntered m' q ys
+Stays m m' = (q : FiledPart) (ys : List Spot) → IsFiled m q ys → IsFiled m' q ys
 
 -- what is filed in a role of one index is filed in that role of another
 record Grows (index index' : RoleIndex) : Type 0 where
@@ -30,8 +30,8 @@ record Grows (index index' : RoleIndex) : Type 0 where
 same_stays : (m : Filed) → Stays m m
 same_stays m q ys h = h
 
-more_stays : (m : Filed) (e : FiledPart) (xs : List Spot) (wide : Bool) → Stays m (filed_entry m e xs wide)
-more_stays m e xs wide q ys h = entry_stays m e q xs ys wide h
+more_stays : (m : Filed) (e : FiledPart) (xs : List Spot) (wide : Bool) → Stays m (with_filed m e xs wide)
+more_stays m e xs wide q ys h = part_stays m e q xs ys wide h
 
 grows_same : (index : RoleIndex) → Grows index index
 grows_same index = record { firsts = λ q ys h. h; seconds = λ q ys h. h; boths = λ q ys h. h; servers = λ q ys h. h }
@@ -50,18 +50,18 @@ grows_subject : (index : RoleIndex) (roles : Roles) (e : FiledPart) (xs : List S
 grows_subject index roles e xs wide = go roles.first roles.second
   where
     go : (a b : Bool) → Grows index (cond a
-        (cond b (record index { boths = filed_entry index.boths e xs wide }) (record index { firsts = filed_entry index.firsts e xs wide }))
-        (cond b (record index { seconds = filed_entry index.seconds e xs wide }) index))
+        (cond b (record index { boths = with_filed index.boths e xs wide }) (record index { firsts = with_filed index.firsts e xs wide }))
+        (cond b (record index { seconds = with_filed index.seconds e xs wide }) index))
     go true true = record { firsts = λ q ys h. h; seconds = λ q ys h. h; boths = more_stays index.boths e xs wide; servers = λ q ys h. h }
     go true false = record { firsts = more_stays index.firsts e xs wide; seconds = λ q ys h. h; boths = λ q ys h. h; servers = λ q ys h. h }
     go false true = record { firsts = λ q ys h. h; seconds = more_stays index.seconds e xs wide; boths = λ q ys h. h; servers = λ q ys h. h }
     go false false = grows_same index
 
--- the entry of a subject is filed where its roles say
+-- the part of a subject is filed where its roles say
 pub record IsSubjectFiled (index : RoleIndex) (roles : Roles) (e : FiledPart) (xs : List Spot) : Type 0 where
-  pub both : roles.first ≡ true → roles.second ≡ true → IsEntered index.boths e xs
-  pub first : roles.first ≡ true → roles.second ≡ false → IsEntered index.firsts e xs
-  pub second : roles.first ≡ false → roles.second ≡ true → IsEntered index.seconds e xs
+  pub both : roles.first ≡ true → roles.second ≡ true → IsFiled index.boths e xs
+  pub first : roles.first ≡ true → roles.second ≡ false → IsFiled index.firsts e xs
+  pub second : roles.first ≡ false → roles.second ≡ true → IsFiled index.seconds e xs
 
 subject_stays : (index index' : RoleIndex) (roles : Roles) (e : FiledPart) (xs : List Spot) → Grows index index' → IsSubjectFiled index roles e xs
     → IsSubjectFiled index' roles e xs
@@ -74,35 +74,35 @@ subject_stays index index' roles e xs g h = record {
 subject_filed : (index : RoleIndex) (roles : Roles) (e : FiledPart) (xs : List Spot)
     → IsSubjectFiled (with_subject index roles e (unless_many xs) (are_many xs)) roles e xs
 subject_filed index roles e xs = record {
-  both = λ a b. rw (a, b) (entry_filed index.boths e xs);
-  first = λ a b. rw (a, b) (entry_filed index.firsts e xs);
-  second = λ a b. rw (a, b) (entry_filed index.seconds e xs);
+  both = λ a b. rw (a, b) (new_part_filed index.boths e xs);
+  first = λ a b. rw (a, b) (new_part_filed index.firsts e xs);
+  second = λ a b. rw (a, b) (new_part_filed index.seconds e xs);
 }
 
-abbrev pub entry : ℕ → ℕ → FiledPart
-entry position part = record { position = position; part = part }
+abbrev pub filed_part : ℕ → ℕ → FiledPart
+filed_part position part = record { position = position; part = part }
 
 grows_parts : (rules : List Rule) (n : ℕ) (index : RoleIndex) (position : ℕ) (s : Held) (k : ℕ) → Grows index (with_parts rules n index position s k)
 grows_parts rules n index position s zero = grows_same index
 grows_parts rules n index position s (suc k) = grows_on index (with_parts rules n index position s k) (with_parts rules n index position s (suc k))
     (grows_parts rules n index position s k)
-    (grows_subject (with_parts rules n index position s k) (roles_under rules n s) (entry position (suc k))
+    (grows_subject (with_parts rules n index position s k) (roles_under rules n s) (filed_part position (suc k))
     (unless_many (subject_spots_under rules n (suc k) s)) (are_many (subject_spots_under rules n (suc k) s)))
 
 part_filed : (rules : List Rule) (n : ℕ) (index : RoleIndex) (position : ℕ) (s : Held) (k part : ℕ) → part < k
-    → IsSubjectFiled (with_parts rules n index position s k) (roles_under rules n s) (entry position (suc part)) (subject_spots_under rules n (suc part) s)
+    → IsSubjectFiled (with_parts rules n index position s k) (roles_under rules n s) (filed_part position (suc part)) (subject_spots_under rules n (suc part) s)
 part_filed rules n index position s zero part less = absurd (omega (arith, less))
 part_filed rules n index position s (suc k) part less =
     let before = with_parts rules n index position s k in
     elim (cases_lt part k) [
-      | inl l ↦ subject_stays before (with_parts rules n index position s (suc k)) (roles_under rules n s) (entry position (suc part))
+      | inl l ↦ subject_stays before (with_parts rules n index position s (suc k)) (roles_under rules n s) (filed_part position (suc part))
           (subject_spots_under rules n (suc part) s)
-          (grows_subject before (roles_under rules n s) (entry position (suc k)) (unless_many (subject_spots_under rules n (suc k) s))
+          (grows_subject before (roles_under rules n s) (filed_part position (suc k)) (unless_many (subject_spots_under rules n (suc k) s))
           (are_many (subject_spots_under rules n (suc k) s))) (part_filed rules n index position s k part l)
       | inr l ↦ (let same : k ≡ part = omega (arith, less, l) in
-          subst (λ (i : ℕ). IsSubjectFiled (with_parts rules n index position s (suc k)) (roles_under rules n s) (entry position (suc i))
+          subst (λ (i : ℕ). IsSubjectFiled (with_parts rules n index position s (suc k)) (roles_under rules n s) (filed_part position (suc i))
           (subject_spots_under rules n (suc i) s)) same
-          (subject_filed before (roles_under rules n s) (entry position (suc k)) (subject_spots_under rules n (suc k) s)))
+          (subject_filed before (roles_under rules n s) (filed_part position (suc k)) (subject_spots_under rules n (suc k) s)))
     ]
 
 -- all parts of a row, if it may be one of two
@@ -114,11 +114,11 @@ grows_pairs rules n index position s = go ((roles_under rules n s).first || (rol
     go false = grows_same index
 
 pair_filed : (rules : List Rule) (n : ℕ) (index : RoleIndex) (position : ℕ) (s : Held) (part : ℕ) → part < part_count rules n s
-    → IsSubjectFiled (with_pairs rules n index position s) (roles_under rules n s) (entry position (suc part)) (subject_spots_under rules n (suc part) s)
+    → IsSubjectFiled (with_pairs rules n index position s) (roles_under rules n s) (filed_part position (suc part)) (subject_spots_under rules n (suc part) s)
 pair_filed rules n index position s part less = go ((roles_under rules n s).first || (roles_under rules n s).second) refl
   where
     go : (b : Bool) → ((roles_under rules n s).first || (roles_under rules n s).second) ≡ b
-        → IsSubjectFiled (cond b (with_parts rules n index position s (part_count rules n s)) index) (roles_under rules n s) (entry position (suc part))
+        → IsSubjectFiled (cond b (with_parts rules n index position s (part_count rules n s)) index) (roles_under rules n s) (filed_part position (suc part))
         (subject_spots_under rules n (suc part) s)
     go true e = part_filed rules n index position s (part_count rules n s) part less
     go false e = record {
@@ -133,41 +133,41 @@ grows_server : (rules : List Rule) (n : ℕ) (index : RoleIndex) (position : ℕ
 grows_server rules n index position s = go (roles_under rules n s).server
   where
     go : (b : Bool) → Grows index (cond b (record index {
-      servers = filed_entry index.servers (entry position 1) (unless_many (server_spots_under rules n s))
+      servers = with_filed index.servers (filed_part position 1) (unless_many (server_spots_under rules n s))
           (are_many (server_spots_under rules n s));
     }) index)
     go true = record {
       firsts = λ q ys h. h;
       seconds = λ q ys h. h;
       boths = λ q ys h. h;
-      servers = more_stays index.servers (entry position 1)
+      servers = more_stays index.servers (filed_part position 1)
           (unless_many (server_spots_under rules n s)) (are_many (server_spots_under rules n s));
     }
     go false = grows_same index
 
 server_filed : (rules : List Rule) (n : ℕ) (index : RoleIndex) (position : ℕ) (s : Held) → (roles_under rules n s).server ≡ true
-    → IsEntered (with_server rules n index position s).servers (entry position 1) (server_spots_under rules n s)
-server_filed rules n index position s has = rw has (entry_filed index.servers (entry position 1) (server_spots_under rules n s))
+    → IsFiled (with_server rules n index position s).servers (filed_part position 1) (server_spots_under rules n s)
+server_filed rules n index position s has = rw has (new_part_filed index.servers (filed_part position 1) (server_spots_under rules n s))
 
 -- a row is filed at its position
 pub record IsRowFiled (rules : List Rule) (n : ℕ) (index : RoleIndex) (position : ℕ) (s : Held) : Type 0 where
-  pub subject : (part : ℕ) → part < part_count rules n s → IsSubjectFiled index (roles_under rules n s) (entry position (suc part))
+  pub subject : (part : ℕ) → part < part_count rules n s → IsSubjectFiled index (roles_under rules n s) (filed_part position (suc part))
       (subject_spots_under rules n (suc part) s)
-  pub server : (roles_under rules n s).server ≡ true → IsEntered index.servers (entry position 1) (server_spots_under rules n s)
+  pub server : (roles_under rules n s).server ≡ true → IsFiled index.servers (filed_part position 1) (server_spots_under rules n s)
 
 row_stays : (rules : List Rule) (n : ℕ) (index index' : RoleIndex) (position : ℕ) (s : Held) → Grows index index' → IsRowFiled rules n index position s
     → IsRowFiled rules n index' position s
 row_stays rules n index index' position s g h = record {
-  subject = λ part less. subject_stays index index' (roles_under rules n s) (entry position (suc part)) (subject_spots_under rules n (suc part) s) g
+  subject = λ part less. subject_stays index index' (roles_under rules n s) (filed_part position (suc part)) (subject_spots_under rules n (suc part) s) g
       (h.subject part less);
-  server = λ has. g.servers (entry position 1) (server_spots_under rules n s) (h.server has);
+  server = λ has. g.servers (filed_part position 1) (server_spots_under rules n s) (h.server has);
 }
 
 row_filed : (rules : List Rule) (n : ℕ) (index : RoleIndex) (position : ℕ) (s : Held) → IsRowFiled rules n (with_row rules n index position s) position s
 row_filed rules n index position s =
     let before = with_server rules n index position s in record {
       subject = λ part less. pair_filed rules n before position s part less;
-      server = λ has. (grows_pairs rules n before position s).servers (entry position 1) (server_spots_under rules n s)
+      server = λ has. (grows_pairs rules n before position s).servers (filed_part position 1) (server_spots_under rules n s)
           (server_filed rules n index position s has);
     }
 

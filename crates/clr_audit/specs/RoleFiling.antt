@@ -10,17 +10,17 @@ use Rattle.clr_rows.specs.Held.{Held}
 use Rattle.clr_spots.specs.Spots.{unless_many, are_many}
 use Rattle.clr_audit.specs.declared.role_index.RoleIndex.{RoleIndex}
 use Rattle.clr_spot_maps.specs.declared.spot_maps.FiledPart.{FiledPart}
-use Rattle.clr_spot_maps.specs.Filing.{no_entries, filed_entry, near}
+use Rattle.clr_spot_maps.specs.Filing.{nothing_filed, with_filed, near}
 
 abbrev pub no_rows_filed : RoleIndex
-no_rows_filed = record { firsts = no_entries; seconds = no_entries; boths = no_entries; servers = no_entries }
+no_rows_filed = record { firsts = nothing_filed; seconds = nothing_filed; boths = nothing_filed; servers = nothing_filed }
 
--- an entry of one of two subjects, filed by which of them it may be
+-- a part of one of two subjects, filed by which of them it may be
 abbrev pub with_subject : RoleIndex → Roles → FiledPart → List Spot → Bool → RoleIndex
 with_subject index roles e xs wide =
     if roles.first
-    then (if roles.second then record index { boths = filed_entry index.boths e xs wide } else record index { firsts = filed_entry index.firsts e xs wide })
-    else (if roles.second then record index { seconds = filed_entry index.seconds e xs wide } else index)
+    then (if roles.second then record index { boths = with_filed index.boths e xs wide } else record index { firsts = with_filed index.firsts e xs wide })
+    else (if roles.second then record index { seconds = with_filed index.seconds e xs wide } else index)
 
 -- the first parts of a row, as many as the number says
 abbrev pub with_parts : List Rule → ℕ → RoleIndex → ℕ → Held → ℕ → RoleIndex
@@ -38,7 +38,7 @@ abbrev pub with_server : List Rule → ℕ → RoleIndex → ℕ → Held → Ro
 with_server rules n index position s =
     if (roles_under rules n s).server
     then record index {
-      servers = filed_entry index.servers (record { position = position; part = 1 })
+      servers = with_filed index.servers (record { position = position; part = 1 })
           (unless_many (server_spots_under rules n s)) (are_many (server_spots_under rules n s));
     }
     else index
@@ -51,7 +51,7 @@ abbrev pub filed_rows : List Rule → ℕ → RoleIndex → ℕ → List Held �
 filed_rows rules n index position [] = index
 filed_rows rules n index position (s ∷ rows) = filed_rows rules n (with_row rules n index position s) (suc position) rows
 
--- the entries of the subjects that may stand beside a row of these roles and spots
+-- the filed parts of subjects that may stand beside a row of these roles and spots
 abbrev pub partners : RoleIndex → Roles → List Spot → Bool → List FiledPart
 partners index roles xs wide =
     near index.boths xs wide

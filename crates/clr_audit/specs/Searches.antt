@@ -16,7 +16,7 @@ use Rattle.clr_rules.specs.Calls.{ask_of_parts, calls, serves}
 use Rattle.clr_rules.specs.Needs.{ask_of, broken_at, broken_cmp, is_after}
 use Rattle.clr_audit.specs.declared.searching.Search.{Search}
 use Rattle.clr_spot_maps.specs.declared.spot_maps.FiledPart.{FiledPart}
-use Rattle.clr_spot_maps.specs.Filing.{entries_at, near}
+use Rattle.clr_spot_maps.specs.Filing.{parts_at, near}
 use Rattle.clr_audit.specs.PartServers.{may_serve_part_under}
 use Rattle.clr_audit.specs.RoleFiling.{filed_rows, no_rows_filed}
 
@@ -24,7 +24,7 @@ abbrev pub serves_if : List Rule → Ask → Held → Option Held → Option Hel
 serves_if rules ask s t None = false
 serves_if rules ask s t (Some r) = serves rules ask s t r
 
--- the row of an entry serves these subjects
+-- the row of a filed part serves these subjects
 abbrev pub serves_at : List Rule → Ask → List Held → Held → Option Held → FiledPart → Bool
 serves_at rules ask rows s t e = serves_if rules ask s t (slice_get rows e.position)
 
@@ -36,13 +36,13 @@ rows_of search = map held_of search.rows.now
 abbrev pub AreRowsFiled : Search → Type 0
 AreRowsFiled search = search.index.now ≡ filed_rows search.book.now search.rule no_rows_filed 0 (rows_of search)
 
--- one of some entries is of a row that serves these subjects
+-- one of some filed parts is of a row that serves these subjects
 abbrev pub serves_among : Search → Ask → Held → Option Held → List FiledPart → Bool
-serves_among search ask s t entries = list_any (serves_at search.book.now ask (rows_of search) s t) entries
+serves_among search ask s t parts = list_any (serves_at search.book.now ask (rows_of search) s t) parts
 
 -- the servers of some spots
 abbrev pub servers_at_spots : Search → List Spot → List FiledPart
-servers_at_spots search spots = flat_map (entries_at search.index.now.servers.by_spot) spots
+servers_at_spots search spots = flat_map (parts_at search.index.now.servers.by_spot) spots
 
 -- the servers that may serve a row of these spots
 abbrev pub servers_near : Search → Spots → List FiledPart
@@ -52,11 +52,11 @@ abbrev pub may_serve_if : List Rule → ℕ → ℕ → Held → Option Held →
 may_serve_if rules number part s None = false
 may_serve_if rules number part s (Some r) = may_serve_part_under rules number part s r
 
--- the row of an entry may serve a part of a row
+-- the row of a filed part may serve a part of a row
 abbrev pub may_serve_at : Search → ℕ → Held → FiledPart → Bool
 may_serve_at search part s e = may_serve_if search.book.now search.rule part s (slice_get (rows_of search) e.position)
 
--- the entry, if its row may serve a part of a row
+-- the filed part, if its row may serve a part of a row
 abbrev pub server_if : Search → ℕ → Held → FiledPart → List FiledPart
 server_if search part s e = if may_serve_at search part s e then e ∷ [] else []
 
@@ -75,7 +75,7 @@ abbrev pub need_with : Search → List FiledPart → Ask → Held → Option Hel
 need_with search servers ask s None = []
 need_with search servers ask s (Some t) = if is_after s t then need_if_broken search servers ask s (Some t) else []
 
--- the need of a part of a row with the part and the row of an entry, if it comes after the first one
+-- the need of a part of a row with a filed part, if the row of that part comes after the first one
 abbrev pub need_beside : Search → List FiledPart → Held → ℕ → FiledPart → List Broken
 need_beside search servers s part e = need_with search servers (ask_of_parts search.rule part e.part) s (slice_get (map held_of search.rows.now) e.position)
 

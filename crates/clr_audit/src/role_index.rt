@@ -38,15 +38,15 @@ impl RoleIndex {
         &mut self,
         alloc: Global,
         roles: Roles,
-        entry: FiledPart,
+        filed_part: FiledPart,
         spots: Spots,
     ) -> Result<(), AllocError>
-        ensures { OnOk result (self.new ≡ with_subject self.old roles entry spots.list spots.wide) }
+        ensures { OnOk result (self.new ≡ with_subject self.old roles filed_part spots.list spots.wide) }
     {
         match (roles.first, roles.second) {
-            (true, true) => self.boths.file(alloc, entry, spots),
-            (true, false) => self.firsts.file(alloc, entry, spots),
-            (false, true) => self.seconds.file(alloc, entry, spots),
+            (true, true) => self.boths.file(alloc, filed_part, spots),
+            (true, false) => self.firsts.file(alloc, filed_part, spots),
+            (false, true) => self.seconds.file(alloc, filed_part, spots),
             (false, false) => Ok(()),
         }
     }
@@ -70,12 +70,12 @@ impl RoleIndex {
             return Ok(());
         }
         for part in 0..book.part_count(rule, held) {
-            let entry = FiledPart {
+            let filed_part = FiledPart {
                 position,
                 part: part + 1,
             };
-            let spots = subject_spots(alloc, book, rule, entry.part, held)?;
-            self.file_subject(alloc, roles, entry, spots)?;
+            let spots = subject_spots(alloc, book, rule, filed_part.part, held)?;
+            self.file_subject(alloc, roles, filed_part, spots)?;
         }
         Ok(())
     }
@@ -124,8 +124,8 @@ impl RoleIndex {
         Ok(index)
     }
 
-    /// Adds the entries of the subjects that may stand beside a row of these roles and spots. If
-    /// memory runs out, the list keeps what stood in it, with the first of these entries behind it.
+    /// Adds the filed parts of subjects that may stand beside a row of these roles and spots. If
+    /// memory runs out, the list keeps what stood in it, with the first of these parts behind it.
     pub(crate) fn add_partners(
         &self,
         roles: Roles,

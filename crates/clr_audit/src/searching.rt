@@ -79,14 +79,14 @@ impl<'a> Search<'a> {
         row_by_position(self.rows, position).copied()
     }
 
-    /// Returns whether the row of an entry serves these subjects.
+    /// Returns whether the row of a filed part serves these subjects.
     #[tactic(auto, using(crate::proofs::FitLaws::fit_served, crate::proofs::NeedLaws::at_among))]
-    fn serves_at(&self, ask: Ask, first: Held, second: Option<Held>, entry: FiledPart) -> bool
+    fn serves_at(&self, ask: Ask, first: Held, second: Option<Held>, filed_part: FiledPart) -> bool
         requires number { ask.rule < length self.now.book.now }
         requires fit { FitTogether self.now.book.now (held_of first ∷ (option_to_list (option_map held_of second) ++ rows_of self.now)) }
-        ensures { result ≡ serves_at self.now.book.now ask (rows_of self.now) (held_of first.entry) (option_map held_of second.entry) entry }
+        ensures { result ≡ serves_at self.now.book.now ask (rows_of self.now) (held_of first.entry) (option_map held_of second.entry) filed_part }
     {
-        match self.row_at(entry.position) {
+        match self.row_at(filed_part.position) {
             Some(server) => self.book.serves(ask, first, second, server),
             None => false,
         }
@@ -97,14 +97,14 @@ impl<'a> Search<'a> {
         ask: Ask,
         first: Held,
         second: Option<Held>,
-        entries: &[FiledPart],
+        filed_parts: &[FiledPart],
     ) -> bool
         requires number { ask.rule < length self.now.book.now }
         requires fit { FitTogether self.now.book.now (held_of first ∷ (option_to_list (option_map held_of second) ++ rows_of self.now)) }
-        ensures { result ≡ serves_among self.now ask (held_of first.entry) (option_map held_of second.entry) entries.now }
+        ensures { result ≡ serves_among self.now ask (held_of first.entry) (option_map held_of second.entry) filed_parts.now }
     {
-        for entry in entries {
-            if self.serves_at(ask, first, second, *entry) {
+        for filed in filed_parts {
+            if self.serves_at(ask, first, second, *filed) {
                 return true;
             }
         }
@@ -117,7 +117,7 @@ impl<'a> Search<'a> {
         ensures { result ≡ serves_among self.now ask (held_of first.entry) (option_map held_of second.entry) (servers_at_spots self.now spots.now) }
     {
         for spot in spots {
-            if self.serves_among(ask, first, second, self.index.servers.entries_at(spot)) {
+            if self.serves_among(ask, first, second, self.index.servers.parts_at(spot)) {
                 return true;
             }
         }
@@ -182,26 +182,26 @@ impl<'a> Search<'a> {
         Ok(())
     }
 
-    /// Adds the need of a part of a row with that of an entry, if its row comes after it.
+    /// Adds the need of a part of a row with a filed part, if the row of that part comes after it.
     fn add_beside(
         &self,
         first: Held,
         part: u16,
         servers: &[FiledPart],
-        entry: FiledPart,
+        filed_part: FiledPart,
         list: &mut Vec<Broken>,
     ) -> Result<(), AllocError>
         requires number { self.now.rule < length self.now.book.now }
         requires fit { FitTogether self.now.book.now (held_of first ∷ rows_of self.now) }
-        ensures ok { OnOk result (list.new.items ≡ list.old.items ++ need_beside self.now servers.now (held_of first.entry) part entry) }
+        ensures ok { OnOk result (list.new.items ≡ list.old.items ++ need_beside self.now servers.now (held_of first.entry) part filed_part) }
         ensures err { OnErr result (list.new.items ≡ list.old.items) }
     {
         let ask = Ask {
             rule: self.rule,
             first_part: part,
-            second_part: entry.part,
+            second_part: filed_part.part,
         };
-        match self.row_at(entry.position) {
+        match self.row_at(filed_part.position) {
             Some(second) if first.cell.cmp(&second.cell).is_lt() => {
                 self.add_two_if_broken(ask, first, second, servers, list)
             }
@@ -214,17 +214,17 @@ impl<'a> Search<'a> {
         first: Held,
         part: u16,
         servers: &[FiledPart],
-        entries: &[FiledPart],
+        filed_parts: &[FiledPart],
         list: &mut Vec<Broken>,
     ) -> Result<(), AllocError>
         requires number { self.now.rule < length self.now.book.now }
         requires fit { FitTogether self.now.book.now (held_of first ∷ rows_of self.now) }
-        ensures ok { OnOk result (list.new.items ≡ list.old.items ++ flat_map (need_beside self.now servers.now (held_of first.entry) part) entries.now) }
+        ensures ok { OnOk result (list.new.items ≡ list.old.items ++ flat_map (need_beside self.now servers.now (held_of first.entry) part) filed_parts.now) }
         ensures err { OnErr result (IsBegun list.old.items
-            (flat_map (need_beside self.now servers.now (held_of first.entry) part) entries.now) list.new.items) }
+            (flat_map (need_beside self.now servers.now (held_of first.entry) part) filed_parts.now) list.new.items) }
     {
-        for entry in entries {
-            self.add_beside(first, part, servers, *entry, list)?;
+        for filed in filed_parts {
+            self.add_beside(first, part, servers, *filed, list)?;
         }
         Ok(())
     }
@@ -249,32 +249,32 @@ impl<'a> Search<'a> {
         Ok(())
     }
 
-    /// Returns whether the row of an entry may serve a part of a row.
-    fn may_serve_at(&self, part: u16, first: Held, entry: FiledPart) -> bool
+    /// Returns whether the row of a filed part may serve a part of a row.
+    fn may_serve_at(&self, part: u16, first: Held, filed_part: FiledPart) -> bool
         requires number { self.now.rule < length self.now.book.now }
         requires fit { FitTogether self.now.book.now (held_of first ∷ rows_of self.now) }
-        ensures { result ≡ may_serve_at self.now part (held_of first.entry) entry }
+        ensures { result ≡ may_serve_at self.now part (held_of first.entry) filed_part }
     {
-        match self.row_at(entry.position) {
+        match self.row_at(filed_part.position) {
             Some(server) => may_serve_part(self.book.rule(self.rule), part, first, server),
             None => false,
         }
     }
 
-    /// Adds an entry, if its row may serve a part of a row.
+    /// Adds a filed part, if its row may serve a part of a row.
     fn add_server_if(
         &self,
         part: u16,
         first: Held,
-        entry: FiledPart,
+        filed_part: FiledPart,
         list: &mut Vec<FiledPart>,
     ) -> Result<(), AllocError>
         requires number { self.now.rule < length self.now.book.now }
         requires fit { FitTogether self.now.book.now (held_of first ∷ rows_of self.now) }
-        ensures { OnOk result (list.new.items ≡ list.old.items ++ server_if self.now part (held_of first.entry) entry) }
+        ensures { OnOk result (list.new.items ≡ list.old.items ++ server_if self.now part (held_of first.entry) filed_part) }
     {
-        if self.may_serve_at(part, first, entry) {
-            list.push(entry)?;
+        if self.may_serve_at(part, first, filed_part) {
+            list.push(filed_part)?;
         }
         Ok(())
     }
@@ -283,15 +283,15 @@ impl<'a> Search<'a> {
         &self,
         part: u16,
         first: Held,
-        entries: &[FiledPart],
+        filed_parts: &[FiledPart],
         list: &mut Vec<FiledPart>,
     ) -> Result<(), AllocError>
         requires number { self.now.rule < length self.now.book.now }
         requires fit { FitTogether self.now.book.now (held_of first ∷ rows_of self.now) }
-        ensures { OnOk result (list.new.items ≡ list.old.items ++ flat_map (server_if self.now part (held_of first.entry)) entries.now) }
+        ensures { OnOk result (list.new.items ≡ list.old.items ++ flat_map (server_if self.now part (held_of first.entry)) filed_parts.now) }
     {
-        for entry in entries {
-            self.add_server_if(part, first, *entry, list)?;
+        for filed in filed_parts {
+            self.add_server_if(part, first, *filed, list)?;
         }
         Ok(())
     }

@@ -47,7 +47,7 @@ fn conflicts_of(alloc: Global, office: &Office, name: &str) -> Option<Vec<u8>> {
     }
 }
 
-/// Returns what is told of LIVE or a workspace: its name, its parent, how many entries are stored, and whether it is kept.
+/// Returns what is told of LIVE or a workspace: its name, its parent, how many differences are stored, and whether it is kept.
 fn workspace_line(alloc: Global, office: &Office, name: &str) -> Option<String> {
     let parent = office.parent_of(name).unwrap_or("nothing");
     let stored = office.stored(name)?;

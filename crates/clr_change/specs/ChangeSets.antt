@@ -1,4 +1,4 @@
--- What the entries of a change set mean, and changes in which that of one cell is set.
+-- What the changes that a change set lists by cell mean, and changes in which that of one cell is set.
 use Rattle.std.specs.Prelude.{◌≡◌, T, false, not, List, Option, Some, None, is_some, if◌then◌else◌}
 use Rattle.std.specs.FinMap as finite
 use Rattle.clr_rows.specs.declared.cells.CellId.{CellId}
@@ -9,16 +9,16 @@ use Rattle.clr_rows.specs.Contents.{Content, Changes, row_at}
 use Rattle.clr_rows.specs.Same.{same}
 
 abbrev pub changes_of : List (CellId × Change) → Changes
-changes_of entries = finite.from_sorted entries
+changes_of pairs = finite.from_sorted pairs
 
 -- each change has two rows that differ
 abbrev pub AreDifferent : Changes → Type 0
 AreDifferent changed = (cell : CellId) (change : Change) → finite.get changed cell ≡ Some change → same change.before change.after ≡ false
 
--- entries in the order of cells, each change with two rows that differ
-pub record IsSoundChangeSet (entries : List (CellId × Change)) : Type 0 where
-  pub ascending : T (finite.is_sorted cell_cmp entries)
-  pub differ : AreDifferent (changes_of entries)
+-- changes in the order of cells, each with two rows that differ
+pub record IsSoundChangeSet (pairs : List (CellId × Change)) : Type 0 where
+  pub ascending : T (finite.is_sorted cell_cmp pairs)
+  pub differ : AreDifferent (changes_of pairs)
 
 -- the change from one row, or none, to another, if they differ
 abbrev pub change_from : Option Row → Option Row → Option Change

@@ -68,7 +68,7 @@ all_set before after cells agree = same_changes _ _ (λ q.
     by q true e = refl
     by q false e = no_change (row_at before q) ∙ ap (change_from (row_at before q)) (agree q e)
 
--- entries --------------------------------------------------------------------------------------
+-- differences ----------------------------------------------------------------------------------
 
 none_found : (es : List (CellId × Option Row)) (q : CellId) → is_among (map (λ e. e.0) es) q ≡ false → find cell_cmp q es ≡ None
 none_found [] q e = refl
@@ -76,8 +76,8 @@ none_found (one ∷ es) q e =
     let parts = not_among one.0 (map (λ e. e.0) es) q e in
     ap (λ tie. cond tie (Some one.1) (find cell_cmp q es)) parts.0 ∙ none_found es q parts.1
 
-pub no_entry : (d : Differences) (q : CellId) → is_among (finite.keys d) q ≡ false → finite.get d q ≡ None
-no_entry d q e = finite.get-entries d q ∙ none_found (finite.entries d) q e
+pub no_difference : (d : Differences) (q : CellId) → is_among (finite.keys d) q ≡ false → finite.get d q ≡ None
+no_difference d q e = finite.get-entries d q ∙ none_found (finite.entries d) q e
 
 pub among_neither : (cells others : List CellId) (q : CellId) → is_among (cells ++ others) q ≡ false → (is_among cells q ≡ false) × (is_among others q ≡ false)
 among_neither [] others q e = (refl, e)

@@ -26,7 +26,7 @@ module _ (live : Content) (ls : List Delta) (at : ℕ) (r : IsRooted (wholes liv
   abbrev above : Content
   above = above_at live ls at
 
-  -- a delta becomes another as its whole does, and its children have entries where its content changes
+  -- a delta becomes another as its whole does, and its children have differences where its content changes
   pub becomes : (m : Delta) (f : Workspace → Workspace) → m.name ≡ (delta_at ls at).name → m.parent ≡ (delta_at ls at).parent → whole_of above m
       ≡ f (whole_of above (delta_at ls at))
       → LaterAgree (delta_at ls at).name here.current (f here).current ls → wholes live (slice_set ls at m)

@@ -1,4 +1,4 @@
--- Entries that are made first: no content changes, and none is lost.
+-- Differences that are stored first: no content changes, and none is dropped.
 use Rattle.std.proofs.Common.{◌≡◌, ℕ, suc, zero, ◌<◌, ◌≢◌, ⊎_elim, true, false, cond, List, [], ◌∷◌, length, get_or, map, Some, None, refl, ap, sym, subst, ◌∙◌}
 use Rattle.std.proofs.Common.{arith, slice_set}
 use Rattle.std.proofs.lemmas.List.{length-set, get_or-set_same, get_or-set_other}
@@ -8,8 +8,9 @@ use Rattle.std.specs.FinMap as finite
 use Rattle.clr_rows.specs.declared.cells.CellId.{CellId}
 use Rattle.clr_rows.specs.declared.rows.Row.{Row}
 use Rattle.clr_rows.specs.Contents.{Content, row_at, over}
-use Rattle.clr_differences.specs.Differences.{Differences, RowEntries, seen_over, put_each, cells_in, is_among, HasDifference, IsOwnOver}
-use Rattle.clr_differences.proofs.DifferenceLemmas.{neutral, neutral_new, entry_stays, entry_made, entries_keep, put_each_keeps, over_outside, not_among}
+use Rattle.clr_differences.specs.Differences.{Differences, RowsByCell, seen_over, put_each, cells_in, is_among, HasDifference, IsOwnOver}
+use Rattle.clr_differences.proofs.DifferenceLemmas.{neutral, neutral_new, put_each_keeps, over_outside, not_among}
+use Rattle.clr_differences.proofs.DifferenceLemmas.{difference_stays, difference_stored, differences_keep}
 use Rattle.clr_differences.proofs.DifferenceLemmas.{put_elsewhere, put_each_elsewhere}
 use Rattle.clr_workspaces.specs.Marks.{Name, Mark}
 use Rattle.clr_workspaces.specs.Workspaces.{Workspace, workspace_at, parent_of}
@@ -17,7 +18,7 @@ use Rattle.clr_deltas.specs.Deltas.{Delta, no_delta, delta_at, delta_changed, wh
 use Rattle.clr_deltas.specs.declared.stored_marks.StoredMark.{StoredMark}
 use Rattle.clr_deltas.proofs.Meaning.{wholes-at}
 use Rattle.clr_deltas.proofs.Places.{LaterAgree}
-use Rattle.clr_contents.specs.Pinning.{HasEntriesOf, Extends, ChildrenPin, StaysOwnAt, StayOwnBut, StayOwnButChildren}
+use Rattle.clr_contents.specs.Pinning.{HasDifferencesOf, Extends, ChildrenPin, StaysOwnAt, StayOwnBut, StayOwnButChildren}
 use Rattle.clr_workspaces.specs.Roots.{IsRooted}
 use Rattle.clr_contents.proofs.ReadLemmas.{above_parent, base_of_whole, current_of_whole}
 use Rattle.clr_contents.proofs.MoveLemmas.{stays}
@@ -72,9 +73,9 @@ module _ (live : Content) (ls : List Delta) (at : ℕ) (r : IsRooted (wholes liv
       sym (is ∙ ap (λ (w : Workspace). row_at w.base k) (wholes-at live ls at some lt) ∙ ap (λ (m : Content). row_at m k) (base_of_whole above stored)) in
       stays live ls at r some lt _ refl refl (whole_marks above stored ms (same (seen_over above stored.base) row))
 
--- entries stay ---------------------------------------------------------------------------------
+-- differences stay -----------------------------------------------------------------------------
 
-has_own : (l : Delta) → HasEntriesOf l l
+has_own : (l : Delta) → HasDifferencesOf l l
 has_own l = record { name = refl; parent = refl; base = λ q h. h; current = λ q h. h }
 
 pub extends_itself : (ls : List Delta) → Extends ls ls
@@ -92,20 +93,20 @@ extends_both ls ms ns a b = record {
   };
 }
 
-pub extends_set : (ls : List Delta) (at : ℕ) (m : Delta) → at < length ls → HasEntriesOf (delta_at ls at) m → Extends ls (slice_set ls at m)
+pub extends_set : (ls : List Delta) (at : ℕ) (m : Delta) → at < length ls → HasDifferencesOf (delta_at ls at) m → Extends ls (slice_set ls at m)
 extends_set ls at m lt one = record {
   long = length-set ls at m;
   each = λ k. ⊎_elim
-      (λ (e : k ≡ at). subst (λ j. HasEntriesOf (delta_at ls j) (delta_at (slice_set ls at m) j)) (sym e)
-      (subst (HasEntriesOf (delta_at ls at)) (sym (get_or-set_same ls at m no_delta lt)) one))
-      (λ (n : k ≢ at). subst (HasEntriesOf (delta_at ls k)) (sym (get_or-set_other ls at k m no_delta n)) (has_own (delta_at ls k)))
+      (λ (e : k ≡ at). subst (λ j. HasDifferencesOf (delta_at ls j) (delta_at (slice_set ls at m) j)) (sym e)
+      (subst (HasDifferencesOf (delta_at ls at)) (sym (get_or-set_same ls at m no_delta lt)) one))
+      (λ (n : k ≢ at). subst (HasDifferencesOf (delta_at ls k)) (sym (get_or-set_other ls at k m no_delta n)) (has_own (delta_at ls k)))
       (cases_eq k at);
 }
 
 pub extends_marks : (ls : List Delta) (at : ℕ) (ms : List StoredMark) → at < length ls → Extends ls (delta_changed ls at (λ l. record l { marks = ms }))
 extends_marks ls at ms lt = extends_set ls at _ lt (record { name = refl; parent = refl; base = λ q h. h; current = λ q h. h })
 
--- other entries are as they were ----------------------------------------------------------------
+-- other differences are as they were ------------------------------------------------------------
 
 pub own_itself : (q : CellId) (l : Delta) → StaysOwnAt q l l
 own_itself q l = record { base = refl; current = λ row own. own; saved = λ row own. own }
@@ -157,9 +158,9 @@ apart_at [] i c q lt apart = absurd (omega arith)
 apart_at (cell ∷ cells) zero c q lt apart = ap (λ b. cond b true false) (not_among cell cells q apart).0
 apart_at (cell ∷ cells) (suc i) c q lt apart = apart_at cells i c q (omega arith) (not_among cell cells q apart).1
 
--- entries are made in one delta -------------------------------------------------------------------
+-- differences are stored in one delta -------------------------------------------------------------
 
--- one entry
+-- one difference
 module _ (ls : List Delta) (at : ℕ) (k : CellId) (v : Option Row) (lt : at < length ls) where
   abbrev had : Delta
   had = delta_at ls at
@@ -171,10 +172,10 @@ module _ (ls : List Delta) (at : ℕ) (k : CellId) (v : Option Row) (lt : at < l
   in_current = delta_changed ls at (λ l. record l { current = finite.insert l.current k v })
 
   pub extends_base : Extends ls in_base
-  extends_base = extends_set ls at _ lt (record { name = refl; parent = refl; base = λ q h. entry_stays had.base k q v h; current = λ q h. h })
+  extends_base = extends_set ls at _ lt (record { name = refl; parent = refl; base = λ q h. difference_stays had.base k q v h; current = λ q h. h })
 
   pub extends_current : Extends ls in_current
-  extends_current = extends_set ls at _ lt (record { name = refl; parent = refl; base = λ q h. h; current = λ q h. entry_stays had.current k q v h })
+  extends_current = extends_set ls at _ lt (record { name = refl; parent = refl; base = λ q h. h; current = λ q h. difference_stays had.current k q v h })
 
   pub but_base : StayOwnBut at (k ∷ []) ls in_base
   but_base = but_set ls at _ (k ∷ []) lt
@@ -188,13 +189,13 @@ module _ (ls : List Delta) (at : ℕ) (k : CellId) (v : Option Row) (lt : at < l
   })
 
   pub pinned_base : HasDifference (delta_at in_base at).base k
-  pinned_base = subst (λ (l : Delta). HasDifference l.base k) (sym (get_or-set_same ls at _ no_delta lt)) (entry_made had.base k v)
+  pinned_base = subst (λ (l : Delta). HasDifference l.base k) (sym (get_or-set_same ls at _ no_delta lt)) (difference_stored had.base k v)
 
   pub pinned_current : HasDifference (delta_at in_current at).current k
-  pinned_current = subst (λ (l : Delta). HasDifference l.current k) (sym (get_or-set_same ls at _ no_delta lt)) (entry_made had.current k v)
+  pinned_current = subst (λ (l : Delta). HasDifference l.current k) (sym (get_or-set_same ls at _ no_delta lt)) (difference_stored had.current k v)
 
 -- one after another
-module _ (ls : List Delta) (at : ℕ) (rows : RowEntries) (lt : at < length ls) where
+module _ (ls : List Delta) (at : ℕ) (rows : RowsByCell) (lt : at < length ls) where
   abbrev with_rows : List Delta
   with_rows = delta_changed ls at (λ l. record l { current = put_each l.current rows })
 
@@ -213,15 +214,15 @@ module _ (ls : List Delta) (at : ℕ) (rows : RowEntries) (lt : at < length ls) 
     saved = λ row own. own;
   })
 
--- entries of children ---------------------------------------------------------------------------------
+-- differences of children -----------------------------------------------------------------------------
 
--- the children's entries stay pinned where deltas get more entries
+-- the children's differences stay pinned where deltas get more differences
 pub children_keep : (ls ms : List Delta) (name : Name) (cells : List CellId) → Extends ls ms → ChildrenPin ls name cells → ChildrenPin ms name cells
 children_keep ls ms name cells e pinned k some lt under =
     let one = e.each k in
-    entries_keep (delta_at ls k).base (delta_at ms k).base cells one.base
+    differences_keep (delta_at ls k).base (delta_at ms k).base cells one.base
     (pinned k some (subst (λ n. k < n) e.long lt) (subst (λ n. IsUnder name (record (delta_at ls k) { parent = n })) one.parent under))
 
 -- rows that the children have pinned
-pub rows_agree : (ls : List Delta) (name : Name) (m : Content) (rows : RowEntries) → ChildrenPin ls name (cells_in rows) → LaterAgree name m (over m rows) ls
+pub rows_agree : (ls : List Delta) (name : Name) (m : Content) (rows : RowsByCell) → ChildrenPin ls name (cells_in rows) → LaterAgree name m (over m rows) ls
 rows_agree ls name m rows pinned k some lt under q none = over_outside (delta_at ls k).base rows m (pinned k some lt under) q none

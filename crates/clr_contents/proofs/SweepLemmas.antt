@@ -1,4 +1,4 @@
--- Entries that have the row of what they lie over go, and no content changes.
+-- Differences that have the row of what they lie over go, and no content changes.
 use Rattle.std.proofs.Common.{◌≡◌, ℕ, suc, zero, ◌<◌, List, [], ◌∷◌, ◌++◌, length, map, take, get_or, slice_set, Some, unwrap_or, refl, ap, sym, ◌∙◌, subst}
 use Rattle.std.proofs.Common.{arith}
 use Rattle.std.specs.Str.{bytes_eq}

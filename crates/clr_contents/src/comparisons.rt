@@ -1,5 +1,5 @@
 //! What changes from the current content of a workspace to a content that it may get, found among the
-//! entries in which the two can differ.
+//! differences in which the two can differ.
 
 ghost use Rattle.std.specs.Prelude.{◌≡◌, ◌<◌, ◌++◌, true, length, Some, IfOk};
 ghost use Rattle.std.specs.FinMap as finite;
@@ -35,7 +35,7 @@ fn changes_at<B: RowView, A: RowView>(
     Ok(set)
 }
 
-/// Returns the cells of a savepoint's entries, or none of the mark of a child.
+/// Returns the cells of a savepoint's differences, or none of the mark of a child.
 fn cells_of_mark(alloc: Global, mark: &StoredMark) -> Result<Vec<CellId>, AllocError>
     ensures { IfOk result (λ cells. cells.items ≡ finite.keys (saved_differences mark.now)) }
 {
@@ -49,7 +49,7 @@ fn cells_of_mark(alloc: Global, mark: &StoredMark) -> Result<Vec<CellId>, AllocE
     }
 }
 
-/// Returns the cells of the entries of the current content of a workspace, and those of the entries of
+/// Returns the cells of the differences of the current content of a workspace, and those of the differences of
 /// one of its savepoints.
 fn cells_of_both(map: &WorkspaceMap, at: usize, mark: usize) -> Result<Vec<CellId>, AllocError>
     requires within { at < length map.now }
@@ -64,7 +64,7 @@ fn cells_of_both(map: &WorkspaceMap, at: usize, mark: usize) -> Result<Vec<CellI
 }
 
 /// Returns what changes from the current content of a workspace other than LIVE to the content of one of its
-/// savepoints. It is found among the entries of both.
+/// savepoints. It is found among the differences of both.
 pub fn changes_to_saved(
     live: &Sheet,
     map: &WorkspaceMap,
@@ -85,7 +85,7 @@ pub fn changes_to_saved(
 }
 
 /// Returns what changes from the current content of a workspace other than LIVE to its base. It is found among the
-/// entries of the current content.
+/// differences of the current content.
 pub fn changes_to_base(live: &Sheet, map: &WorkspaceMap, at: usize) -> Result<ChangeSet, AllocError>
     requires child { 0 < at }
     requires within { at < length map.now }
@@ -100,7 +100,7 @@ pub fn changes_to_base(live: &Sheet, map: &WorkspaceMap, at: usize) -> Result<Ch
 }
 
 /// Returns what changes from the current content of a workspace other than LIVE to that of its parent with the own
-/// changes of the workspace over it. It is found among the entries of the base.
+/// changes of the workspace over it. It is found among the differences of the base.
 pub fn changes_to_refreshed(
     live: &Sheet,
     map: &WorkspaceMap,

@@ -1,11 +1,11 @@
-//! What workspaces see: their contents read by cell or whole, the entries that keep them as they
-//! are before another content changes, and the sweep of neutral entries after it.
+//! What workspaces see: their contents read by cell or whole, the differences that keep them as they
+//! are before another content changes, and the sweep of neutral differences after it.
 //!
 //! - `row_of`, `base_row_of`, `whole_rows`, `base_rows`, `saved_rows` and `changes_of` read the
 //!   rows of a workspace, by cell or whole, as the differences above one another mean them.
 //! - `changes_to_base`, `changes_to_saved` and `changes_to_refreshed` tell what would change in the
 //!   current content of a workspace, were it rolled back or refreshed; no whole content is made.
-//! - `pin_children`, `pin_own` and `pin_row` make entries before a content below
+//! - `pin_children`, `pin_own` and `pin_row` store differences before a content below
 //!   changes [`seen`]: no content changes by them, also where memory runs out.
 #![tactic(auto)]
 

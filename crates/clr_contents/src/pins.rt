@@ -1,8 +1,8 @@
-//! Entries that are made before a content changes, so that what lies over it stays as it is.
+//! Differences that are stored before a content changes, so that what lies over it stays as it is.
 
 ghost use Rattle.std.specs.Prelude.{◌≡◌, ◌<◌, ◌∷◌, [], length, OnOk};
 ghost use Rattle.std.specs.Str.{bytes_eq};
-ghost use Rattle.clr_differences.specs.Differences.{HasDifference, HasEntries};
+ghost use Rattle.clr_differences.specs.Differences.{HasDifference, HasDifferences};
 ghost use Rattle.clr_deltas.specs.Deltas.{delta_at, wholes, IsUnder, EachMarkPins};
 ghost use Rattle.clr_contents.specs.Pinning.{Extends, ChildrenPin, StayOwnBut, StayOwnButChildren};
 ghost use Rattle.clr_workspaces.specs.Roots.{IsRooted};
@@ -13,10 +13,10 @@ use clr_deltas::WorkspaceMap;
 use clr_rows::{CellId, Sheet};
 use std::alloc::AllocError;
 
-// Each function here makes entries with the rows that are seen. No content changes, also where
+// Each function here stores differences with the rows that are seen. No content changes, also where
 // memory runs out.
 
-/// Makes an entry at a cell of a base that has none there.
+/// Stores a difference at a cell of a base that has none there.
 #[tactic(auto, using(crate::proofs::PinLemmas::extends_base, crate::proofs::PinLemmas::pinned_base))]
 fn pin_base(live: &Sheet, map: &mut WorkspaceMap, at: usize, cell: CellId) -> Result<(), AllocError>
     requires child { 0 < at }
@@ -36,7 +36,7 @@ fn pin_base(live: &Sheet, map: &mut WorkspaceMap, at: usize, cell: CellId) -> Re
     Ok(())
 }
 
-/// Makes an entry at each of some cells of a base that has none there.
+/// Stores a difference at each of some cells of a base that has none there.
 fn pin_bases(
     live: &Sheet,
     map: &mut WorkspaceMap,
@@ -49,7 +49,7 @@ fn pin_bases(
     ensures seen { wholes live.now map.new ≡ wholes live.now map.old }
     ensures extends { Extends map.old map.new }
     ensures elsewhere { StayOwnBut at cells.now map.old map.new }
-    ensures pinned { OnOk result (HasEntries (delta_at map.new at).base cells.now) }
+    ensures pinned { OnOk result (HasDifferences (delta_at map.new at).base cells.now) }
 {
     for cell in cells {
         pin_base(live, map, at, *cell)?;
@@ -66,7 +66,7 @@ fn is_child_of(map: &WorkspaceMap, child: usize, parent: usize) -> bool
     map.name_at(parent) == map.parent_name(child)
 }
 
-/// Makes an entry at each of some cells of the base of a workspace that is a child of another.
+/// Stores a difference at each of some cells of the base of a workspace that is a child of another.
 fn pin_child(
     live: &Sheet,
     map: &mut WorkspaceMap,
@@ -81,7 +81,7 @@ fn pin_child(
     ensures seen { wholes live.now map.new ≡ wholes live.now map.old }
     ensures extends { Extends map.old map.new }
     ensures elsewhere { StayOwnButChildren (delta_at map.old parent).name cells.now map.old map.new }
-    ensures pinned { OnOk result (IsUnder (delta_at map.old parent).name (delta_at map.new child) → HasEntries (delta_at map.new child).base cells.now) }
+    ensures pinned { OnOk result (IsUnder (delta_at map.old parent).name (delta_at map.new child) → HasDifferences (delta_at map.new child).base cells.now) }
 {
     if !is_child_of(map, child, parent) {
         return Ok(());
@@ -90,7 +90,7 @@ fn pin_child(
     Ok(())
 }
 
-/// Makes the entries that the bases of the children of a workspace need before its content
+/// Stores the differences that the bases of the children of a workspace need before its content
 /// changes at some cells.
 pub fn pin_children(
     live: &Sheet,
@@ -111,7 +111,7 @@ pub fn pin_children(
     Ok(())
 }
 
-/// Makes an entry at a cell of a current content that has none there.
+/// Stores a difference at a cell of a current content that has none there.
 #[tactic(auto, using(crate::proofs::PinLemmas::extends_current, crate::proofs::PinLemmas::pinned_current))]
 fn pin_current(
     live: &Sheet,
@@ -135,7 +135,7 @@ fn pin_current(
     Ok(())
 }
 
-/// Makes an entry at each of some cells of a current content that has none there.
+/// Stores a difference at each of some cells of a current content that has none there.
 pub fn pin_own(
     live: &Sheet,
     map: &mut WorkspaceMap,
@@ -148,7 +148,7 @@ pub fn pin_own(
     ensures seen { wholes live.now map.new ≡ wholes live.now map.old }
     ensures extends { Extends map.old map.new }
     ensures elsewhere { StayOwnBut at cells.now map.old map.new }
-    ensures pinned { OnOk result (HasEntries (delta_at map.new at).current cells.now) }
+    ensures pinned { OnOk result (HasDifferences (delta_at map.new at).current cells.now) }
 {
     for cell in cells {
         pin_current(live, map, at, *cell)?;
@@ -156,7 +156,7 @@ pub fn pin_own(
     Ok(())
 }
 
-/// Makes an entry at a cell of each savepoint of a workspace that has none there.
+/// Stores a difference at a cell of each savepoint of a workspace that has none there.
 #[tactic(auto, using(crate::proofs::PinLemmas::extends_marks))]
 fn pin_saved(
     live: &Sheet,
@@ -176,7 +176,7 @@ fn pin_saved(
     map.pin_saved(at, cell, row.as_ref())
 }
 
-/// Makes an entry at a cell of the current content and of each savepoint of a workspace that has
+/// Stores a difference at a cell of the current content and of each savepoint of a workspace that has
 /// none there.
 #[tactic(auto, using(crate::proofs::PinLemmas::extends_both))]
 pub fn pin_row(

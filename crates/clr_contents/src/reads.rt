@@ -65,8 +65,8 @@ pub fn base_row_of<'a>(
     row_of(live, map, parent_of(live, map, at), cell)
 }
 
-/// Returns the entry of a savepoint at a cell, or none, and none of the mark of a child.
-fn saved_entry(mark: &StoredMark, cell: CellId) -> Option<&Option<Row>>
+/// Returns the difference of a savepoint at a cell, or none, and none of the mark of a child.
+fn saved_difference(mark: &StoredMark, cell: CellId) -> Option<&Option<Row>>
     ensures { option_copied result ≡ finite.get (saved_differences mark.now) cell }
 {
     match mark {
@@ -75,13 +75,13 @@ fn saved_entry(mark: &StoredMark, cell: CellId) -> Option<&Option<Row>>
     }
 }
 
-/// Returns the entry at a cell of the mark at a position, or none.
-fn entry_at(map: &WorkspaceMap, at: usize, mark: usize, cell: CellId) -> Option<&Option<Row>>
+/// Returns the difference at a cell of the mark at a position, or none.
+fn difference_at(map: &WorkspaceMap, at: usize, mark: usize, cell: CellId) -> Option<&Option<Row>>
     requires within { at < length map.now }
     requires marked { mark < length (delta_at map.now at).marks }
     ensures { option_copied result ≡ finite.get (saved_differences (stored_at (delta_at map.now at).marks mark)) cell }
 {
-    saved_entry(&map.marks(at)[mark], cell)
+    saved_difference(&map.marks(at)[mark], cell)
 }
 
 /// Returns the row at a cell of a savepoint of a workspace other than LIVE.
@@ -98,7 +98,7 @@ pub fn saved_row_of<'a>(
     requires saved { is_saved (mark_at (workspace_at (wholes live.now map.now) at).marks mark) ≡ true }
     ensures { option_copied result ≡ row_at (saved_content (mark_at (workspace_at (wholes live.now map.now) at).marks mark)) cell }
 {
-    if let Some(row) = entry_at(map, at, mark, cell) {
+    if let Some(row) = difference_at(map, at, mark, cell) {
         return row.as_ref();
     }
     base_row_of(live, map, at, cell)

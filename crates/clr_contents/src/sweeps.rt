@@ -1,4 +1,4 @@
-//! The sweep of neutral entries: those that have the row of what they lie over.
+//! The sweep of neutral differences: those that have the row of what they lie over.
 
 ghost use Rattle.std.specs.Prelude.{◌≡◌, ◌<◌, ◌||◌, length, nat_eq};
 ghost use Rattle.std.specs.Str.{bytes_eq};
@@ -16,7 +16,7 @@ use clr_rows::{CellId, Sheet};
 
 // No function here changes a content or takes memory.
 
-/// Takes away the neutral entries of a base. The base is taken out for that time, which changes
+/// Takes away the neutral differences of a base. The base is taken out for that time, which changes
 /// neither the parent nor what is above it.
 fn sweep_base(live: &Sheet, map: &mut WorkspaceMap, at: usize)
     requires child { 0 < at }
@@ -31,7 +31,7 @@ fn sweep_base(live: &Sheet, map: &mut WorkspaceMap, at: usize)
     let _none = map.replace_base(at, base);
 }
 
-/// Takes away the neutral entries of a current content. The current content is taken out for that
+/// Takes away the neutral differences of a current content. The current content is taken out for that
 /// time, which doesn't change the base.
 fn sweep_current(live: &Sheet, map: &mut WorkspaceMap, at: usize)
     requires child { 0 < at }
@@ -45,7 +45,7 @@ fn sweep_current(live: &Sheet, map: &mut WorkspaceMap, at: usize)
     let _none = map.replace_current(at, current);
 }
 
-/// Takes away the neutral entries of savepoints. The marks are taken out for that time, which
+/// Takes away the neutral differences of savepoints. The marks are taken out for that time, which
 /// doesn't change the base.
 fn sweep_saved(live: &Sheet, map: &mut WorkspaceMap, at: usize)
     requires child { 0 < at }
@@ -59,7 +59,7 @@ fn sweep_saved(live: &Sheet, map: &mut WorkspaceMap, at: usize)
     let _none = map.replace_marks(at, marks);
 }
 
-/// Takes away the neutral entries of a workspace.
+/// Takes away the neutral differences of a workspace.
 fn sweep_one(live: &Sheet, map: &mut WorkspaceMap, at: usize)
     requires child { 0 < at }
     requires within { at < length map.old }
@@ -73,7 +73,7 @@ fn sweep_one(live: &Sheet, map: &mut WorkspaceMap, at: usize)
     sweep_saved(live, map, at);
 }
 
-/// Takes away every neutral entry: one that has the row of what it lies over.
+/// Takes away every neutral difference: one that has the row of what it lies over.
 pub fn sweep(live: &Sheet, map: &mut WorkspaceMap)
     requires { IsRooted (wholes live.now map.old) }
     ensures seen { wholes live.now map.new ≡ wholes live.now map.old }
@@ -84,7 +84,7 @@ pub fn sweep(live: &Sheet, map: &mut WorkspaceMap)
     }
 }
 
-/// Takes away the neutral entries of a base at some cells, as `sweep_base` does.
+/// Takes away the neutral differences of a base at some cells, as `sweep_base` does.
 fn sweep_base_at(live: &Sheet, map: &mut WorkspaceMap, at: usize, cells: &[CellId])
     requires child { 0 < at }
     requires within { at < length map.old }
@@ -98,7 +98,7 @@ fn sweep_base_at(live: &Sheet, map: &mut WorkspaceMap, at: usize, cells: &[CellI
     let _none = map.replace_base(at, base);
 }
 
-/// Takes away the neutral entries of a current content at some cells, as `sweep_current` does.
+/// Takes away the neutral differences of a current content at some cells, as `sweep_current` does.
 fn sweep_current_at(live: &Sheet, map: &mut WorkspaceMap, at: usize, cells: &[CellId])
     requires child { 0 < at }
     requires within { at < length map.old }
@@ -111,7 +111,7 @@ fn sweep_current_at(live: &Sheet, map: &mut WorkspaceMap, at: usize, cells: &[Ce
     let _none = map.replace_current(at, current);
 }
 
-/// Takes away the neutral entries of savepoints at some cells, as `sweep_saved` does.
+/// Takes away the neutral differences of savepoints at some cells, as `sweep_saved` does.
 fn sweep_saved_at(live: &Sheet, map: &mut WorkspaceMap, at: usize, cells: &[CellId])
     requires child { 0 < at }
     requires within { at < length map.old }
@@ -124,7 +124,7 @@ fn sweep_saved_at(live: &Sheet, map: &mut WorkspaceMap, at: usize, cells: &[Cell
     let _none = map.replace_marks(at, marks);
 }
 
-/// Takes away the neutral entries of a workspace at some cells.
+/// Takes away the neutral differences of a workspace at some cells.
 fn sweep_one_at(live: &Sheet, map: &mut WorkspaceMap, at: usize, cells: &[CellId])
     requires child { 0 < at }
     requires within { at < length map.old }
@@ -151,7 +151,7 @@ fn is_near(map: &WorkspaceMap, one: usize, at: usize) -> bool
     one == at || map.name_at(at) == map.parent_name(one)
 }
 
-/// Takes away the neutral entries of a workspace at some cells, if it is the one at a position or a
+/// Takes away the neutral differences of a workspace at some cells, if it is the one at a position or a
 /// child of it.
 fn sweep_near(live: &Sheet, map: &mut WorkspaceMap, one: usize, at: usize, cells: &[CellId])
     requires child { 0 < one }
@@ -169,8 +169,8 @@ fn sweep_near(live: &Sheet, map: &mut WorkspaceMap, one: usize, at: usize, cells
     sweep_one_at(live, map, one, cells);
 }
 
-/// Takes away every neutral entry, where each one stands at some cells in the workspace at a
-/// position or in a child of it. It looks at no other entry.
+/// Takes away every neutral difference, where each one stands at some cells in the workspace at a
+/// position or in a child of it. It looks at no other difference.
 pub fn sweep_at(live: &Sheet, map: &mut WorkspaceMap, at: usize, cells: &[CellId])
     requires within { at < length map.old }
     requires rooted { IsRooted (wholes live.now map.old) }

@@ -65,7 +65,7 @@ fn changes_to(
     Ok(set)
 }
 
-/// Returns what a workspace other than LIVE changed. It is found among the entries of its current
+/// Returns what a workspace other than LIVE changed. It is found among the differences of its current
 /// content.
 pub fn changes_of(live: &Sheet, map: &WorkspaceMap, at: usize) -> Result<ChangeSet, AllocError>
     requires child { 0 < at }

@@ -1,5 +1,5 @@
 pub mod Answered
-pub mod EntryLemmas
 pub mod MarkLemmas
 pub mod Meaning
+pub mod NamedDeltaLemmas
 pub mod Places

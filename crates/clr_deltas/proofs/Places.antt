@@ -29,7 +29,7 @@ alike_more name x y vs ws w a = record {
   new = named-append ws w name ∙ ap (λ o. option_or o (cond (bytes_eq name w.name) (Some w.current) None)) a.new;
 }
 
--- a delta with entries where the content below changes means the same
+-- a delta with differences where the content below changes means the same
 whole_hidden : (m n : Content) (l : Delta) → AgreeOutside l.base m n → whole_of n l ≡ whole_of m l
 unfolding whole_of
 whole_hidden m n l agree = ap (λ (b : Content). record {
@@ -54,7 +54,7 @@ alike_whole name x y vs ws l a agree = by (bytes_eq name l.parent) refl
         ∙ sym (ap (λ n. whole_of (unwrap_or (content_by_name vs n) no_rows) l) same ∙ ap (λ o. whole_of (unwrap_or o no_rows) l) a.old)
     by false e = ap (λ o. whole_of (unwrap_or o no_rows) l) (a.others l.parent e)
 
--- each child among the deltas has entries where two contents differ
+-- each child among the deltas has differences where two contents differ
 abbrev ChildrenAgree : Name → Content → Content → List Delta → Type 0
 ChildrenAgree name x y ls = (k : ℕ) → k < length ls → IsUnder name (delta_at ls k) → AgreeOutside (delta_at ls k).base x y
 
@@ -114,11 +114,11 @@ moved_grow ws (l ∷ ls) (suc at) m lt name parent new agree =
     ∙ sym (ap (λ (c : Content). row_at (whole_of c l_at).current q) same))
     ∙ ap (λ (c : Content). slice_set (grow (ws ++ w ∷ []) ls) at (whole_of c m)) same)
 
--- each delta later than LIVE's has entries where two contents differ
+-- each delta later than LIVE's has differences where two contents differ
 abbrev pub LaterAgree : Name → Content → Content → List Delta → Type 0
 LaterAgree name x y ls = (k : ℕ) → 0 < k → k < length ls → IsUnder name (delta_at ls k) → AgreeOutside (delta_at ls k).base x y
 
--- a delta changes, and its children have entries where its content does
+-- a delta changes, and its children have differences where its content does
 pub moved : (live : Content) (ls : List Delta) (at : ℕ) (m : Delta) → 0 < at → at < length ls
     → m.name ≡ (delta_at ls at).name → m.parent ≡ (delta_at ls at).parent → content_by_name (take at (wholes live ls)) (delta_at ls at).name ≡ None
     → LaterAgree (delta_at ls at).name (whole_of (above_at live ls at) (delta_at ls at)).current (whole_of (above_at live ls at) m).current ls
@@ -131,7 +131,7 @@ moved live (l ∷ ls) (suc at) m some lt name parent new agree =
     ap (λ rest. t ∷ rest) (moved_grow (t ∷ []) ls at m (omega arith) name parent new (λ k k_lt under q none. agree (suc k) (omega arith) (omega arith) under q
     none))
 
--- LIVE's content changes, and its children have entries where it does
+-- LIVE's content changes, and its children have differences where it does
 pub moved_live : (live next : Content) (ls : List Delta) → 0 < length ls → LaterAgree (delta_at ls 0).name live next ls
     → wholes next ls ≡ slice_set (wholes live ls) 0 (top next (delta_at ls 0))
 unfolding wholes content_by_name top

@@ -8,7 +8,7 @@ use Rattle.std.specs.Str.{bytes_eq}
 use Rattle.clr_rows.specs.declared.cells.CellId.{CellId}
 use Rattle.clr_rows.specs.declared.rows.Row.{Row}
 use Rattle.clr_rows.specs.Contents.{Content, no_rows}
-use Rattle.clr_differences.specs.Differences.{Differences, RowEntries, HasDifference, IsOwnOver, coded_differences, is_among, no_differences, put_each}
+use Rattle.clr_differences.specs.Differences.{Differences, RowsByCell, HasDifference, IsOwnOver, coded_differences, is_among, no_differences, put_each}
 use Rattle.clr_differences.specs.Differences.{seen_over}
 use Rattle.clr_differences.specs.Differences.{without_neutral, swept_at}
 use Rattle.clr_workspaces.specs.Marks.{Name, Mark, Saved, ChildMark, coded_name}
@@ -74,7 +74,7 @@ IsUnder name l = bytes_eq name l.parent ≡ true
 abbrev pub leaf : Name → Name → Delta
 leaf name parent = record { name = name; parent = parent; base = no_differences; current = no_differences; marks = []; kept = false }
 
--- how many entries a delta has in its base and its current content
+-- how many differences a delta has in its base and its current content
 abbrev pub stored_in : Delta → ℕ
 stored_in l = length (finite.keys l.base) + length (finite.keys l.current)
 
@@ -107,40 +107,40 @@ abbrev pub saved_differences : StoredMark → Differences
 saved_differences (stored.Saved name d) = d
 saved_differences (stored.Child name) = no_differences
 
--- a mark without the entries that have the row of the base
+-- a mark without the differences that have the row of the base
 abbrev pub swept_mark : Content → StoredMark → StoredMark
 swept_mark base (stored.Saved name d) = stored.Saved name (without_neutral base d)
 swept_mark base (stored.Child name) = stored.Child name
 
--- a mark without the entries at some cells that have the row of the base
+-- a mark without the differences at some cells that have the row of the base
 abbrev pub swept_mark_at : Content → List CellId → StoredMark → StoredMark
 swept_mark_at base cells (stored.Saved name d) = stored.Saved name (swept_at base cells d)
 swept_mark_at base cells (stored.Child name) = stored.Child name
 
--- no savepoint has an entry at a cell with this row of the base
+-- no savepoint has a difference at a cell with this row of the base
 abbrev pub AreOwnOver : Option Row → CellId → List StoredMark → Type 0
 AreOwnOver base q [] = Unit {0}
 AreOwnOver base q (m ∷ ms) = IsOwnOver base (finite.get (saved_differences m) q) × AreOwnOver base q ms
 
--- at all other cells no savepoint has come to have an entry with the row of the base
+-- at all other cells no savepoint has come to have a difference with the row of the base
 abbrev pub StayOwnBeside : List CellId → List StoredMark → List StoredMark → Type 0
 StayOwnBeside cells old new = (q : CellId) → is_among cells q ≡ false → (base : Option Row) → AreOwnOver base q old → AreOwnOver base q new
 
--- how many entries a mark has
-abbrev pub entries_of_mark : StoredMark → ℕ
-entries_of_mark mark = length (finite.keys (saved_differences mark))
+-- how many differences a mark has
+abbrev pub stored_in_mark : StoredMark → ℕ
+stored_in_mark mark = length (finite.keys (saved_differences mark))
 
 abbrev pub MarkPins : CellId → StoredMark → Type 0
 MarkPins cell (stored.Saved name d) = HasDifference d cell
 MarkPins cell (stored.Child name) = Unit {0}
 
--- each savepoint has an entry at a cell
+-- each savepoint has a difference at a cell
 abbrev pub EachMarkPins : List StoredMark → CellId → Type 0
 EachMarkPins [] cell = Unit {0}
 EachMarkPins (m ∷ ms) cell = MarkPins cell m × EachMarkPins ms cell
 
 -- a delta whose base takes rows over, and whose current content is the base; the savepoints go
-abbrev pub rows_taken_over : RowEntries → Delta → Delta
+abbrev pub rows_taken_over : RowsByCell → Delta → Delta
 rows_taken_over rows l = record l { base = put_each l.base rows; current = no_differences; marks = filter is_stored_child l.marks }
 
 -- a delta over the parent's content, with these differences; the savepoints go

@@ -1,3 +1,3 @@
 pub mod Differing
-pub mod Entries
+pub mod NamedDeltas
 pub mod Deltas

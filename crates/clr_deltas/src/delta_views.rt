@@ -1,7 +1,7 @@
 //! What is stored of a workspace, seen under its name.
 
 ghost use Rattle.std.specs.Prelude.{◌≡◌};
-ghost use Rattle.clr_deltas.specs.Entries.{delta_under};
+ghost use Rattle.clr_deltas.specs.NamedDeltas.{delta_under};
 
 use crate::stored_marks::StoredMark;
 use crate::workspace_maps::Delta;
@@ -16,7 +16,7 @@ pub struct DeltaView<'a> {
 }
 
 impl<'a> Model for DeltaView<'a> {
-    ghost use Rattle.clr_deltas.specs.Entries.{delta_under};
+    ghost use Rattle.clr_deltas.specs.NamedDeltas.{delta_under};
     ghost use Rattle.clr_deltas.specs.Deltas.{Delta as WholeDelta, coded_delta};
 
     ghost Value = { WholeDelta };

@@ -20,7 +20,7 @@ pub enum StoredMark {
     Child(Words),
 }
 
-/// Makes an entry at a cell in a savepoint that has none there, with the row of the base.
+/// Stores a difference at a cell in a savepoint that has none there, with the row of the base.
 fn pin(mark: &mut StoredMark, cell: CellId, row: Option<&Row>) -> Result<(), AllocError>
     ensures seen { (base : Content) → row_at base cell ≡ option_copied row.entry → whole_mark base mark.new ≡ whole_mark base mark.old }
     ensures pinned { OnOk result (MarkPins cell mark.new) }
@@ -32,7 +32,7 @@ fn pin(mark: &mut StoredMark, cell: CellId, row: Option<&Row>) -> Result<(), All
     }
 }
 
-/// Makes an entry at a cell in each savepoint that has none there, with the row of the base. No
+/// Stores a difference at a cell in each savepoint that has none there, with the row of the base. No
 /// savepoint's content changes, also where memory runs out.
 pub(crate) fn pin_each(
     marks: &mut Vec<StoredMark>,
@@ -49,7 +49,7 @@ pub(crate) fn pin_each(
     Ok(())
 }
 
-/// Takes away each neutral entry of a savepoint.
+/// Takes away each neutral difference of a savepoint.
 fn sweep<V: RowView>(mark: &mut StoredMark, base: &V)
     ensures { mark.new ≡ swept_mark (V.content base.now) mark.old }
 {
@@ -59,7 +59,7 @@ fn sweep<V: RowView>(mark: &mut StoredMark, base: &V)
     }
 }
 
-/// Takes away each neutral entry of each savepoint, one that has the row of the base. No
+/// Takes away each neutral difference of each savepoint, one that has the row of the base. No
 /// savepoint's content over that base changes. It takes no memory.
 pub fn sweep_each<V: RowView>(marks: &mut Vec<StoredMark>, base: &V)
     ensures { marks.new.items ≡ map (swept_mark (V.content base.now)) marks.old.items }
@@ -69,7 +69,7 @@ pub fn sweep_each<V: RowView>(marks: &mut Vec<StoredMark>, base: &V)
     }
 }
 
-/// Takes away each neutral entry of a savepoint at some cells.
+/// Takes away each neutral difference of a savepoint at some cells.
 fn sweep_at<V: RowView>(mark: &mut StoredMark, base: &V, cells: &[CellId])
     ensures { mark.new ≡ swept_mark_at (V.content base.now) cells.now mark.old }
 {
@@ -79,8 +79,8 @@ fn sweep_at<V: RowView>(mark: &mut StoredMark, base: &V, cells: &[CellId])
     }
 }
 
-/// Takes away each neutral entry of each savepoint at some cells, one that has the row of the base.
-/// No savepoint's content over that base changes. It takes no memory, and looks at no other entry.
+/// Takes away each neutral difference of each savepoint at some cells, one that has the row of the base.
+/// No savepoint's content over that base changes. It takes no memory, and looks at no other difference.
 pub fn sweep_each_at<V: RowView>(marks: &mut Vec<StoredMark>, base: &V, cells: &[CellId])
     ensures { marks.new.items ≡ map (swept_mark_at (V.content base.now) cells.now) marks.old.items }
 {

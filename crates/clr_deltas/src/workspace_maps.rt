@@ -6,10 +6,10 @@ ghost use Rattle.std.specs.Option.{option_copied};
 ghost use Rattle.std.specs.Str.{bytes_eq};
 ghost use Rattle.indexmap.specs.IndexMap.{values};
 ghost use Rattle.clr_rows.specs.Contents.{Content, row_at};
-ghost use Rattle.clr_differences.specs.Differences.{no_differences, put_each, cells_in, HasDifference, HasEntries};
+ghost use Rattle.clr_differences.specs.Differences.{no_differences, put_each, cells_in, HasDifference, HasDifferences};
 ghost use Rattle.clr_deltas.specs.Deltas.{delta_at, delta_changed, find_delta, stored_in, whole_mark, is_stored_child};
 ghost use Rattle.clr_deltas.specs.Deltas.{stored_without_mark_of, EachMarkPins, StayOwnBeside, rows_taken_over, restarted_with};
-ghost use Rattle.clr_deltas.specs.Entries.{delta_of};
+ghost use Rattle.clr_deltas.specs.NamedDeltas.{delta_of};
 ghost use Rattle.clr_deltas.specs.declared.stored_marks.StoredMark.TheVariants.{Child};
 
 use crate::delta_views::DeltaView;
@@ -57,7 +57,7 @@ impl Model for WorkspaceMap {
 
     ghost coded = { coded_list coded_delta };
 
-    ghost use Rattle.clr_deltas.specs.Entries.{deltas_of};
+    ghost use Rattle.clr_deltas.specs.NamedDeltas.{deltas_of};
 
     ghost view = { λ w. deltas_of w.map.entries };
 }
@@ -182,7 +182,7 @@ impl WorkspaceMap {
         name
     }
 
-    /// Puts an entry into a base. If memory runs out, nothing changes.
+    /// Puts a difference into a base. If memory runs out, nothing changes.
     pub fn put_base(&mut self, at: usize, cell: CellId, row: Option<Row>) -> Result<(), AllocError>
         requires { at < length self.old }
         ensures ok { OnOk result (self.new ≡ delta_changed self.old at (λ l. record l { base = finite.insert l.base cell row })) }
@@ -192,7 +192,7 @@ impl WorkspaceMap {
         delta.base.put(cell, row)
     }
 
-    /// Puts an entry into a current content. If memory runs out, nothing changes.
+    /// Puts a difference into a current content. If memory runs out, nothing changes.
     pub fn put_current(
         &mut self,
         at: usize,
@@ -207,7 +207,7 @@ impl WorkspaceMap {
         delta.current.put(cell, row)
     }
 
-    /// Makes an entry at a cell in each savepoint of the workspace at a position that has none
+    /// Stores a difference at a cell in each savepoint of the workspace at a position that has none
     /// there, with the row of the base. No savepoint's content changes, also where memory runs out.
     pub fn pin_saved(
         &mut self,
@@ -226,20 +226,20 @@ impl WorkspaceMap {
         pin_each(&mut delta.marks, cell, row)
     }
 
-    /// Sets entries that a current content has.
+    /// Sets differences that a current content has.
     pub fn set_current(&mut self, at: usize, rows: Vec<(CellId, Option<Row>)>)
         requires there { at < length self.old }
-        requires pinned { HasEntries (delta_at self.old at).current (cells_in rows.items) }
+        requires pinned { HasDifferences (delta_at self.old at).current (cells_in rows.items) }
         ensures { self.new ≡ delta_changed self.old at (λ l. record l { current = put_each l.current rows.items }) }
     {
         let (_, delta) = self.map.pair_mut(at);
         delta.current.set_each(rows);
     }
 
-    /// Sets entries that a base has. The current content becomes the base, and the savepoints go.
+    /// Sets differences that a base has. The current content becomes the base, and the savepoints go.
     pub fn take_over(&mut self, at: usize, rows: Vec<(CellId, Option<Row>)>)
         requires there { at < length self.old }
-        requires pinned { HasEntries (delta_at self.old at).base (cells_in rows.items) }
+        requires pinned { HasDifferences (delta_at self.old at).base (cells_in rows.items) }
         ensures { self.new ≡ delta_changed self.old at (rows_taken_over rows.items) }
     {
         let alloc = self.allocator();
@@ -284,7 +284,7 @@ impl WorkspaceMap {
         cut_after(&mut delta.marks, mark);
     }
 
-    /// Takes the entry at a cell out of a base.
+    /// Takes the difference at a cell out of a base.
     pub fn take_base(&mut self, at: usize, cell: CellId)
         requires { at < length self.old }
         ensures { self.new ≡ delta_changed self.old at (λ l. record l { base = finite.remove l.base cell }) }
@@ -293,7 +293,7 @@ impl WorkspaceMap {
         delta.base.take(cell);
     }
 
-    /// Takes the entry at a cell out of a base, and sets the one that the current content has.
+    /// Takes the difference at a cell out of a base, and sets the one that the current content has.
     pub fn move_row(&mut self, at: usize, cell: CellId, row: Option<Row>)
         requires there { at < length self.old }
         requires pinned { HasDifference (delta_at self.old at).current cell }
@@ -304,9 +304,9 @@ impl WorkspaceMap {
         delta.current.set(cell, row);
     }
 
-    /// Returns how many entries the base and the current content of the workspace at a position
+    /// Returns how many differences the base and the current content of the workspace at a position
     /// have.
-    pub fn count_entries(&self, at: usize) -> usize
+    pub fn count_differences(&self, at: usize) -> usize
         requires { at < length self.now }
         ensures { result ≡ stored_in (delta_at self.now at) }
     {

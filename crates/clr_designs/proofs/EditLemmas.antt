@@ -28,7 +28,7 @@ use Rattle.clr_designs.specs.Laws.{EditsFitLaw}
 cell_fits : (tables : List TableDef) (cell : CellId) (row : Row) → row_fault tables cell row ≡ None → cell_fault tables cell ≡ None
 cell_fits tables cell row fits = let t = fits_table tables cell row fits in cell_named tables cell t.0 t.1 t.2.key
 
--- what is found among entries whose cells ascend
+-- what is found in a list whose cells ascend
 module _ {X : Type 0} where
   found_first : (e : CellId × X) (es : List (CellId × X)) → find cell_cmp e.0 (e ∷ es) ≡ Some e.1
   found_first e es = ap (λ t. cond t (Some e.1) (find cell_cmp e.0 es)) (tied_self e.0)

@@ -1,4 +1,4 @@
--- Differences over a content, cell by cell, and the entries that they have.
+-- Differences over a content, cell by cell, and the cells at which there are some.
 use Rattle.std.proofs.Common.{◌≡◌, ℕ, ◌+◌, ◌<◌, Bool, true, false, cond, List, [], ◌∷◌, ◌++◌, length, get_or, take, Some, None, is_some, unwrap_or, Bor, refl}
 use Rattle.std.proofs.Common.{ap, sym, subst, ◌∙◌}
 use Rattle.std.specs.declared.option.Option.{Option}
@@ -14,7 +14,7 @@ use Rattle.clr_rows.specs.Contents.{Content, row_at, set_cell, over}
 use Rattle.clr_rows.proofs.CellOrder.{cell_cmp_total}
 use Rattle.clr_rows.proofs.ChangeLemmas.{same_content, tied_self, row-set_cell, row-over, apart_from_sorted}
 use Rattle.clr_rows.proofs.RowLemmas.{tied_cells}
-use Rattle.clr_differences.specs.Differences.{Differences, RowEntries, cells_in, no_differences, seen_over, put_each, is_among, HasDifference, HasEntries}
+use Rattle.clr_differences.specs.Differences.{Differences, RowsByCell, cells_in, no_differences, seen_over, put_each, is_among, HasDifference, HasDifferences}
 
 -- what is seen ---------------------------------------------------------------------------------
 
@@ -26,7 +26,7 @@ row-seen_over m d q = row-over m (finite.entries d) q (apart_from_sorted _ (fini
 pub seen_over-none : (m : Content) → seen_over m no_differences ≡ m
 seen_over-none m = same_content _ _ (λ q. row-seen_over m no_differences q ∙ ap (λ o. unwrap_or o (row_at m q)) (finite.get-empty cell_cmp q))
 
--- an entry put is a cell set
+-- a difference put is a cell set
 pub seen_over-insert : (m : Content) (d : Differences) (k : CellId) (v : Option Row) → seen_over m (finite.insert d k v) ≡ set_cell (seen_over m d) k v
 seen_over-insert m d k v = same_content _ _ (λ q.
     row-seen_over m (finite.insert d k v) q ∙ ap (λ o. unwrap_or o (row_at m q)) (finite.get-insert cell_cmp_total d k v q)
@@ -37,13 +37,13 @@ seen_over-insert m d k v = same_content _ _ (λ q.
     by true o r = refl
     by false o r = refl
 
-pub seen_over-put_each : (m : Content) (es : RowEntries) (d : Differences) → seen_over m (put_each d es) ≡ over (seen_over m d) es
+pub seen_over-put_each : (m : Content) (es : RowsByCell) (d : Differences) → seen_over m (put_each d es) ≡ over (seen_over m d) es
 unfolding put_each over
 seen_over-put_each m [] d = refl
 seen_over-put_each m (e ∷ es) d = seen_over-put_each m es (finite.insert d e.0 e.1) ∙ ap (λ x. over x es) (seen_over-insert m d e.0 e.1)
 
 -- rows put into no differences
-pub seen_over-fresh : (m : Content) (es : RowEntries) → seen_over m (put_each no_differences es) ≡ over m es
+pub seen_over-fresh : (m : Content) (es : RowsByCell) → seen_over m (put_each no_differences es) ≡ over m es
 seen_over-fresh m es = seen_over-put_each m es no_differences ∙ ap (λ x. over x es) (seen_over-none m)
 
 -- a cell set to the row that stands there
@@ -55,17 +55,17 @@ set_cell-same m k v is = same_content _ _ (λ q. row-set_cell m k v q ∙ ap (λ
     by q true h = ap (row_at m) (sym (tied_cells q k h))
     by q false h = refl
 
--- NEUTRAL ENTRIES: what is seen stays
+-- NEUTRAL DIFFERENCES: what is seen stays
 
 pub neutral : (m : Content) (d : Differences) (k : CellId) (v : Option Row) → v ≡ row_at (seen_over m d) k → seen_over m (finite.insert d k v) ≡ seen_over m d
 neutral m d k v is = seen_over-insert m d k v ∙ set_cell-same (seen_over m d) k v is
 
--- where there was no entry the row is that of the content below
+-- where there was no difference the row is that of the content below
 pub neutral_new : (m : Content) (d : Differences) (k : CellId) (v : Option Row) → finite.get d k ≡ None → v ≡ row_at m k → seen_over m (finite.insert d k v)
     ≡ seen_over m d
 neutral_new m d k v none is = neutral m d k v (is ∙ sym (row-seen_over m d k ∙ ap (λ o. unwrap_or o (row_at m k)) none))
 
--- an entry with the row below is taken away
+-- a difference with the row below is taken away
 pub neutral_taken : (m : Content) (d : Differences) (k : CellId) → finite.get d k ≡ Some (row_at m k) → seen_over m (finite.remove d k) ≡ seen_over m d
 neutral_taken m d k is = same_content _ _ (λ q.
     row-seen_over m (finite.remove d k) q ∙ ap (λ o. unwrap_or o (row_at m q)) (finite.get-remove cell_cmp_total d k q) ∙ by q (eq_by_cmp cell_cmp q k) refl
@@ -75,7 +75,7 @@ neutral_taken m d k is = same_content _ _ (λ q.
     by q true h = sym (ap (λ o. unwrap_or o (row_at m q)) (subst (λ j. finite.get d j ≡ Some (row_at m j)) (sym (tied_cells q k h)) is))
     by q false h = refl
 
--- any entry taken away lets the row below be seen
+-- any difference taken away lets the row below be seen
 pub seen_over-remove : (m : Content) (d : Differences) (k : CellId) → seen_over m (finite.remove d k) ≡ set_cell (seen_over m d) k (row_at m k)
 seen_over-remove m d k = same_content _ _ (λ q.
     row-seen_over m (finite.remove d k) q ∙ ap (λ o. unwrap_or o (row_at m q)) (finite.get-remove cell_cmp_total d k q) ∙ by q (eq_by_cmp cell_cmp q k) refl
@@ -86,7 +86,7 @@ seen_over-remove m d k = same_content _ _ (λ q.
     by q true h = ap (row_at m) (tied_cells q k h)
     by q false h = refl
 
--- HIDDEN CHANGES: two contents that agree where there is no entry
+-- HIDDEN CHANGES: two contents that agree where there is no difference
 
 abbrev pub AgreeOutside : Differences → Content → Content → Type 0
 AgreeOutside d m n = (q : CellId) → finite.get d q ≡ None → row_at n q ≡ row_at m q
@@ -98,7 +98,7 @@ hidden m n d agree = same_content _ _ (λ q. row-seen_over n d q ∙ by (finite.
     by None h = h refl
     by (Some z) h = refl
 
--- a cell set where there is an entry
+-- a cell set where there is a difference
 pub set_outside : (d : Differences) (m : Content) (k : CellId) (v : Option Row) → HasDifference d k → AgreeOutside d m (set_cell m k v)
 set_outside d m k v pinned q none = row-set_cell m k v q ∙ by (eq_by_cmp cell_cmp q k) refl
   where
@@ -106,50 +106,54 @@ set_outside d m k v pinned q none = row-set_cell m k v q ∙ by (eq_by_cmp cell_
     by true h = absurd (false≢true (sym (ap is_some none) ∙ subst (HasDifference d) (sym (tied_cells q k h)) pinned))
     by false h = refl
 
--- rows put where there are entries
-pub over_outside : (d : Differences) (es : RowEntries) (m : Content) → HasEntries d (cells_in es) → AgreeOutside d m (over m es)
+-- rows put where there are differences
+pub over_outside : (d : Differences) (es : RowsByCell) (m : Content) → HasDifferences d (cells_in es) → AgreeOutside d m (over m es)
 unfolding over
 over_outside d [] m pinned q none = refl
 over_outside d (e ∷ es) m pinned q none = over_outside d es (set_cell m e.0 e.1) pinned.1 q none ∙ set_outside d m e.0 e.1 pinned.0 q none
 
--- differences that lie over a content, with entries at each of their cells
-pub seen_outside : (d : Differences) (m : Content) (e : Differences) → HasEntries d (finite.keys e) → AgreeOutside d m (seen_over m e)
+-- differences that lie over a content, where others are at each of their cells
+pub seen_outside : (d : Differences) (m : Content) (e : Differences) → HasDifferences d (finite.keys e) → AgreeOutside d m (seen_over m e)
 unfolding seen_over
 seen_outside d m e pinned = over_outside d (finite.entries e) m pinned
 
--- entries --------------------------------------------------------------------------------------
+-- where there is a difference ------------------------------------------------------------------
 
-pub entry_stays : (d : Differences) (k q : CellId) (v : Option Row) → HasDifference d q → HasDifference (finite.insert d k v) q
-entry_stays d k q v pinned = ap is_some (finite.get-insert cell_cmp_total d k v q) ∙ by (eq_by_cmp cell_cmp q k) (finite.get d q) pinned
+pub difference_stays : (d : Differences) (k q : CellId) (v : Option Row) → HasDifference d q → HasDifference (finite.insert d k v) q
+difference_stays d k q v pinned = ap is_some (finite.get-insert cell_cmp_total d k v q) ∙ by (eq_by_cmp cell_cmp q k) (finite.get d q) pinned
   where
     by : (b : Bool) (o : Option (Option Row)) → is_some o ≡ true → is_some (cond b (Some v) o) ≡ true
     by true o h = refl
     by false o h = h
 
-pub entry_made : (d : Differences) (k : CellId) (v : Option Row) → HasDifference (finite.insert d k v) k
-entry_made d k v = ap is_some (finite.get-insert cell_cmp_total d k v k ∙ ap (λ b. cond b (Some v) (finite.get d k)) (tied_self k))
+pub difference_stored : (d : Differences) (k : CellId) (v : Option Row) → HasDifference (finite.insert d k v) k
+difference_stored d k v = ap is_some (finite.get-insert cell_cmp_total d k v k ∙ ap (λ b. cond b (Some v) (finite.get d k)) (tied_self k))
 
-pub entries_keep : (d e : Differences) (cells : List CellId) → ((q : CellId) → HasDifference d q → HasDifference e q) → HasEntries d cells → HasEntries e cells
-entries_keep d e [] more pinned = tt
-entries_keep d e (cell ∷ cells) more pinned = (more cell pinned.0, entries_keep d e cells more pinned.1)
+pub differences_keep : (d e : Differences) (cells : List CellId) → ((q : CellId) → HasDifference d q → HasDifference e q) → HasDifferences d cells
+    → HasDifferences e cells
+differences_keep d e [] more pinned = tt
+differences_keep d e (cell ∷ cells) more pinned = (more cell pinned.0, differences_keep d e cells more pinned.1)
 
-pub entries_stay : (cells : List CellId) (d : Differences) (k : CellId) (v : Option Row) → HasEntries d cells → HasEntries (finite.insert d k v) cells
-entries_stay cells d k v pinned = entries_keep d (finite.insert d k v) cells (λ q. entry_stays d k q v) pinned
+pub differences_stay : (cells : List CellId) (d : Differences) (k : CellId) (v : Option Row) → HasDifferences d cells
+    → HasDifferences (finite.insert d k v) cells
+differences_stay cells d k v pinned = differences_keep d (finite.insert d k v) cells (λ q. difference_stays d k q v) pinned
 
-pub put_each_keeps : (es : RowEntries) (d : Differences) (q : CellId) → HasDifference d q → HasDifference (put_each d es) q
+pub put_each_keeps : (es : RowsByCell) (d : Differences) (q : CellId) → HasDifference d q → HasDifference (put_each d es) q
 unfolding put_each
 put_each_keeps [] d q pinned = pinned
-put_each_keeps (e ∷ es) d q pinned = put_each_keeps es (finite.insert d e.0 e.1) q (entry_stays d e.0 q e.1 pinned)
+put_each_keeps (e ∷ es) d q pinned = put_each_keeps es (finite.insert d e.0 e.1) q (difference_stays d e.0 q e.1 pinned)
 
-entries_push : (d : Differences) (cells : List CellId) (cell : CellId) → HasEntries d cells → HasDifference d cell → HasEntries d (cells ++ cell ∷ [])
-entries_push d [] cell pinned one = (one, tt)
-entries_push d (c ∷ cells) cell pinned one = (pinned.0, entries_push d cells cell pinned.1 one)
+differences_push : (d : Differences) (cells : List CellId) (cell : CellId) → HasDifferences d cells → HasDifference d cell
+    → HasDifferences d (cells ++ cell ∷ [])
+differences_push d [] cell pinned one = (one, tt)
+differences_push d (c ∷ cells) cell pinned one = (pinned.0, differences_push d cells cell pinned.1 one)
 
--- entries at one more of some cells
-pub entries_next : (d : Differences) (cells : List CellId) (i : ℕ) (c : CellId) → i < length cells → HasEntries d (take i cells) →
+-- differences at one more of some cells
+pub differences_next : (d : Differences) (cells : List CellId) (i : ℕ) (c : CellId) → i < length cells → HasDifferences d (take i cells) →
     HasDifference d (get_or cells i c)
-    → HasEntries d (take (i + 1) cells)
-entries_next d cells i c lt pinned one = subst (HasEntries d) (sym (take_at_read cells i c lt).1) (entries_push d (take i cells) (get_or cells i c) pinned one)
+    → HasDifferences d (take (i + 1) cells)
+differences_next d cells i c lt pinned one =
+    subst (HasDifferences d) (sym (take_at_read cells i c lt).1) (differences_push d (take i cells) (get_or cells i c) pinned one)
 
 -- other cells -------------------------------------------------------------------------------------
 
@@ -169,7 +173,7 @@ put_elsewhere d k v q apart = finite.get-insert cell_cmp_total d k v q ∙ ap (�
 pub taken_elsewhere : (d : Differences) (k q : CellId) → is_among (k ∷ []) q ≡ false → finite.get (finite.remove d k) q ≡ finite.get d q
 taken_elsewhere d k q apart = finite.get-remove cell_cmp_total d k q ∙ ap (λ b. cond b None (finite.get d q)) (not_among k [] q apart).0
 
-pub put_each_elsewhere : (es : RowEntries) (d : Differences) (q : CellId) → is_among (cells_in es) q ≡ false → finite.get (put_each d es) q ≡ finite.get d q
+pub put_each_elsewhere : (es : RowsByCell) (d : Differences) (q : CellId) → is_among (cells_in es) q ≡ false → finite.get (put_each d es) q ≡ finite.get d q
 unfolding put_each
 put_each_elsewhere [] d q apart = refl
 put_each_elsewhere (e ∷ es) d q apart =

@@ -1,4 +1,4 @@
--- The entries that are left are the changed cells.
+-- The differences that are left are the changed cells.
 use Rattle.std.proofs.Common.{◌≡◌, ℕ, ◌+◌, ◌<◌, Bool, true, false, cond, not, T, suc, List, [], ◌∷◌, ◌++◌, length, get_or, take, map, filter, Some, None}
 use Rattle.std.proofs.Common.{unwrap_or, refl, ap, sym, subst, ◌∙◌}
 use Rattle.std.proofs.lemmas.Bool.{false≢true}
@@ -17,11 +17,11 @@ use Rattle.clr_rows.specs.Contents.{Content, Changes, row_at, is_changed, change
 use Rattle.clr_rows.specs.Same.{same}
 use Rattle.clr_rows.proofs.CellOrder.{cell_cmp_total, cell_cmp_exact}
 use Rattle.clr_rows.proofs.ChangeLemmas.{same_content, get-changes, find_below, sorted-filter, sorted-map, find-map, after_of}
-use Rattle.clr_rows.proofs.Entries.{keys-from_sorted}
+use Rattle.clr_rows.proofs.SortedMaps.{keys-from_sorted}
 use Rattle.clr_rows.proofs.RowLemmas.{tied_cells}
 use Rattle.clr_rows.proofs.SameLemmas.{same_is, same_itself}
 use Rattle.clr_rows.proofs.Tests.{first, second}
-use Rattle.clr_differences.specs.Differences.{Differences, RowEntries, differences_from, seen_over, is_own, without_neutral, is_among, is_neutral_over}
+use Rattle.clr_differences.specs.Differences.{Differences, RowsByCell, differences_from, seen_over, is_own, without_neutral, is_among, is_neutral_over}
 use Rattle.clr_differences.specs.Differences.{swept_cell, swept_at, IsOwnOver}
 use Rattle.clr_differences.proofs.DifferenceLemmas.{row-seen_over, neutral_taken}
 
@@ -35,10 +35,10 @@ filtered_from_retain T p f says (e ∷ es) kept h =
     let rest = filtered_from_retain T p f says es h.3 (subst (λ u. RetainsPairs T u es h.3) s.2 h.5) in
     h.6 ∙ (λ j. cond (s.0 j) ((e.0, s.1 j) ∷ rest j) (rest j))
 
-pub swept_entries : (below : Content) (es kept : RowEntries) → T (is_sorted cell_cmp es) → kept ≡ filter (is_own below) es → finite.from_sorted kept
+pub swept_differences : (below : Content) (es kept : RowsByCell) → T (is_sorted cell_cmp es) → kept ≡ filter (is_own below) es → finite.from_sorted kept
     ≡ without_neutral below (finite.from_sorted es)
 unfolding without_neutral
-swept_entries below es kept sorted e = ap (λ (es : RowEntries). finite.from_sorted es) (e
+swept_differences below es kept sorted e = ap (λ (es : RowsByCell). finite.from_sorted es) (e
     ∙ ap (filter (is_own below)) (sym (finite.entries-from_sorted cell_cmp es sorted)))
 
 -- what a filter leaves of a cell
@@ -46,7 +46,7 @@ abbrev kept_of : Content → CellId → Option (Option Row) → Option (Option R
 kept_of below q None = None
 kept_of below q (Some row) = cond (is_own below (q, row)) (Some row) None
 
-find_own : (below : Content) (es : RowEntries) (q : CellId) → T (is_sorted cell_cmp es) → find cell_cmp q (filter (is_own below) es)
+find_own : (below : Content) (es : RowsByCell) (q : CellId) → T (is_sorted cell_cmp es) → find cell_cmp q (filter (is_own below) es)
     ≡ kept_of below q (find cell_cmp q es)
 find_own below [] q sorted = refl
 find_own below (e ∷ es) q sorted =
@@ -69,7 +69,7 @@ find_own below (e ∷ es) q sorted =
           ] ∙ rest
     ] refl
 
--- an entry is left at just the changed cells
+-- a difference is left at just the changed cells
 pub get-swept : (below : Content) (d : Differences) (q : CellId) → finite.get (without_neutral below d) q ≡ change_at below (seen_over below d) q
 unfolding without_neutral
 get-swept below d q =
@@ -99,16 +99,16 @@ seen-swept below d = same_content _ _ (λ q.
 pub after_sorted : (changed : Changes) → T (is_sorted cell_cmp (rows_after changed))
 after_sorted changed = sorted-map after_of (finite.entries changed) (finite.entries_sorted changed)
 
--- the entries of what a content differs in are the rows after the changes
-pub entries-differences : (below content : Content) → finite.entries (differences_from below content) ≡ rows_after (changes below content)
-entries-differences below content = finite.entries-from_sorted cell_cmp (rows_after (changes below content)) (after_sorted (changes below content))
+-- the differences of a content from another, in order, are the rows after the changes
+pub listed-differences : (below content : Content) → finite.entries (differences_from below content) ≡ rows_after (changes below content)
+listed-differences below content = finite.entries-from_sorted cell_cmp (rows_after (changes below content)) (after_sorted (changes below content))
 
 cells_after : (es : List (CellId × Change)) → length (map (λ (e : CellId × Option Row). e.0) (map (λ (e : CellId × Change). (e.0, e.1.after)) es))
     ≡ length (map (λ (e : CellId × Change). e.0) es)
 cells_after [] = refl
 cells_after (e ∷ es) = ap suc (cells_after es)
 
--- without neutral entries, differences are what the content that is seen differs in
+-- where none is neutral, differences are what the content that is seen differs in
 pub swept-differences : (below : Content) (d : Differences) → differences_from below (seen_over below d) ≡ without_neutral below d
 swept-differences below d =
     let changed = changes below (seen_over below d) in
@@ -132,7 +132,7 @@ count-swept below d =
     keys_are : (changed : Changes) → length (map (λ (e : CellId × Change). e.0) (finite.entries changed)) ≡ length (finite.keys changed)
     keys_are changed = refl
 
--- entries taken away at some cells -----------------------------------------------------------------------
+-- differences taken away at some cells -------------------------------------------------------------------
 
 -- what is neutral at the cell goes, and nothing else
 get-swept_cell : (below : Content) (d : Differences) (cell q : CellId) → finite.get (swept_cell below d cell) q
@@ -237,7 +237,7 @@ swept_own below d own = finite.same_map cell_cmp_total cell_cmp_exact _ _ (λ q.
     by q None e = ap (λ b. cond (not b) (Some (row_at below q)) None) (same_itself (row_at below q))
     by q (Some row) e = ap (λ b. cond (not b) (Some row) None) e
 
--- the law of differences without neutral entries: they are what the content that is seen differs in
+-- the law of differences of which none is neutral: they are what the content that is seen differs in
 pub own_differences : (below : Content) (d : Differences) → ((q : CellId) → IsOwnOver (row_at below q) (finite.get d q)) → d
     ≡ differences_from below (seen_over below d)
 own_differences below d own = sym (swept_own below d own) ∙ sym (swept-differences below d)

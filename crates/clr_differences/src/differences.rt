@@ -9,7 +9,7 @@ ghost use Rattle.clr_rows.specs.declared.cells.CellId.{CellId as Cell};
 ghost use Rattle.clr_rows.specs.declared.rows.Row.{Row as OneRow};
 ghost use Rattle.clr_rows.specs.Same.{same};
 ghost use Rattle.clr_differences.specs.Differences.{no_differences, put_each, seen_over, without_neutral, swept_at, swept_cell, cells_in};
-ghost use Rattle.clr_differences.specs.Differences.{is_among, is_neutral_over, HasDifference, HasEntries};
+ghost use Rattle.clr_differences.specs.Differences.{is_among, is_neutral_over, HasDifference, HasDifferences};
 
 use clr_change::{are_same, copy_row};
 use clr_rows::{CellId, Row, RowView};
@@ -37,7 +37,7 @@ impl Model for Differences {
     ghost invariant = { λ d. differences.AreSorted d.rows.entries };
 }
 
-/// Returns whether an entry at a cell has the row of the content below.
+/// Returns whether a difference at a cell has the row of the content below.
 fn is_neutral<V: RowView>(below: &V, cell: CellId, row: &Option<Row>) -> bool
     ensures { result ≡ same (row_at (V.content below.now) cell) row.now }
 {
@@ -45,7 +45,7 @@ fn is_neutral<V: RowView>(below: &V, cell: CellId, row: &Option<Row>) -> bool
 }
 
 impl Differences {
-    /// Returns differences without entries.
+    /// Returns differences at no cell.
     pub fn new(alloc: Global) -> Differences
         ensures { result ≡ no_differences }
     {
@@ -55,14 +55,14 @@ impl Differences {
         }
     }
 
-    /// Returns the entry at a cell, which is a row or no row; or none where there is no entry.
+    /// Returns the difference at a cell, which is a row or no row; or none where there is no difference.
     pub fn get(&self, cell: CellId) -> Option<&Option<Row>>
         ensures { option_copied result ≡ finite.get self.now cell }
     {
         self.rows.get(&cell)
     }
 
-    /// Returns how many entries there are.
+    /// Returns how many differences there are.
     pub fn len(&self) -> usize
         ensures count { result ≡ length (finite.keys self.now) }
         ensures small { result < 2 ^ 63 }
@@ -70,7 +70,7 @@ impl Differences {
         self.rows.len()
     }
 
-    /// Returns the entries, in the order of cells, not copied.
+    /// Returns the differences, in the order of cells, not copied.
     pub fn iter(&self) -> Iter<'_, CellId, Option<Row>>
         ensures rest { result ≡ finite.entries self.now }
         ensures runs { ShowsInOrder (deref_pair {K = Cell} {X = Option OneRow}) }
@@ -78,7 +78,7 @@ impl Differences {
         self.rows.iter()
     }
 
-    /// Takes away each neutral entry, one that has the row of the content below. What is seen
+    /// Takes away each neutral difference, one that has the row of the content below. What is seen
     /// stays. It takes no memory.
     pub fn sweep<V: RowView>(&mut self, below: &V)
         ensures { self.new ≡ without_neutral (V.content below.now) self.old }
@@ -86,7 +86,7 @@ impl Differences {
         self.rows.retain(|cell, row| !is_neutral(below, *cell, row));
     }
 
-    /// Returns whether there is a neutral entry at a cell, one that has the row of the content
+    /// Returns whether there is a neutral difference at a cell, one that has the row of the content
     /// below.
     fn has_neutral<V: RowView>(&self, below: &V, cell: CellId) -> bool
         ensures { result ≡ is_neutral_over (row_at (V.content below.now) cell) (finite.get self.now cell) }
@@ -97,7 +97,7 @@ impl Differences {
         }
     }
 
-    /// Takes the entry at a cell away where it is neutral.
+    /// Takes the difference at a cell away where it is neutral.
     #[tactic(auto, unfolding(crate::specs::Differences::swept_cell))]
     fn sweep_cell<V: RowView>(&mut self, below: &V, cell: CellId)
         ensures { self.new ≡ swept_cell (V.content below.now) self.old cell }
@@ -107,8 +107,8 @@ impl Differences {
         }
     }
 
-    /// Takes away each neutral entry at some cells, one that has the row of the content below. What
-    /// is seen stays. It takes no memory, and looks at no other entry.
+    /// Takes away each neutral difference at some cells, one that has the row of the content below. What
+    /// is seen stays. It takes no memory, and looks at no other difference.
     pub fn sweep_at<V: RowView>(&mut self, below: &V, cells: &[CellId])
         ensures { self.new ≡ swept_at (V.content below.now) cells.now self.old }
     {
@@ -117,8 +117,8 @@ impl Differences {
         }
     }
 
-    /// Puts an entry at a cell. If memory runs out, nothing changes. It never fails where the cell
-    /// has an entry.
+    /// Puts a difference at a cell. If memory runs out, nothing changes. It never fails where the cell
+    /// has a difference.
     pub fn put(&mut self, cell: CellId, row: Option<Row>) -> Result<(), AllocError>
         ensures ok { OnOk result (self.new ≡ finite.insert self.old cell row) }
         ensures err { OnErr result (self.new ≡ self.old) }
@@ -128,7 +128,7 @@ impl Differences {
         Ok(())
     }
 
-    /// Sets an entry that is there to a row, or to none.
+    /// Sets a difference that is there to a row, or to none.
     pub fn set(&mut self, cell: CellId, row: Option<Row>)
         requires { HasDifference self.old cell }
         ensures { self.new ≡ finite.insert self.old cell row }
@@ -137,10 +137,10 @@ impl Differences {
         put.unwrap();
     }
 
-    /// Sets entries that are there to rows, or to none, one after another.
-    #[tactic(auto, using(crate::proofs::DifferenceLemmas::entries_stay), unfolding(crate::specs::Differences::put_each))]
+    /// Sets differences that are there to rows, or to none, one after another.
+    #[tactic(auto, using(crate::proofs::DifferenceLemmas::differences_stay), unfolding(crate::specs::Differences::put_each))]
     pub fn set_each(&mut self, rows: Vec<(CellId, Option<Row>)>)
-        requires { HasEntries self.old (cells_in rows.items) }
+        requires { HasDifferences self.old (cells_in rows.items) }
         ensures { self.new ≡ put_each self.old rows.items }
     {
         for (cell, row) in rows {
@@ -148,16 +148,16 @@ impl Differences {
         }
     }
 
-    /// Takes the entry at a cell away, if there is one.
+    /// Takes the difference at a cell away, if there is one.
     pub fn take(&mut self, cell: CellId)
         ensures { self.new ≡ finite.remove self.old cell }
     {
         self.rows.remove(&cell);
     }
 
-    /// Makes an entry at a cell that has none, with the row of the content below. What is seen
+    /// Stores a difference at a cell that has none, with the row of the content below. What is seen
     /// stays, also where memory runs out.
-    #[tactic(auto, using(crate::proofs::DifferenceLemmas::entry_made, crate::proofs::DifferenceLemmas::put_elsewhere))]
+    #[tactic(auto, using(crate::proofs::DifferenceLemmas::difference_stored, crate::proofs::DifferenceLemmas::put_elsewhere))]
     pub fn pin(&mut self, cell: CellId, row: Option<&Row>) -> Result<(), AllocError>
         ensures seen { (below : Content) → row_at below cell ≡ option_copied row.entry → seen_over below self.new ≡ seen_over below self.old }
         ensures pinned { OnOk result (HasDifference self.new cell) }
@@ -171,7 +171,7 @@ impl Differences {
         Ok(())
     }
 
-    /// Returns the cells of the entries, ascending.
+    /// Returns the cells of the differences, ascending.
     pub fn cells(&self) -> Result<Vec<CellId>, AllocError>
         ensures { IfOk result (λ cells. cells.items ≡ finite.keys self.now) }
     {
@@ -182,7 +182,7 @@ impl Differences {
         Ok(cells)
     }
 
-    /// Returns the entries, in the order of cells.
+    /// Returns the differences, in the order of cells.
     pub fn rows(&self) -> Result<Vec<(CellId, Option<Row>)>, AllocError>
         ensures { IfOk result (λ rows. rows.items ≡ finite.entries self.now) }
     {

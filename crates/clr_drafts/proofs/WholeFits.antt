@@ -23,10 +23,10 @@ use Rattle.clr_office_text.specs.Patches.{put_fault}
 
 module _ (tables : List TableDef) where
   seen_fits : (below : Content) (d : Differences) → FitsSchema tables below → FitsDifferences tables d → FitsSchema tables (seen_over below d)
-  seen_fits below d rows entries = λ cell row e. by cell row (finite.get d cell) (entries cell) (sym (row-seen_over below d cell) ∙ e)
+  seen_fits below d rows differences = λ cell row e. by cell row (finite.get d cell) (differences cell) (sym (row-seen_over below d cell) ∙ e)
     where
-      by : (cell : CellId) (row : Row) (entry : Option (Option Row)) → ((one : Option Row) → entry ≡ Some one → put_fault tables cell one ≡ None)
-          → unwrap_or entry (row_at below cell) ≡ Some row → row_fault tables cell row ≡ None
+      by : (cell : CellId) (row : Row) (difference : Option (Option Row)) → ((one : Option Row) → difference ≡ Some one → put_fault tables cell one ≡ None)
+          → unwrap_or difference (row_at below cell) ≡ Some row → row_fault tables cell row ≡ None
       by cell row None good e = rows cell row e
       by cell row (Some None) good e = absurd (none-some row e)
       by cell row (Some (Some r)) good e = subst (λ (x : Row). row_fault tables cell x ≡ None) (same_Some r row e) (good (Some r) refl)

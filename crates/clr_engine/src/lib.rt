@@ -21,7 +21,7 @@
 //!   [`sound`] tells what holds of its workspaces (`clr_workspaces: Soundness`).
 //! - `find`, `view` and `finder`, without memory: a workspace's position, its current content by
 //!   cell, and the finder of exactly its rows, which there is exactly where it is kept. `stored`:
-//!   after every command there are, of each workspace, exactly as many entries as cells where its
+//!   after every command there are, of each workspace, exactly as many differences as cells where its
 //!   base isn't as its parent's current content and cells that it changed. `delta` shows what is
 //!   stored of a workspace, without a copy: exactly what it differs in, its base from its parent's
 //!   current content, its current content and its savepoints from its base.

@@ -1,5 +1,5 @@
 pub mod CommonSpots
 pub mod CountedLists
-pub mod EntryLemmas
 pub mod NextLemmas
+pub mod PassingCells
 pub mod SharingLemmas

@@ -14,7 +14,7 @@ use Rattle.clr_rules.proofs.Elements.{among}
 use Rattle.clr_finders.specs.declared.row_spots.RuleSpots.{RuleSpots}
 use Rattle.clr_finders.specs.NextCells.{IsBehind, IsNextOf, IsReached, lesser_cell}
 use Rattle.clr_finders.specs.Sharing.{Settled, found_cells, is_met_at}
-use Rattle.clr_finders.proofs.EntryLemmas.{in_passes}
+use Rattle.clr_finders.proofs.PassingCells.{in_passes}
 
 less_not_more : (o : Ordering) → is_lt o ≡ true → is_gt o ≡ false
 less_not_more Less e = refl

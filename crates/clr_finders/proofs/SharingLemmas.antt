@@ -16,7 +16,7 @@ use Rattle.clr_rules.proofs.Elements.{same_rising}
 use Rattle.clr_finders.specs.Sharing.{Settled, IsSettledFor, are_meeting, found_cells, is_met, is_met_at, may_serve_under, row_spots, rule_spots, sharing}
 use Rattle.clr_finders.specs.Sharing.{sharing_servers}
 use Rattle.clr_finders.specs.declared.row_spots.RuleSpots.{RuleSpots}
-use Rattle.clr_finders.proofs.EntryLemmas.{passing_cells, passing_rise, passes_in, in_passes}
+use Rattle.clr_finders.proofs.PassingCells.{passing_cells, passing_rise, passes_in, in_passes}
 
 get_mapped_range : {X : Type 0} (f : ℕ → X) (from n k m : ℕ) → k < n → m ≡ from + k → slice_get (map f (range_with_len from n)) k ≡ Some (f m)
 get_mapped_range f from zero k m less is = absurd (omega (arith, less))

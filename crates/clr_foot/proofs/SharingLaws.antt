@@ -29,7 +29,7 @@ use Rattle.clr_spots.proofs.SharedSpots.{share_back}
 use Rattle.clr_finders.specs.declared.row_spots.RuleSpots.{RuleSpots}
 use Rattle.clr_finders.specs.Sharing.{IsSettledFor, Settled, found_cells, is_met_at, may_serve, may_serve_by, may_serve_under, row_spots, rule_spots, sharing}
 use Rattle.clr_finders.specs.Sharing.{sharing_servers}
-use Rattle.clr_finders.proofs.EntryLemmas.{in_passes, passes_in}
+use Rattle.clr_finders.proofs.PassingCells.{in_passes, passes_in}
 use Rattle.clr_finders.proofs.SharingLemmas.{found_servers, found_sharing}
 use Rattle.clr_needs.specs.Settings.{Setting}
 use Rattle.clr_foot.specs.Touches.{IsNeighbour, has_subjects_in, is_of_table, may_be_subject}

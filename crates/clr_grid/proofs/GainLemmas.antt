@@ -23,17 +23,17 @@ use Rattle.clr_grid.proofs.FilingLemmas.{any_more, number_itself}
 use Rattle.clr_grid.proofs.SetLemmas.{has_with_cells, or_group}
 use Rattle.clr_grid.specs.SpotNumbers.{has_number, spot_number_of}
 
--- ---- a map without entries
+-- ---- a map without numbers
 
-no_entries : (es : List (ℕ × Cells)) → length es ≡ 0 → es ≡ []
-no_entries [] e = refl
-no_entries (x ∷ es) e = absurd (omega (arith, e))
+no_numbers : (es : List (ℕ × Cells)) → length es ≡ 0 → es ≡ []
+no_numbers [] e = refl
+no_numbers (x ∷ es) e = absurd (omega (arith, e))
 
 -- at no number it has a cell
 pub none_there : (m : ByNumber) → length m.entries ≡ 0 → (q : CellId) (xs : List Spot) → list_any (λ x. has_cell (get nat_eq m (spot_number_of x)) q) xs ≡ false
 none_there m e q [] = refl
 none_there m e q (x ∷ xs) = ap (λ es. has_cell (lookup (nat_eq (spot_number_of x)) es) q || list_any (λ y. has_cell (get nat_eq m (spot_number_of y)) q) xs)
-    (no_entries m.entries e) ∙ none_there m e q xs
+    (no_numbers m.entries e) ∙ none_there m e q xs
 
 -- ---- what is gained
 

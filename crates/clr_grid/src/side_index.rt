@@ -45,12 +45,12 @@ fn file_at(
     ensures err { OnErr result ((n : ℕ) → get nat_eq by_spot.new n ≡ get nat_eq by_spot.old n) }
 {
     match by_spot.entry(number)? {
-        Entry::Occupied(entry) => {
-            entry.into_mut().add(cell)?;
+        Entry::Occupied(place) => {
+            place.into_mut().add(cell)?;
             Ok(())
         }
-        Entry::Vacant(entry) => {
-            entry.insert(SpotCells::one(alloc, cell));
+        Entry::Vacant(place) => {
+            place.insert(SpotCells::one(alloc, cell));
             Ok(())
         }
     }

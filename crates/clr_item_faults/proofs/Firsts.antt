@@ -9,7 +9,7 @@ use Rattle.serde_json.specs.Data.{Data}
 use Rattle.serde_json.specs.View.{view, items_view}
 use Rattle.serde_json.specs.declared.value.Value.{Value as Json}
 use Rattle.clr_rows.specs.declared.tables.TableDef.{TableDef}
-use Rattle.clr_deltas.specs.Entries.{stored_delta}
+use Rattle.clr_deltas.specs.NamedDeltas.{stored_delta}
 use Rattle.clr_deltas.specs.Deltas.{Delta}
 use Rattle.clr_deltas.specs.declared.stored_parts.StoredPart.{StoredPart}
 use Rattle.clr_rule_text.specs.declared.faults.TextFault.{TextFault}

@@ -1,4 +1,4 @@
--- Entries noted one after another in a finder: changes where nothing is pending, or rows where none is settled.
+-- What is noted in a finder, one after another: changes where nothing is pending, or rows where none is settled.
 use Rattle.std.proofs.Common.{◌≡◌, ◌∙◌, Bool, true, false, cond, T, List, [], ◌∷◌, Some, None, refl, sym, ap, subst}
 use Rattle.std.specs.FinMap as finite
 use Rattle.std.specs.FinMap.Entries.{find, is_sorted}
@@ -11,12 +11,12 @@ use Rattle.clr_rows.proofs.ChangeLemmas.{find_below, tied_self}
 use Rattle.clr_rows.proofs.RowLemmas.{tied_cells}
 use Rattle.clr_rows.proofs.Tests.{first, second}
 
--- what is noted of an entry
+-- what is noted of a row or a change
 module _ {X V : Type 0} (noted : CellId → X → V) where
   abbrev pub Pending : Type 0
   Pending = finite.FinMap cell_cmp V
 
-  -- nothing is noted where an entry is left, and of the others what is to be noted
+  -- nothing is noted at the cells that are left, and at the others what is to be noted
   pub record AreLeft (all rest : List (CellId × X)) (pending : Pending) : Type 0 where
     pub sorted : T (is_sorted cell_cmp rest)
     pub among : (q : CellId) (x : X) → find cell_cmp q rest ≡ Some x → find cell_cmp q all ≡ Some x

@@ -11,7 +11,7 @@ use Rattle.clr_layer_text.specs.Layers.{can_be_layer, layer_in_text, layer_text}
 -- of some rows at cells, those that stand in a table, each with its key
 abbrev pub rows_among : ℕ → List (CellId × Row) → List LayerRow
 rows_among table [] = []
-rows_among table (e ∷ entries) = if e.0.table == table then record { key = Some e.0.key; row = e.1 } ∷ rows_among table entries else rows_among table entries
+rows_among table (e ∷ es) = if e.0.table == table then record { key = Some e.0.key; row = e.1 } ∷ rows_among table es else rows_among table es
 
 -- the rows of a table, in the order of their keys
 abbrev pub rows_of_table : Content → ℕ → List LayerRow

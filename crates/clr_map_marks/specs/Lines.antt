@@ -85,12 +85,12 @@ with_change v k e = with_rows v k e.before e.after
 abbrev pub no_lines : Kinds
 no_lines = record { full = []; double = []; dashes = []; crosses = [] }
 
-abbrev pub with_entry : View → Kinds → CellId × Change → Kinds
-with_entry v k e = with_change v k e.1
+abbrev pub with_change_at : View → Kinds → CellId × Change → Kinds
+with_change_at v k e = with_change v k e.1
 
 -- of all changes of a design, in the order of cells
 abbrev pub lines_drawn : View → Changes → Kinds
-lines_drawn v set = fold (with_entry v) no_lines (finite.entries set)
+lines_drawn v set = fold (with_change_at v) no_lines (finite.entries set)
 
 -- a path, and the same in another ink over it
 abbrev pub DrawsTwice : List Step → Ink → Ink → List Element → List Element → Type 0

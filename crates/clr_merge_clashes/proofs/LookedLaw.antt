@@ -8,7 +8,7 @@ use Rattle.clr_rows.specs.declared.cells.CellId.{CellId}
 use Rattle.clr_rows.specs.declared.cells.Change.{Change}
 use Rattle.clr_rows.specs.Contents.{Changes}
 use Rattle.clr_rows.proofs.CellOrder.{cell_cmp_total}
-use Rattle.clr_rows.proofs.Entries.{held_where}
+use Rattle.clr_rows.proofs.SortedMaps.{held_where}
 use Rattle.clr_workspaces.specs.Marks.{Name}
 use Rattle.clr_needs.specs.Members.{AreApart, after_at}
 use Rattle.clr_steps.specs.Offices.{Office}

@@ -27,8 +27,8 @@ use Rattle.clr_spots.specs.Spots.{are_many, unless_many}
 use Rattle.clr_spots.proofs.RoleLaws.{subjects_meet}
 use Rattle.clr_spots.proofs.SharedSpots.{Common}
 use Rattle.clr_spot_maps.specs.declared.spot_maps.FiledPart.{FiledPart}
-use Rattle.clr_spot_maps.specs.Filing.{Filed, IsEntered, near}
-use Rattle.clr_spot_maps.proofs.Filed.{entry_filed, entry_stays, found_near}
+use Rattle.clr_spot_maps.specs.Filing.{Filed, IsFiled, near}
+use Rattle.clr_spot_maps.proofs.Filed.{new_part_filed, part_stays, found_near}
 use Rattle.clr_needs.specs.declared.needs.Need.{Need}
 use Rattle.clr_needs.specs.Needs.{ask_of, is_fresh}
 use Rattle.clr_needs.specs.Orders.{need_cmp, version_cmp}
@@ -36,8 +36,8 @@ use Rattle.clr_needs.specs.Settings.{Setting}
 use Rattle.clr_versions.specs.declared.versions.Version.{Version}
 use Rattle.clr_versions.specs.Candidates.{IsNeedAmong, IsNeedOf, IsNeedOfAsk, IsNeedOfPair, are_opposed, may_be_paired}
 use Rattle.clr_versions.specs.Gains.{Gains, IsListedOrPassed, OfSome, Reaches}
-use Rattle.clr_new_pairs.specs.NewPairs.{AreFiledBefore, ArePartsFiled, IsNeedAtPosition, IsNeedOfEntry, IsNeedOfItsPart, IsNeedOfParts, IsNeedOfTwo}
-use Rattle.clr_new_pairs.specs.NewPairs.{IsNeedWithBefore, IsNeedWithPart, entry_at, with_part}
+use Rattle.clr_new_pairs.specs.NewPairs.{AreFiledBefore, ArePartsFiled, IsNeedAtPosition, IsNeedOfFiledPart, IsNeedOfItsPart, IsNeedOfParts, IsNeedOfTwo}
+use Rattle.clr_new_pairs.specs.NewPairs.{IsNeedWithBefore, IsNeedWithPart, filed_part, with_part}
 use Rattle.clr_new_pairs.specs.NewPairs.{HasBreakAt, Passes, UpTo, is_past, is_unserved_under}
 use Rattle.clr_versions.specs.Versions.{FitsSetting, row_and_life, row_of}
 use Rattle.clr_versions.proofs.CandidateLaws.{first_counted, first_within, one_cell, opposed_pair, ordered_pair, pair_back, second_counted, second_within}
@@ -154,21 +154,21 @@ module _ (rules : List Rule) (number : ℕ) where
       (parts_in_order t q s p ask old new is (turned_told rules number None s t (row_and_life s).life (row_and_life t).life fails)
       (turned_less rules number None s t more) g)
 
-  -- ---- entries
+  -- ---- filed parts
 
   module _ (fresh : List Version) (s : Version) (p : ℕ) where
-    pub no_entry : (e : FiledPart) (needs : List Need) → slice_get fresh e.position ≡ None
-        → Gains (IsNeedAmong rules number None s fresh) (IsNeedOfEntry rules number fresh s p e) needs needs
-    no_entry e needs none = gains_none (IsNeedAmong rules number None s fresh) (IsNeedOfEntry rules number fresh s p e) needs (λ n w. by w.0 w.1)
+    pub no_filed_part : (e : FiledPart) (needs : List Need) → slice_get fresh e.position ≡ None
+        → Gains (IsNeedAmong rules number None s fresh) (IsNeedOfFiledPart rules number fresh s p e) needs needs
+    no_filed_part e needs none = gains_none (IsNeedAmong rules number None s fresh) (IsNeedOfFiledPart rules number fresh s p e) needs (λ n w. by w.0 w.1)
       where
         by : (t : Version) → slice_get fresh e.position ≡ Some t → ⊥
         by t at = let clash : None ≡ Some t = sym none ∙ at in cc
 
-    pub its_entry : (e : FiledPart) (t : Version) (old new : List Need) → slice_get fresh e.position ≡ Some t
+    pub its_filed_part : (e : FiledPart) (t : Version) (old new : List Need) → slice_get fresh e.position ≡ Some t
         → Gains (Pair s t) (IsNeedOfParts rules number s p t e.part) old new
-        → Gains (IsNeedAmong rules number None s fresh) (IsNeedOfEntry rules number fresh s p e) old new
-    its_entry e t old new at g = gains_as (Pair s t) (IsNeedOfParts rules number s p t e.part) (IsNeedAmong rules number None s fresh)
-        (IsNeedOfEntry rules number fresh s p e) old new
+        → Gains (IsNeedAmong rules number None s fresh) (IsNeedOfFiledPart rules number fresh s p e) old new
+    its_filed_part e t old new at g = gains_as (Pair s t) (IsNeedOfParts rules number s p t e.part) (IsNeedAmong rules number None s fresh)
+        (IsNeedOfFiledPart rules number fresh s p e) old new
         (λ n w. (t, got_in fresh e.position t at, w)) (λ n w. by n w.0 w.1 w.2) g
       where
         by : (n : Need) (u : Version) → slice_get fresh e.position ≡ Some u → IsNeedOfParts rules number s p u e.part n
@@ -176,11 +176,11 @@ module _ (rules : List Rule) (number : ℕ) where
         by n u there w = let same : u ≡ t = let both : Some u ≡ Some t = sym there ∙ at in cc in subst (λ v. IsNeedOfParts rules number s p v e.part n) same w
 
     -- both cells are past the last one that counts
-    pub entry_past : (last : Option CellId) (e : FiledPart) (t : Version) (needs : List Need) → slice_get fresh e.position ≡ Some t
+    pub filed_part_past : (last : Option CellId) (e : FiledPart) (t : Version) (needs : List Need) → slice_get fresh e.position ≡ Some t
         → (is_past last s.id.cell && is_past last t.id.cell) ≡ true
-        → Gains (IsNeedAmong rules number None s fresh) (UpTo last (IsNeedOfEntry rules number fresh s p e)) needs needs
-    entry_past last e t needs at past =
-        gains_none (IsNeedAmong rules number None s fresh) (UpTo last (IsNeedOfEntry rules number fresh s p e)) needs
+        → Gains (IsNeedAmong rules number None s fresh) (UpTo last (IsNeedOfFiledPart rules number fresh s p e)) needs needs
+    filed_part_past last e t needs at past =
+        gains_none (IsNeedAmong rules number None s fresh) (UpTo last (IsNeedOfFiledPart rules number fresh s p e)) needs
         (λ n w. none n w.0.0 (let both : Some w.0.0 ≡ Some t = sym w.0.1 ∙ at in cc) w.0.2 w.1)
       where
         two : (is_past last s.id.cell ≡ true) × (is_past last t.id.cell ≡ true)
@@ -190,7 +190,7 @@ module _ (rules : List Rule) (number : ℕ) where
         none n u same (inl w) within = false≢true (sym within ∙ ap (λ v. is_past last v.cell) w.0.need.first ∙ two.0)
         none n u same (inr w) within = false≢true (sym within ∙ ap (λ v. is_past last v.cell) w.0.need.first ∙ ap (λ x. is_past last x.id.cell) same ∙ two.1)
 
--- the needs with a part are those of entries that are near its spots
+-- the needs with a part are those of filed parts that are near its spots
 module _ (c : Setting ℕ) (fits : FitsSetting c) (number : ℕ) (fresh : List Version) (k : ℕ) (m : Filed) (before : AreFiledBefore c.rules number fresh k m)
     (s : Version) (p : ℕ) where
   abbrev its_spots : List Spot
@@ -205,19 +205,19 @@ module _ (c : Setting ℕ) (fits : FitsSetting c) (number : ℕ) (fresh : List V
   spots_by : (r q : ℕ) (x : Held) → r ≡ number → subject_spots_under c.rules r q x ≡ subject_spots_under c.rules number q x
   spots_by r q x e = ap (λ j. subject_spots_under c.rules j q x) e
 
-  entry_found : (i : ℕ) (t : Version) (q : ℕ) → i < k → slice_get fresh i ≡ Some t → may_be_paired c.rules number (row_of t) ≡ true → 1 ≤ q
+  filed_part_found : (i : ℕ) (t : Version) (q : ℕ) → i < k → slice_get fresh i ≡ Some t → may_be_paired c.rules number (row_of t) ≡ true → 1 ≤ q
       → q ≤ part_count c.rules number (row_of t)
-      → Common its_spots (subject_spots_under c.rules number q (row_of t)) → Contains (near m (unless_many its_spots) (are_many its_spots)) (entry_at i q)
-  entry_found i t q less at paired low high common =
-      found_near m (entry_at i q) its_spots (subject_spots_under c.rules number q (row_of t)) (before i t less at paired q low high) common
+      → Common its_spots (subject_spots_under c.rules number q (row_of t)) → Contains (near m (unless_many its_spots) (are_many its_spots)) (filed_part i q)
+  filed_part_found i t q less at paired low high common =
+      found_near m (filed_part i q) its_spots (subject_spots_under c.rules number q (row_of t)) (before i t less at paired q low high) common
 
   pub part_found : (list : List Spot) (wide : Bool) (n : Need) → list ≡ unless_many its_spots → wide ≡ are_many its_spots
       → IsNeedWithPart c.rules number fresh k s p n
-      → OfSome (IsNeedOfEntry c.rules number fresh s p) (near m list wide) n
+      → OfSome (IsNeedOfFiledPart c.rules number fresh s p) (near m list wide) n
   part_found list wide n is is_wide (i, t, less, at, w) =
-      subst (λ es. OfSome (IsNeedOfEntry c.rules number fresh s p) es n) (λ j. near m (sym is j) (sym is_wide j)) (by w)
+      subst (λ es. OfSome (IsNeedOfFiledPart c.rules number fresh s p) es n) (λ j. near m (sym is j) (sym is_wide j)) (by w)
     where
-      by : IsNeedOfItsPart c.rules number s p t n → OfSome (IsNeedOfEntry c.rules number fresh s p) (near m (unless_many its_spots) (are_many its_spots)) n
+      by : IsNeedOfItsPart c.rules number s p t n → OfSome (IsNeedOfFiledPart c.rules number fresh s p) (near m (unless_many its_spots) (are_many its_spots)) n
       by (inl (between, part)) =
           let called = they_call c.rules number None s (Some t) n between.need in
           let met = subjects_meet c.rules [] (ask_of n) (row_of s) (row_of t) fit called in
@@ -227,8 +227,8 @@ module _ (c : Setting ℕ) (fits : FitsSetting c) (number : ℕ) (fresh : List V
           (subst (Common (subject_spots_under c.rules n.rule n.first_part (row_of s))) (spots_by n.rule n.second_part (row_of t) between.need.rule) met) in
           let paired = subst (λ j. may_be_paired c.rules j (row_of t) ≡ true) between.need.rule
           (both_paired c.rules (ask_of n) (row_of s) (row_of t) called).1 in (
-            entry_at i n.second_part,
-            entry_found i t n.second_part less at paired (second_counted c.rules number None s t n between.need)
+            filed_part i n.second_part,
+            filed_part_found i t n.second_part less at paired (second_counted c.rules number None s t n between.need)
                 (second_within c.rules number None s t n between.need) common,
             (t, at, inl (between, part, refl)),
           )
@@ -241,8 +241,8 @@ module _ (c : Setting ℕ) (fits : FitsSetting c) (number : ℕ) (fresh : List V
           (subst (Common (subject_spots_under c.rules n.rule n.second_part (row_of s))) (spots_by n.rule n.first_part (row_of t) between.need.rule) met) in
           let paired = subst (λ j. may_be_paired c.rules j (row_of t) ≡ true) between.need.rule
           (both_paired c.rules (ask_of n) (row_of t) (row_of s) called).0 in (
-            entry_at i n.first_part,
-            entry_found i t n.first_part less at paired (first_counted c.rules number None t s n between.need)
+            filed_part i n.first_part,
+            filed_part_found i t n.first_part less at paired (first_counted c.rules number None t s n between.need)
                 (first_within c.rules number None t s n between.need) common,
             (t, at, inr (between, refl, part)),
           )
@@ -253,21 +253,22 @@ module _ (rules : List Rule) (number : ℕ) (fresh : List Version) where
   pub before_stays : (k : ℕ) (m n : Filed) (position part : ℕ) (s : Held) → n ≡ with_part rules number m position part s → AreFiledBefore rules number fresh k m
       → AreFiledBefore rules number fresh k n
   before_stays k m n position part s is before i t less at paired q low high =
-      subst (λ x. IsEntered x (entry_at i q) (subject_spots_under rules number q (row_of t))) (sym is)
-      (entry_stays m (entry_at position part) (entry_at i q) (unless_many (subject_spots_under rules number part s))
+      subst (λ x. IsFiled x (filed_part i q) (subject_spots_under rules number q (row_of t))) (sym is)
+      (part_stays m (filed_part position part) (filed_part i q) (unless_many (subject_spots_under rules number part s))
       (subject_spots_under rules number q (row_of t)) (are_many (subject_spots_under rules number part s)) (before i t less at paired q low high))
 
   pub one_part_filed : (m n : Filed) (position part : ℕ) (s : Version) → n ≡ with_part rules number m position (part + 1) (row_of s)
       → ArePartsFiled rules number m position s part → ArePartsFiled rules number n position s (part + 1)
-  one_part_filed m n position part s is parts q low high = subst (λ x. IsEntered x (entry_at position q) (subject_spots_under rules number q (row_of s)))
+  one_part_filed m n position part s is parts q low high = subst (λ x. IsFiled x (filed_part position q) (subject_spots_under rules number q (row_of s)))
       (sym is)
       (elim (cases_lt part q) [
         | inl above ↦ (let last : part + 1 ≡ q = omega (arith, above, high) in
-            subst (λ j. IsEntered (with_part rules number m position (part + 1) (row_of s)) (entry_at position j)
+            subst (λ j. IsFiled (with_part rules number m position (part + 1) (row_of s)) (filed_part position j)
             (subject_spots_under rules number j (row_of s)))
             last
-            (entry_filed m (entry_at position (part + 1)) (subject_spots_under rules number (part + 1) (row_of s))))
-        | inr most ↦ entry_stays m (entry_at position (part + 1)) (entry_at position q) (unless_many (subject_spots_under rules number (part + 1) (row_of s)))
+            (new_part_filed m (filed_part position (part + 1)) (subject_spots_under rules number (part + 1) (row_of s))))
+        | inr most ↦ part_stays m (filed_part position (part + 1)) (filed_part position q)
+            (unless_many (subject_spots_under rules number (part + 1) (row_of s)))
             (subject_spots_under rules number q (row_of s))
             (are_many (subject_spots_under rules number (part + 1) (row_of s))) (parts q low most)
       ])

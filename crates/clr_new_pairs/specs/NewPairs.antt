@@ -1,4 +1,4 @@
--- Needs of two new versions: of parts, of entries that are filed, and of versions by their positions in a list.
+-- Needs of two new versions: of parts, of parts that are filed, and of versions by their positions in a list.
 use Rattle.std.specs.Prelude.{◌≡◌, ◌<◌, ◌≤◌, ℕ, Bool, true, false, not, ◌⊎◌, List, Option, None, Some, Contains, slice_get}
 use Rattle.std.specs.Option.{is_some}
 use Rattle.std.specs.Ordering.{is_gt}
@@ -12,7 +12,7 @@ use Rattle.clr_rules.specs.Sides.{sides}
 use Rattle.clr_spots.specs.RoleSpots.{subject_spots_under}
 use Rattle.clr_spots.specs.Spots.{are_many, unless_many}
 use Rattle.clr_spot_maps.specs.declared.spot_maps.FiledPart.{FiledPart}
-use Rattle.clr_spot_maps.specs.Filing.{Filed, IsEntered, filed_entry}
+use Rattle.clr_spot_maps.specs.Filing.{Filed, IsFiled, with_filed}
 use Rattle.clr_needs.specs.declared.needs.Need.{Need}
 use Rattle.clr_needs.specs.Needs.{is_fresh}
 use Rattle.clr_needs.specs.Orders.{need_cmp}
@@ -31,9 +31,9 @@ abbrev pub IsNeedOfItsPart : List Rule → ℕ → Version → ℕ → Version �
 IsNeedOfItsPart rules number s p t n =
     (IsNeedBetween rules number None s t n × (n.first_part ≡ p)) ⊎ (IsNeedBetween rules number None t s n × (n.second_part ≡ p))
 
--- with the version and in the part of an entry
-abbrev pub IsNeedOfEntry : List Rule → ℕ → List Version → Version → ℕ → FiledPart → Need → Type 0
-IsNeedOfEntry rules number fresh s p e n = (t : Version) × (slice_get fresh e.position ≡ Some t) × IsNeedOfParts rules number s p t e.part n
+-- a need with the version and in the part that a filed part names
+abbrev pub IsNeedOfFiledPart : List Rule → ℕ → List Version → Version → ℕ → FiledPart → Need → Type 0
+IsNeedOfFiledPart rules number fresh s p e n = (t : Version) × (slice_get fresh e.position ≡ Some t) × IsNeedOfParts rules number s p t e.part n
 
 -- with one of the versions before a position, in this part of the one, or in any
 abbrev pub IsNeedWithPart : List Rule → ℕ → List Version → ℕ → Version → ℕ → Need → Type 0
@@ -52,18 +52,18 @@ IsNeedOfTwo rules number fresh n = (s : Version) × (t : Version) × Contains fr
 
 -- filing -------------------------------------------------------------------------------------
 
-abbrev pub entry_at : ℕ → ℕ → FiledPart
-entry_at position part = record { position = position; part = part }
+abbrev pub filed_part : ℕ → ℕ → FiledPart
+filed_part position part = record { position = position; part = part }
 
 -- what is filed with a part of a row, at its spots as a subject
 abbrev pub with_part : List Rule → ℕ → Filed → ℕ → ℕ → Held → Filed
 with_part rules number m position part s =
-    filed_entry m (entry_at position part) (unless_many (subject_spots_under rules number part s)) (are_many (subject_spots_under rules number part s))
+    with_filed m (filed_part position part) (unless_many (subject_spots_under rules number part s)) (are_many (subject_spots_under rules number part s))
 
 -- the parts up to a number of the version at a position are filed at their spots as subjects
 abbrev pub ArePartsFiled : List Rule → ℕ → Filed → ℕ → Version → ℕ → Type 0
 ArePartsFiled rules number m position s most =
-    (part : ℕ) → 1 ≤ part → part ≤ most → IsEntered m (entry_at position part) (subject_spots_under rules number part (row_of s))
+    (part : ℕ) → 1 ≤ part → part ≤ most → IsFiled m (filed_part position part) (subject_spots_under rules number part (row_of s))
 
 -- all parts of each version before a position are filed, if the version may be one of two subjects
 abbrev pub AreFiledBefore : List Rule → ℕ → List Version → ℕ → Filed → Type 0

@@ -5,7 +5,7 @@
 ghost use Rattle.std.specs.Prelude.{◌≡◌, ◌<◌, ◌+◌, ◌-◌, ◌&&◌, ◌==◌, length, slice_get, IfSome, MatchOption, None, Some, OnOk};
 ghost use Rattle.clr_versions.specs.Candidates.{IsNeedAmong, IsNeedOfPair};
 ghost use Rattle.clr_versions.specs.Gains.{Gains, OfSome, Reaches};
-ghost use Rattle.clr_new_pairs.specs.NewPairs.{AreFiledBefore, IsNeedAtPosition, IsNeedOfEntry, IsNeedOfParts, IsNeedOfTwo};
+ghost use Rattle.clr_new_pairs.specs.NewPairs.{AreFiledBefore, IsNeedAtPosition, IsNeedOfFiledPart, IsNeedOfParts, IsNeedOfTwo};
 ghost use Rattle.clr_new_pairs.specs.NewPairs.{HasBreakAt, IsNeedWithBefore, IsNeedWithPart, Passes, UpTo, is_past, with_part};
 ghost use Rattle.clr_versions.specs.RootVersions.{setting_in};
 ghost use Rattle.clr_needs.specs.Needs.{is_fresh};
@@ -105,16 +105,16 @@ impl<V: RowView> NewPairs<'_, '_, V> {
         Ok(())
     }
 
-    /// Adds the need of a part of a version and the part of an entry, unless its first subject is past
-    /// the last cell that counts.
-    fn add_of_entry(
+    /// Adds the need of a part of a version and a filed part, unless its first subject is past the last
+    /// cell that counts.
+    fn add_of_filed_part(
         &self,
         rule: u16,
         fresh: &[Version],
         one: Version,
         part: u16,
         last: Option<CellId>,
-        entry: FiledPart,
+        filed_part: FiledPart,
         needs: &mut Vec<Need>,
     ) -> Result<(), AllocError>
         requires number { rule < length self.now.versions.book.now }
@@ -122,29 +122,29 @@ impl<V: RowView> NewPairs<'_, '_, V> {
         requires fresh { AreAt (setting_in V.content self.now.versions) fresh.now }
         requires one { IsAt (setting_in V.content self.now.versions) one }
         ensures { OnOk result (Gains (IsNeedAmong self.now.versions.book.now rule None one.entry fresh.now)
-            (UpTo last (IsNeedOfEntry self.now.versions.book.now rule fresh.now one.entry part entry)) needs.old.items needs.new.items) }
+            (UpTo last (IsNeedOfFiledPart self.now.versions.book.now rule fresh.now one.entry part filed_part)) needs.old.items needs.new.items) }
     {
-        match version_at(fresh, entry.position) {
+        match version_at(fresh, filed_part.position) {
             None => Ok(()),
             Some(other) => {
                 if are_past(last, one.id.cell, other.id.cell) {
                     return Ok(());
                 }
-                self.add_of_parts(rule, one, part, other, entry.part, needs)?;
+                self.add_of_parts(rule, one, part, other, filed_part.part, needs)?;
                 Ok(())
             }
         }
     }
 
-    /// Adds the needs of a part of a version and the parts of some entries.
-    fn add_of_entries(
+    /// Adds the needs of a part of a version and some filed parts.
+    fn add_of_filed_parts(
         &self,
         rule: u16,
         fresh: &[Version],
         one: Version,
         part: u16,
         last: Option<CellId>,
-        entries: &[FiledPart],
+        filed_parts: &[FiledPart],
         needs: &mut Vec<Need>,
     ) -> Result<(), AllocError>
         requires number { rule < length self.now.versions.book.now }
@@ -152,10 +152,11 @@ impl<V: RowView> NewPairs<'_, '_, V> {
         requires fresh { AreAt (setting_in V.content self.now.versions) fresh.now }
         requires one { IsAt (setting_in V.content self.now.versions) one }
         ensures { OnOk result (Gains (IsNeedAmong self.now.versions.book.now rule None one.entry fresh.now)
-            (OfSome (λ e. UpTo last (IsNeedOfEntry self.now.versions.book.now rule fresh.now one.entry part e)) entries.now) needs.old.items needs.new.items) }
+            (OfSome (λ e. UpTo last (IsNeedOfFiledPart self.now.versions.book.now rule fresh.now one.entry part e)) filed_parts.now)
+            needs.old.items needs.new.items) }
     {
-        for entry in entries {
-            self.add_of_entry(rule, fresh, one, part, last, *entry, needs)?;
+        for filed in filed_parts {
+            self.add_of_filed_part(rule, fresh, one, part, last, *filed, needs)?;
         }
         Ok(())
     }
@@ -185,7 +186,7 @@ impl<V: RowView> NewPairs<'_, '_, V> {
         let spots = subject_spots(self.alloc, self.versions.book, rule, part, one.as_held())?;
         let mut beside = Vec::new(self.alloc);
         filed.add_near(&spots, &mut beside)?;
-        self.add_of_entries(rule, fresh, one, part, last, beside.as_slice(), needs)?;
+        self.add_of_filed_parts(rule, fresh, one, part, last, beside.as_slice(), needs)?;
         filed.file(self.alloc, FiledPart { position, part }, spots)?;
         Ok(())
     }

@@ -49,7 +49,7 @@ use Rattle.clr_office_json.specs.Values.{number_data, value_data}
 use Rattle.clr_office_json.proofs.ListsRead.{all_mapped, all_pass, each_read, number_read, value_read}
 use Rattle.clr_rows.proofs.SchemaLemmas.{coordinate_within, key_within}
 use Rattle.clr_rows.proofs.Tests.{first, second}
-use Rattle.clr_office_json.proofs.PutAgain.{AreFree, all_entries, all_put, all_put_again, free_after, free_at_first}
+use Rattle.clr_office_json.proofs.PutAgain.{AreFree, all_pairs, all_put, all_put_again, free_after, free_at_first}
 
 -- rows ---------------------------------------------------------------------------------------
 
@@ -160,13 +160,13 @@ module _ (tables : List TableDef) (schema : schema_fault tables ≡ None) where
       (named_rows tables content)
   rows_readable content fits =
       all_mapped (λ e. row_fault tables e.0 e.1 ≡ None) _ (named_row tables) (λ e fit. row_readable e.0 e.1 fit) (finite.entries content)
-      (all_entries (λ q row. row_fault tables q row ≡ None) content fits)
+      (all_pairs (λ q row. row_fault tables q row ≡ None) content fits)
 
   pub cells_readable : (d : Differences) → FitsDifferences tables d → AllByRecursion (λ n. IsReadableOrGone (has_paths tables n.table) n.key n.row)
       (cells_with_names tables d)
   cells_readable d fits =
       all_mapped (λ e. put_fault tables e.0 e.1 ≡ None) _ (named_cell tables) (λ e fit. cell_readable e.0 e.1 fit) (finite.entries d)
-      (all_entries (λ q row. put_fault tables q row ≡ None) d fits)
+      (all_pairs (λ q row. put_fault tables q row ≡ None) d fits)
 
   pub rows_read : (content : Content) → FitsSchema tables content → each (named_row_of tables) (items_of (map named_row_data (named_rows tables content)))
       ≡ Ok (named_rows tables content)
@@ -207,7 +207,7 @@ module _ (tables : List TableDef) (schema : schema_fault tables ≡ None) where
 
   pub rows_again : (content : Content) → FitsSchema tables content → with_named_rows tables finite.empty (named_rows tables content) ≡ Ok content
   rows_again content fits =
-      rows_put finite.empty (finite.entries content) (finite.entries_sorted content) (all_entries (λ q row. row_fault tables q row ≡ None) content fits)
+      rows_put finite.empty (finite.entries content) (finite.entries_sorted content) (all_pairs (λ q row. row_fault tables q row ≡ None) content fits)
       (free_at_first (finite.entries content))
       ∙ ap (λ m. Ok m) (all_put_again content)
 
@@ -229,6 +229,6 @@ module _ (tables : List TableDef) (schema : schema_fault tables ≡ None) where
 
   pub cells_again : (d : Differences) → FitsDifferences tables d → with_named_cells tables finite.empty (cells_with_names tables d) ≡ Ok d
   cells_again d fits =
-      cells_put finite.empty (finite.entries d) (finite.entries_sorted d) (all_entries (λ q row. put_fault tables q row ≡ None) d fits)
+      cells_put finite.empty (finite.entries d) (finite.entries_sorted d) (all_pairs (λ q row. put_fault tables q row ≡ None) d fits)
       (free_at_first (finite.entries d))
       ∙ ap (λ m. Ok m) (all_put_again d)

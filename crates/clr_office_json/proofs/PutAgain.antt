@@ -1,4 +1,4 @@
--- The entries of a map, put one after another into an empty one, make the map again.
+-- The pairs of a map, put one after another into an empty one, make the map again.
 use Rattle.std.proofs.Common.{◌≡◌, Bool, true, false, cond, T, List, [], ◌∷◌, Option, Some, None, refl, sym, ap, ◌∙◌}
 use Rattle.std.specs.FinMap as finite
 use Rattle.std.specs.FinMap.Entries.{find, is_sorted, below_all}
@@ -16,10 +16,10 @@ use Rattle.clr_rows.proofs.Tests.{first, second, less}
 abbrev pub AtCells : Type 0 → Type 0
 AtCells X = finite.FinMap cell_cmp X
 
--- what holds at each cell of a map holds of its entries
-pub all_entries : {X : Type 0} (P : CellId → X → Type 0) (m : AtCells X) → ((q : CellId) (x : X) → finite.get m q ≡ Some x → P q x)
+-- what holds at each cell of a map holds of its pairs
+pub all_pairs : {X : Type 0} (P : CellId → X → Type 0) (m : AtCells X) → ((q : CellId) (x : X) → finite.get m q ≡ Some x → P q x)
     → AllByRecursion (λ e. P e.0 e.1) (finite.entries m)
-all_entries {X} P m one = go (finite.entries m) (finite.entries_sorted m) (λ q x found. one q x (finite.get-entries m q ∙ found))
+all_pairs {X} P m one = go (finite.entries m) (finite.entries_sorted m) (λ q x found. one q x (finite.get-entries m q ∙ found))
   where
     later : (e : CellId × X) (es : List (CellId × X)) (q : CellId) (x : X) (b : Bool) → T (below_all cell_cmp e.0 es) → eq_by_cmp cell_cmp q e.0 ≡ b
         → find cell_cmp q es ≡ Some x → cond b (Some e.1) (find cell_cmp q es) ≡ Some x
@@ -44,7 +44,7 @@ module _ {X : Type 0} where
   or_else None y = y
   or_else (Some x) y = Some x
 
-  -- no entry's cell is taken
+  -- no cell of the list is taken
   abbrev pub AreFree : AtCells X → List (CellId × X) → Type 0
   AreFree m es = AllByRecursion (λ e. finite.get m e.0 ≡ None) es
 

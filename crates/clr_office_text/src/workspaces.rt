@@ -1,7 +1,7 @@
 //! The workspaces of an office text, by their differences.
 
 ghost use Rattle.std.specs.Prelude.{◌≡◌, [], map};
-ghost use Rattle.clr_deltas.specs.Entries.{stored_delta};
+ghost use Rattle.clr_deltas.specs.NamedDeltas.{stored_delta};
 ghost use Rattle.clr_readings.specs.Readings.{Gives};
 ghost use Rattle.clr_rule_text.specs.Fields.{text_lacks_memory};
 ghost use Rattle.clr_rule_text.specs.Seen.{items_seen};

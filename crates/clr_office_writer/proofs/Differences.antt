@@ -13,7 +13,7 @@ use Rattle.clr_rows.specs.Schemas.{FitsSchema, cell_fault}
 use Rattle.clr_rows.proofs.ChangeLemmas.{after_of, find-rows_after, get-changes, taken_over-own}
 use Rattle.clr_rows.proofs.SchemaLemmas.{cell_named, fits_table}
 use Rattle.clr_differences.specs.Differences.{differences_from, seen_over}
-use Rattle.clr_differences.proofs.SweepLemmas.{after_sorted, entries-differences}
+use Rattle.clr_differences.proofs.SweepLemmas.{after_sorted, listed-differences}
 use Rattle.clr_deltas.specs.Differing.{delta_from, mark_from}
 use Rattle.clr_deltas.specs.Deltas.{whole_mark, whole_of}
 use Rattle.clr_workspaces.specs.Marks.{Mark, Saved, ChildMark, mark_at, saved_content}
@@ -75,7 +75,7 @@ delta_fits tables above w from fits = record {
 
 made : (below content : Content) → seen_over below (differences_from below content) ≡ content
 unfolding seen_over
-made below content = ap (over below) (entries-differences below content) ∙ taken_over-own below content
+made below content = ap (over below) (listed-differences below content) ∙ taken_over-own below content
 
 marks_made : (base : Content) (marks : List Mark) → map (whole_mark base) (map (mark_from base) marks) ≡ marks
 marks_made base [] = refl

@@ -8,7 +8,7 @@ use Rattle.std.specs.FinMap as finite
 use Rattle.std.specs.Prelude.{remove}
 use Rattle.clr_rows.specs.Contents.{Content, Changes, no_rows, over, rows_after}
 use Rattle.clr_rows.specs.Names.{is_good_name}
-use Rattle.clr_differences.specs.Differences.{RowEntries, no_differences, seen_over, put_each, cells_in}
+use Rattle.clr_differences.specs.Differences.{RowsByCell, no_differences, seen_over, put_each, cells_in}
 use Rattle.clr_differences.proofs.DifferenceLemmas.{seen_over-none}
 use Rattle.clr_workspaces.specs.Marks.{Name, without_saved, mark_last}
 use Rattle.clr_workspaces.specs.Workspaces.{Workspace, no_workspace, workspace_at, find, parent_of}
@@ -106,7 +106,7 @@ moved_extends ls zero child lt = extends_itself ls
 moved_extends ls (suc q) child lt = extends_marks ls (suc q) _ lt
 
 -- REFRESH: the children hold, and the mark was moved
-pub refreshed_is : (live : Content) (ls gs : List Delta) (at p : ℕ) (rows : RowEntries) (changed : Changes) → IsRooted (wholes live ls) → 0 < at →
+pub refreshed_is : (live : Content) (ls gs : List Delta) (at p : ℕ) (rows : RowsByCell) (changed : Changes) → IsRooted (wholes live ls) → 0 < at →
     at < length ls
     → at < length gs → parent_of (wholes live ls) at ≡ Some p → p < at
     → wholes live gs ≡ change_marks (wholes live ls) p (mark_last (workspace_at (wholes live ls) at).name)

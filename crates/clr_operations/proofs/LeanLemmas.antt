@@ -1,4 +1,4 @@
--- What keeps deltas without neutral entries.
+-- What keeps deltas without neutral differences.
 use Rattle.std.proofs.Common.{◌≡◌, ◌≢◌, ℕ, suc, zero, ◌<◌, ⊎_elim, Bool, true, false, cond, List, [], ◌∷◌, length, Some, None, unwrap_or, refl, ap, sym}
 use Rattle.std.proofs.Common.{subst, ◌∙◌, slice_set, filter, not, nat_lt, ◌++◌, arith, remove, take}
 use Rattle.std.specs.declared.option.Option.{Option}
@@ -11,7 +11,7 @@ use Rattle.clr_rows.specs.declared.rows.Row.{Row}
 use Rattle.clr_rows.specs.Cells.{cell_cmp}
 use Rattle.clr_rows.specs.Contents.{Content, no_rows, row_at, set_cell, over, rows_after}
 use Rattle.clr_rows.proofs.ChangeLemmas.{row-set_cell}
-use Rattle.clr_differences.specs.Differences.{Differences, RowEntries, no_differences, put_each, cells_in, is_among, IsOwnOver}
+use Rattle.clr_differences.specs.Differences.{Differences, RowsByCell, no_differences, put_each, cells_in, is_among, IsOwnOver}
 use Rattle.clr_differences.proofs.DifferenceLemmas.{row-seen_over, not_among, put_elsewhere, put_each_elsewhere, taken_elsewhere}
 use Rattle.clr_workspaces.specs.Marks.{Name, Mark, is_saved, mark_at, saved_content, mark_last, without_mark_of}
 use Rattle.clr_contents.proofs.MarkLemmas.{saved_there}
@@ -95,7 +95,7 @@ lean_still live next ls ms w cells r lt is stay =
     (λ k. ap (λ (ws : List Workspace). parent_of ws k) is) (λ p q apart. ap (λ (ws : List Workspace). row_at (workspace_at ws p).current q) is) stay
 
 -- rows put into one
-over_elsewhere : (rows : RowEntries) (m : Content) (q : CellId) → is_among (cells_in rows) q ≡ false → row_at (over m rows) q ≡ row_at m q
+over_elsewhere : (rows : RowsByCell) (m : Content) (q : CellId) → is_among (cells_in rows) q ≡ false → row_at (over m rows) q ≡ row_at m q
 unfolding over
 over_elsewhere [] m q apart = refl
 over_elsewhere (e ∷ es) m q apart =
@@ -110,10 +110,10 @@ rows_set ws w x cells lt same p q apart = ⊎_elim
     (λ (n : p ≢ w). ap (λ (v : Workspace). row_at v.current q) (get_or-set_other ws w p x no_workspace n))
     (cases_eq p w)
 
-pub rows_put : (ws : List Workspace) (w : ℕ) (rows : RowEntries) → w < length ws → RowsStay w (cells_in rows) ws (put_into ws w rows)
+pub rows_put : (ws : List Workspace) (w : ℕ) (rows : RowsByCell) → w < length ws → RowsStay w (cells_in rows) ws (put_into ws w rows)
 rows_put ws w rows lt = rows_set ws w _ (cells_in rows) lt (λ q apart. over_elsewhere rows (workspace_at ws w).current q apart)
 
-pub lean_put : (live next : Content) (ls ms : List Delta) (w : ℕ) (rows : RowEntries) → IsRooted (wholes live ls) → w < length ls → length ms ≡ length ls
+pub lean_put : (live next : Content) (ls ms : List Delta) (w : ℕ) (rows : RowsByCell) → IsRooted (wholes live ls) → w < length ls → length ms ≡ length ls
     → wholes next ms ≡ put_into (wholes live ls) w rows → StayOwnButNear w (cells_in rows) ls ms
     → IsLean live ls → IsLeanBut w (cells_in rows) next ms
 lean_put live next ls ms w rows r lt long is stay =
@@ -148,7 +148,7 @@ marks_left p row q (m ∷ ms) own = by (p m) (own.0, tt) (marks_left p row q ms 
     by true one rest = (one.0, rest)
     by false one rest = rest
 
-pub but_taken_over : (ls : List Delta) (at : ℕ) (rows : RowEntries) → at < length ls →
+pub but_taken_over : (ls : List Delta) (at : ℕ) (rows : RowsByCell) → at < length ls →
     StayOwnBut at (cells_in rows) ls (delta_changed ls at (rows_taken_over rows))
 but_taken_over ls at rows lt = but_set ls at _ (cells_in rows) lt (λ q apart. record {
   base = put_each_elsewhere rows (delta_at ls at).base q apart;
@@ -438,7 +438,7 @@ but_mark_moved ls (suc p) child lt = but_marks ls (suc p) [] _ lt (λ q apart ba
     marks_more base q (stored_without_mark_of child (delta_at ls (suc p)).marks) (kinds.Child child) (marks_left (λ m. not (is_stored_mark_of child m)) base q
     (delta_at ls (suc p)).marks own) (own_none base q))
 
--- no entries elsewhere
+-- no differences elsewhere
 pub near_none : (at p : ℕ) (cells : List CellId) (ls ms ns : List Delta) → StayOwnButNear at cells ls ms → StayOwnBut p [] ms ns → StayOwnButNear at cells ls ns
 near_none at p cells ls ms ns a b k q other under = own_both q (delta_at ls k) (delta_at ms k) (delta_at ns k) (a k q other under) (b k q (λ same. refl))
 
@@ -450,7 +450,7 @@ near_set at cells ls gs m lt stay one k q other under = ⊎_elim
     (λ (n : k ≢ at). subst (StaysOwnAt q (delta_at ls k)) (sym (get_or-set_other gs at k m no_delta n)) (stay k q other under))
     (cases_eq k at)
 
-pub near_restarted : (at : ℕ) (cells : List CellId) (ls gs : List Delta) (d : Differences) (rows : RowEntries) → at < length gs → StayOwnButNear at cells ls gs
+pub near_restarted : (at : ℕ) (cells : List CellId) (ls gs : List Delta) (d : Differences) (rows : RowsByCell) → at < length gs → StayOwnButNear at cells ls gs
     → d
     ≡ put_each no_differences rows
     → ((q : CellId) → is_among cells q ≡ false → (is_among (cells_in rows) q ≡ false) × (finite.get (delta_at ls at).base q ≡ None))

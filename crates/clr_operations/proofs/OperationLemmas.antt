@@ -11,7 +11,7 @@ use Rattle.clr_rows.specs.declared.cells.CellId.{CellId}
 use Rattle.clr_rows.specs.declared.rows.Row.{Row}
 use Rattle.clr_rows.specs.Contents.{Content, Changes, row_at, set_cell, over, rows_after, taken_over}
 use Rattle.clr_rows.proofs.ChangeLemmas.{taken_over-own}
-use Rattle.clr_differences.specs.Differences.{Differences, RowEntries, no_differences, seen_over, put_each, cells_in, HasDifference, HasEntries}
+use Rattle.clr_differences.specs.Differences.{Differences, RowsByCell, no_differences, seen_over, put_each, cells_in, HasDifference, HasDifferences}
 use Rattle.clr_differences.proofs.DifferenceLemmas.{seen_over-none, seen_over-fresh, seen_over-insert, seen_over-put_each, seen_over-remove, seen_outside}
 use Rattle.clr_differences.proofs.DifferenceLemmas.{over_outside, hidden, set_outside}
 use Rattle.clr_workspaces.specs.Marks.{Name, Mark, Saved, ChildMark, mark_at, is_child_mark, is_saved, is_mark_of, saved_content, is_held, without_saved}
@@ -75,7 +75,7 @@ no_children (ChildMark name ∷ ms) e = absurd (cc)
 cut_marks : (ms : List Mark) (i : ℕ) → is_held ms i ≡ false → take (suc i) ms ≡ take (suc i) ms ++ without_saved (drop (suc i) ms)
 cut_marks ms i e = sym (append-nil (take (suc i) ms)) ∙ ap (λ (ns : List Mark). take (suc i) ms ++ ns) (sym (no_children (drop (suc i) ms) e))
 
--- savepoints with an entry don't see the base change there
+-- savepoints with a difference don't see the base change there
 marks_hidden : (b : Content) (k : CellId) (v : Option Row) (ms : List StoredMark) → EachMarkPins ms k → map (whole_mark (set_cell b k v)) ms
     ≡ map (whole_mark b) ms
 marks_hidden b k v [] held = refl
@@ -162,14 +162,14 @@ module _ (above : Content) (l : Delta) where
         l.kept;
   }
 
-  whole_put : (rows : RowEntries) → whole_of above (record l { current = put_each l.current rows })
+  whole_put : (rows : RowsByCell) → whole_of above (record l { current = put_each l.current rows })
       ≡ (let w = whole_of above l in record w { current = over w.current rows })
   unfolding whole_of
   whole_put rows = ap (λ (c : Content).
       let w : Workspace = record { name = l.name; parent = l.parent; base = b; current = c; marks = map (whole_mark b) l.marks; kept = l.kept } in w)
       (seen_over-put_each b rows l.current)
 
-  whole_taken_over : (rows : RowEntries) → whole_of above
+  whole_taken_over : (rows : RowsByCell) → whole_of above
       (record l { base = put_each l.base rows; current = no_differences; marks = filter is_stored_child l.marks })
       ≡ (let w = whole_of above l in record w { base = over w.base rows; current = over w.base rows; marks = without_saved w.marks })
   unfolding whole_of
@@ -179,7 +179,7 @@ module _ (above : Content) (l : Delta) where
       let current = seen_over-none a ∙ base in
       λ i. record { name = l.name; parent = l.parent; base = base i; current = current i; marks = children_kept a b l.marks i; kept = l.kept }
 
-  whole_restarted : (rows : RowEntries)
+  whole_restarted : (rows : RowsByCell)
       → whole_of above (record l { base = no_differences; current = put_each no_differences rows; marks = filter is_stored_child l.marks })
       ≡ (let w = whole_of above l in record w { base = above; current = over above rows; marks = without_saved w.marks })
   unfolding whole_of
@@ -192,10 +192,10 @@ module _ (above : Content) (l : Delta) where
   whole_base_taken : (k : CellId) → HasDifference l.current k → EachMarkPins l.marks k → whole_of above (record l { base = finite.remove l.base k })
       ≡ (let w = whole_of above l in record w { base = set_cell w.base k (row_at above k) })
   unfolding whole_of
-  whole_base_taken k entry held =
+  whole_base_taken k difference held =
       let v = row_at above k in
       let base = seen_over-remove above l.base k in
-      let current = ap (λ (m : Content). seen_over m l.current) base ∙ hidden b (set_cell b k v) l.current (set_outside l.current b k v entry) in
+      let current = ap (λ (m : Content). seen_over m l.current) base ∙ hidden b (set_cell b k v) l.current (set_outside l.current b k v difference) in
       let marks = ap (λ (m : Content). map (whole_mark m) l.marks) base ∙ marks_hidden b k v l.marks held in
       λ i. record { name = l.name; parent = l.parent; base = base i; current = current i; marks = marks i; kept = l.kept }
 
@@ -203,12 +203,12 @@ module _ (above : Content) (l : Delta) where
       → whole_of above (record l { base = finite.remove l.base k; current = finite.insert l.current k v })
       ≡ (let w = whole_of above l in record w { base = set_cell w.base k (row_at above k); current = set_cell w.current k v })
   unfolding whole_of
-  whole_row_moved k v entry held =
+  whole_row_moved k v difference held =
       let r = row_at above k in
       let base = seen_over-remove above l.base k in
       let current = seen_over-insert (seen_over above (finite.remove l.base k)) l.current k v
       ∙ ap (λ (m : Content). set_cell m k v) (ap (λ (m : Content). seen_over m l.current) base
-      ∙ hidden b (set_cell b k r) l.current (set_outside l.current b k r entry)) in
+      ∙ hidden b (set_cell b k r) l.current (set_outside l.current b k r difference)) in
       let marks = ap (λ (m : Content). map (whole_mark m) l.marks) base ∙ marks_hidden b k r l.marks held in
       λ i. record { name = l.name; parent = l.parent; base = base i; current = current i; marks = marks i; kept = l.kept }
 
@@ -270,13 +270,13 @@ module _ (live : Content) (ls : List Delta) (at : ℕ) (r : IsRooted (wholes liv
       seen_outside (delta_at ls k).base here.base d (held_new k k_some k_lt under) q none
       ∙ sym (ap (λ (c : Content). row_at c q) was ∙ seen_outside (delta_at ls k).base here.base old (held_old k k_some k_lt under) q none))
 
-  pub put : (rows : RowEntries) → ChildrenPin ls (delta_at ls at).name (cells_in rows)
+  pub put : (rows : RowsByCell) → ChildrenPin ls (delta_at ls at).name (cells_in rows)
       → wholes live (delta_changed ls at (λ l. record l { current = put_each l.current rows })) ≡ put_into (wholes live ls) at rows
   put rows held = becomes live ls at r some lt _ (λ w. with_current (over w.current rows) w) refl refl (whole_put above l_at rows)
       (rows_agree ls l_at.name here.current rows held)
 
   -- the base takes rows over that make it the current content
-  pub based : (rows : RowEntries) → over (workspace_at (wholes live ls) at).base rows ≡ (workspace_at (wholes live ls) at).current
+  pub based : (rows : RowsByCell) → over (workspace_at (wholes live ls) at).base rows ≡ (workspace_at (wholes live ls) at).current
       → wholes live (delta_changed ls at (λ l. record l { base = put_each l.base rows; current = no_differences; marks = filter is_stored_child l.marks }))
       ≡ change_at (wholes live ls) at (λ w. record w { base = over w.base rows; marks = without_saved w.marks })
   based rows own =
@@ -289,7 +289,7 @@ module _ (live : Content) (ls : List Delta) (at : ℕ) (r : IsRooted (wholes liv
     over_it = (workspace_at (wholes live ls) p).current
 
     -- a base that starts anew from the parent's content
-    pub restarted : (rows : RowEntries) (base old : Differences)
+    pub restarted : (rows : RowsByCell) (base old : Differences)
         → (workspace_at (wholes live ls) at).base ≡ seen_over (workspace_at (wholes live ls) p).current base → (workspace_at (wholes live ls) at).current
         ≡ seen_over (workspace_at (wholes live ls) at).base old
         → ChildrenPin ls (delta_at ls at).name (cells_in rows) → ChildrenPin ls (delta_at ls at).name (finite.keys base)
@@ -318,41 +318,41 @@ module _ (live : Content) (ls : List Delta) (at : ℕ) (r : IsRooted (wholes liv
 
     pub base_taken : (k : CellId) → HasDifference (delta_at ls at).current k → EachMarkPins (delta_at ls at).marks k
         → wholes live (delta_changed ls at (λ l. record l { base = finite.remove l.base k })) ≡ after_resolve (wholes live ls) at p k keeps.Child
-    base_taken k entry held =
+    base_taken k difference held =
         becomes_still live ls at r some lt _ (λ w. record w { base = set_cell w.base k (row_at over_it k) }) refl refl
-        (whole_base_taken above l_at k entry held ∙ ap (λ (m : Content). let w = whole_of above l_at in record w { base = set_cell w.base k (row_at m k) })
+        (whole_base_taken above l_at k difference held ∙ ap (λ (m : Content). let w = whole_of above l_at in record w { base = set_cell w.base k (row_at m k) })
         (above_parent live ls at p parent up)) refl
 
     pub row_set : (k : CellId) (v : Option Row) → ChildrenPin ls (delta_at ls at).name (k ∷ []) → HasDifference (delta_at ls at).current k
         → EachMarkPins (delta_at ls at).marks k
         → wholes live (delta_changed ls at (λ l. record l { base = finite.remove l.base k; current = finite.insert l.current k v }))
         ≡ row_moved (wholes live ls) at p k v
-    row_set k v children entry held =
+    row_set k v children difference held =
         becomes live ls at r some lt _ (λ w. record w { base = set_cell w.base k (row_at over_it k); current = set_cell w.current k v }) refl refl
-        (whole_row_moved above l_at k v entry held
+        (whole_row_moved above l_at k v difference held
         ∙ ap (λ (m : Content). let w = whole_of above l_at in record w { base = set_cell w.base k (row_at m k); current = set_cell w.current k v })
         (above_parent live ls at p parent up))
         (λ j j_some j_lt under q none. set_outside (delta_at ls j).base here.current k v (children j j_some j_lt under).0 q none)
 
--- entries at the cells of two lists
-entries_both : (d : Differences) (first others : List CellId) → HasEntries d (first ++ others) → HasEntries d first × HasEntries d others
-entries_both d [] others held = (tt, held)
-entries_both d (cell ∷ first) others held = let rest = entries_both d first others held.1 in ((held.0, rest.0), rest.1)
+-- differences at the cells of two lists
+differences_both : (d : Differences) (first others : List CellId) → HasDifferences d (first ++ others) → HasDifferences d first × HasDifferences d others
+differences_both d [] others held = (tt, held)
+differences_both d (cell ∷ first) others held = let rest = differences_both d first others held.1 in ((held.0, rest.0), rest.1)
 
 pub children_both : (ls : List Delta) (name : Name) (first others : List CellId) → ChildrenPin ls name (first ++ others) → ChildrenPin ls name first
     × ChildrenPin ls name others
 children_both ls name first others held = (
-  λ k some lt under. (entries_both (delta_at ls k).base first others (held k some lt under)).0,
+  λ k some lt under. (differences_both (delta_at ls k).base first others (held k some lt under)).0,
   λ k some lt under.
-      (entries_both (delta_at ls k).base first others (held k some lt under)).1,
+      (differences_both (delta_at ls k).base first others (held k some lt under)).1,
 )
 
 -- rows put into LIVE
-top_put : (live : Content) (l : Delta) (rows : RowEntries) → top (over live rows) l ≡ (let w = top live l in record w { current = over w.current rows })
+top_put : (live : Content) (l : Delta) (rows : RowsByCell) → top (over live rows) l ≡ (let w = top live l in record w { current = over w.current rows })
 unfolding top
 top_put live l rows = refl
 
-pub live_put : (live : Content) (ls : List Delta) (rows : RowEntries) → 0 < length ls → ChildrenPin ls (delta_at ls 0).name (cells_in rows)
+pub live_put : (live : Content) (ls : List Delta) (rows : RowsByCell) → 0 < length ls → ChildrenPin ls (delta_at ls 0).name (cells_in rows)
     → wholes (over live rows) ls ≡ put_into (wholes live ls) 0 rows
 live_put live ls rows lt held =
     moved_live live (over live rows) ls lt (rows_agree ls (delta_at ls 0).name live rows held)

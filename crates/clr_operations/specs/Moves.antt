@@ -3,7 +3,7 @@ use Rattle.std.specs.Prelude.{ℕ, zero, suc, List, [], ◌∷◌, ◌++◌, Opt
 use Rattle.clr_rows.specs.declared.cells.CellId.{CellId}
 use Rattle.clr_rows.specs.declared.rows.Row.{Row}
 use Rattle.clr_rows.specs.Contents.{row_at, set_cell, over}
-use Rattle.clr_differences.specs.Differences.{RowEntries}
+use Rattle.clr_differences.specs.Differences.{RowsByCell}
 use Rattle.clr_workspaces.specs.Marks.{Name}
 use Rattle.clr_workspaces.specs.Workspaces.{Workspace, workspace_at}
 use Rattle.clr_deltas.specs.Deltas.{Delta, delta_changed, stored_without_mark_of}
@@ -11,7 +11,7 @@ use Rattle.clr_deltas.specs.declared.stored_marks.StoredMark.TheVariants.{Child}
 use Rattle.clr_workspaces.specs.Operations.{change_at, with_current}
 
 -- rows put over the current content of the workspace at a position
-abbrev pub put_into : List Workspace → ℕ → RowEntries → List Workspace
+abbrev pub put_into : List Workspace → ℕ → RowsByCell → List Workspace
 put_into ws at rows = change_at ws at (λ w. with_current (over w.current rows) w)
 
 -- the base of a workspace takes its parent's row over at a cell, and its current content another row

@@ -5,7 +5,7 @@
 //!   [`ok`, `err`]: the whole workspaces that the deltas mean afterwards are those of the operation
 //!   (`clr_workspaces: Operations`). If memory runs out, they are as they were. `roll_all`
 //!   [`rolled`] and `remove` [`removed`] take no memory.
-//! - [`lean`]: where no entry was neutral, none is afterwards, also where memory ran out.
+//! - [`lean`]: where no difference was neutral, none is afterwards, also where memory ran out.
 #![tactic(auto)]
 
 mod operations;

@@ -32,7 +32,7 @@ use std::alloc::{AllocError, Global};
 // Where a function here runs out of memory, no content, mark or flag has changed: all that can fail
 // comes first, and then contents change without memory.
 
-/// Puts rows into a current content, one after another. Neutral entries that this makes stay.
+/// Puts rows into a current content, one after another. Neutral differences that this makes stay.
 fn put_rows(
     live: &mut Sheet,
     map: &mut WorkspaceMap,
@@ -103,7 +103,7 @@ fn join_cells(alloc: Global, first: &[CellId], others: &[CellId]) -> Result<Vec<
 }
 
 /// Makes the content of a savepoint the current one, given its differences and the cells of these
-/// and of the current content. The later savepoints go. Neutral entries that this makes stay.
+/// and of the current content. The later savepoints go. Neutral differences that this makes stay.
 fn roll_back(
     live: &Sheet,
     map: &mut WorkspaceMap,
@@ -168,7 +168,7 @@ pub fn roll_all(live: &Sheet, map: &mut WorkspaceMap, at: usize)
     map.roll_all(at);
 }
 
-/// Merges a workspace into its parent, by the rows that it changed. Neutral entries that this makes
+/// Merges a workspace into its parent, by the rows that it changed. Neutral differences that this makes
 /// stay.
 fn merge_rows(
     live: &mut Sheet,
@@ -235,7 +235,7 @@ fn move_mark(map: &mut WorkspaceMap, above: usize, child: Words) -> Result<(), A
 }
 
 /// Refreshes a workspace from its parent, by the rows that it changed, given the cells of these and
-/// of the entries of its base and its current content. Neutral entries that this makes stay.
+/// of the differences of its base and its current content. Neutral differences that this makes stay.
 fn refresh_base(
     live: &Sheet,
     map: &mut WorkspaceMap,
@@ -319,7 +319,7 @@ fn keep_own(
     Ok(())
 }
 
-/// Makes an entry at a cell of the base of each child of a workspace that has none there.
+/// Stores a difference at a cell of the base of each child of a workspace that has none there.
 fn pin_cell(live: &Sheet, map: &mut WorkspaceMap, at: usize, cell: CellId) -> Result<(), AllocError>
     requires within { at < length map.old }
     requires rooted { IsRooted (wholes live.now map.old) }
@@ -357,7 +357,7 @@ fn move_row(
     Ok(())
 }
 
-/// Resolves one cell of a workspace. Neutral entries that this makes stay.
+/// Resolves one cell of a workspace. Neutral differences that this makes stay.
 fn resolve_row(
     live: &Sheet,
     map: &mut WorkspaceMap,
@@ -389,7 +389,7 @@ fn resolve_row(
     }
 }
 
-/// Takes away every neutral entry, where each one stands at a cell in the workspace at a position
+/// Takes away every neutral difference, where each one stands at a cell in the workspace at a position
 /// or in a child of it.
 fn sweep_cell(live: &Sheet, map: &mut WorkspaceMap, at: usize, cell: CellId)
     requires within { at < length map.old }

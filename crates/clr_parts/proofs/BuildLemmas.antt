@@ -5,7 +5,7 @@ use Rattle.std.specs.Option.{option_or}
 use Rattle.std.proofs.Math.Seq.{take-length}
 use Rattle.clr_rows.specs.Contents.{Content, no_rows, over, rows_after, changes}
 use Rattle.clr_rows.proofs.ChangeLemmas.{taken_over-own}
-use Rattle.clr_differences.specs.Differences.{Differences, RowEntries, no_differences, seen_over, put_each}
+use Rattle.clr_differences.specs.Differences.{Differences, RowsByCell, no_differences, seen_over, put_each}
 use Rattle.clr_differences.proofs.DifferenceLemmas.{seen_over-fresh}
 use Rattle.clr_deltas.specs.Deltas.{Delta, find_delta, whole_of, whole_mark, wholes, content_by_name}
 use Rattle.clr_workspaces.specs.Workspaces.{Workspace, live_workspace, workspace_at, find}
@@ -20,7 +20,7 @@ use Rattle.clr_parts.specs.declared.parts.PartFault.{PartFault}
 use Rattle.clr_parts.specs.declared.parts.PartFault.TheVariants as fault
 use Rattle.clr_parts.proofs.FaultLemmas.{below_found, sound_spaces}
 
-pub all_differences : (below above : Content) (rows : RowEntries) (d : Differences) → rows ≡ rows_after (changes below above) → d ≡ put_each no_differences rows
+pub all_differences : (below above : Content) (rows : RowsByCell) (d : Differences) → rows ≡ rows_after (changes below above) → d ≡ put_each no_differences rows
     → seen_over below d ≡ above
 all_differences below above rows d rows_is is = ap (seen_over below) is ∙ seen_over-fresh below rows ∙ ap (over below) rows_is ∙ taken_over-own below above
 

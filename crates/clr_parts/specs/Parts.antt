@@ -6,7 +6,7 @@ use Rattle.std.specs.Option.{option_or, option_map}
 use Rattle.std.specs.Str.{bytes_eq}
 use Rattle.clr_rows.specs.Contents.{Content, no_rows}
 use Rattle.clr_rows.specs.Names.{is_good_name}
-use Rattle.clr_deltas.specs.Entries.{stored_delta}
+use Rattle.clr_deltas.specs.NamedDeltas.{stored_delta}
 use Rattle.clr_deltas.specs.Deltas.{whole_mark, workspaces_over}
 use Rattle.clr_workspaces.specs.Marks.{Name, Mark, Saved, ChildMark, mark_count, saved_names}
 use Rattle.clr_workspaces.specs.Workspaces.{Workspace, workspace_at, find, live_workspace, depth_of}

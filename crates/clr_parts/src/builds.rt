@@ -3,7 +3,7 @@
 ghost use Rattle.std.specs.Prelude.{◌≡◌, ◌<◌, ◌++◌, [], ◌∷◌, suc, None, Some, map, take, length, OnOk, IfOk, IfErr};
 ghost use Rattle.clr_rows.specs.Names.{live_name};
 ghost use Rattle.clr_differences.specs.Differences.{seen_over};
-ghost use Rattle.clr_deltas.specs.Entries.{delta_of};
+ghost use Rattle.clr_deltas.specs.NamedDeltas.{delta_of};
 ghost use Rattle.clr_deltas.specs.Deltas.{leaf, whole_mark, whole_of, wholes};
 ghost use Rattle.clr_workspaces.specs.Workspaces.{workspace_at, find};
 ghost use Rattle.clr_parts.specs.Parts.{mark_of, marks_of, workspace_of, list_of, part_name_fault_at, first_part_name_fault};
@@ -62,8 +62,8 @@ fn stored_marks(
 }
 
 /// Returns what is stored of a part whose parent has this content.
-fn entry_of(alloc: Global, above: &Sheet, part: &Part) -> Result<(String, Delta), AllocError>
-    ensures { IfOk result (λ entry. whole_of above.now (delta_of entry) ≡ workspace_of part.now) }
+fn named_delta_of(alloc: Global, above: &Sheet, part: &Part) -> Result<(String, Delta), AllocError>
+    ensures { IfOk result (λ named. whole_of above.now (delta_of named) ≡ workspace_of part.now) }
 {
     let base = differences_between(alloc, above, &part.base)?;
     let current = differences_between(alloc, &part.base, &part.current)?;
@@ -93,7 +93,7 @@ fn content_of<'a>(live: &'a Sheet, parts: &'a [Part], at: usize) -> &'a Sheet
 }
 
 /// Puts a part at the end, under the workspace at a position, which has this content.
-fn push_entry(
+fn push_under(
     live: &Sheet,
     map: &mut WorkspaceMap,
     above: &Sheet,
@@ -108,7 +108,7 @@ fn push_entry(
 {
     let _live = live;
     let _at = at;
-    let (name, delta) = entry_of(map.allocator(), above, part)?;
+    let (name, delta) = named_delta_of(map.allocator(), above, part)?;
     map.push(name, delta)?;
     Ok(())
 }
@@ -134,7 +134,7 @@ fn push_part(
         Err(fault) => return Err(fault),
     };
     let content = content_of(live, parts, above);
-    match push_entry(live, map, content, above, part) {
+    match push_under(live, map, content, above, part) {
         Ok(()) => Ok(()),
         Err(_) => Err(PartFault::OutOfMemory),
     }

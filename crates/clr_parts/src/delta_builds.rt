@@ -1,7 +1,7 @@
 //! Building the map of a tree from parts by their differences.
 
 ghost use Rattle.std.specs.Prelude.{◌≡◌, ◌++◌, [], ◌∷◌, None, OnOk, IfOk, IfErr};
-ghost use Rattle.clr_deltas.specs.Entries.{stored_delta};
+ghost use Rattle.clr_deltas.specs.NamedDeltas.{stored_delta};
 ghost use Rattle.clr_deltas.specs.Deltas.{above_in, whole_of, wholes};
 ghost use Rattle.clr_workspaces.specs.Workspaces.{live_workspace};
 ghost use Rattle.clr_parts.specs.Parts.{spaces_of, place_fault, first_part_name_fault, IsPartFault, IsFirstPartFault};

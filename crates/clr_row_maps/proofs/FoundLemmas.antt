@@ -14,7 +14,7 @@ use Rattle.clr_rules.proofs.Elements.{Among, kept_among, among_kept, same_rising
 use Rattle.clr_row_maps.specs.CellLists.{is_one_of}
 use Rattle.clr_finders.specs.Sharing.{Settled, is_met_at, found_cells}
 use Rattle.clr_finders.specs.declared.row_spots.RuleSpots.{RuleSpots}
-use Rattle.clr_finders.proofs.EntryLemmas.{one_among, passing_rise, passes_in, in_passes}
+use Rattle.clr_finders.proofs.PassingCells.{one_among, passing_rise, passes_in, in_passes}
 
 -- ---- a filter in a loop
 pub kept_more : {X : Type 0} (p : X → Bool) (xs : List X) (k : ℕ) (b : Bool) (old new : List X) (d : X) → k < length xs → b ≡ p (get_or xs k d) → new ≡ old

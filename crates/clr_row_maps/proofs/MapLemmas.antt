@@ -1,4 +1,4 @@
--- The finite maps that the entries of trees make, before and after one entry is changed.
+-- The finite maps that lists by cell make, before and after what a cell has is changed.
 use Rattle.std.proofs.Common.{◌≡◌, ◌⊎◌, inl, inr, ℕ, ◌<◌, ◌-◌, arith, ap₂, Bool, true, false, cond, List, [], ◌∷◌, Option, Some, None, is_some, refl, ap, sym}
 use Rattle.std.proofs.Common.{subst, ◌∙◌}
 use Rattle.clr_rows.proofs.ChangeLemmas.{tied_self}
@@ -42,7 +42,7 @@ get_settled (e ∷ es) q =
     get_set_at (settled_of es) e.0 e.1 q ∙ ap (cond (eq_by_cmp cell_cmp q e.0) e.1) (get_settled es q)
     ∙ sym (flat_cond (is_at (cell_cmp q) e.0) e.1 (at_cell es q))
 
--- entries that have the same rows
+-- lists that have the same rows
 pub same_settled : (es fs : List (CellId × RowOrNone)) → ((q : CellId) → option_flatten (at_cell fs q) ≡ option_flatten (at_cell es q)) →
     settled_of fs ≡ settled_of es
 same_settled es fs h = finite.same_map cell_cmp_total cell_cmp_exact _ _ (λ q. get_settled fs q ∙ h q ∙ sym (get_settled es q))
@@ -51,7 +51,7 @@ flat_chosen : (b : Bool) (w o : Option RowOrNone) → option_flatten (cond b w o
 flat_chosen true w o = refl
 flat_chosen false w o = refl
 
--- entries that differ at one cell
+-- lists that differ at one cell
 pub one_settled : (es fs : List (CellId × RowOrNone)) (k : CellId) (w : Option RowOrNone) →
     ((q : CellId) → at_cell fs q ≡ cond (is_at (cell_cmp k) q) w (at_cell es q)) → settled_of fs ≡ set_row_at (settled_of es) k (option_flatten w)
 one_settled es fs k w h = finite.same_map cell_cmp_total cell_cmp_exact _ _ (λ q.

@@ -30,7 +30,7 @@ pub to_bound : (after : Option CellId) (q : CellId) → IsBehind after q → IsF
 to_bound None q h = tt
 to_bound (Some p) q h = h
 
--- ---- the first entry of a range
+-- ---- the first cell of a range
 
 abbrev pub cell_at : Option (CellId × RowOrNone) → Option CellId
 cell_at None = None
@@ -39,20 +39,20 @@ cell_at (Some e) = Some e.0
 some_not_none : {X : Type 0} (o : Option X) → is_some o ≡ true → o ≡ None → ⊥
 some_not_none o some none = true≢false (sym some ∙ ap is_some none)
 
-first_entry : (after : Option CellId) (m : BTreeMap CellId RowOrNone) (r : List (CellId × RowOrNone)) → IsRangeOf cell_cmp (bound_behind after) Unbounded m r
+first_cell : (after : Option CellId) (m : BTreeMap CellId RowOrNone) (r : List (CellId × RowOrNone)) → IsRangeOf cell_cmp (bound_behind after) Unbounded m r
     → IsNextOf (λ q. is_some (finite.get (settled_of m.entries) q) ≡ true) after (cell_at (slice_get r 0))
-first_entry after m [] w = record {
+first_cell after m [] w = record {
   behind = tt;
   reached = λ q some behind. some_not_none (get cell_cmp m q) (some_there m.entries q some)
       (w.5 refl q (to_bound after q behind, tt));
 }
-first_entry after m (e ∷ r) w = record {
+first_cell after m (e ∷ r) w = record {
   behind = from_bound after e.0 w.1.0.0;
   reached = λ q some behind. w.2 q (to_bound after q behind, tt)
       (some_there m.entries q some);
 }
 
-pub first_entry_at : (after : Option CellId) (lo : Bound CellId) (m : BTreeMap CellId RowOrNone) (r : List (CellId × RowOrNone)) → lo ≡ bound_behind after
+pub first_cell_at : (after : Option CellId) (lo : Bound CellId) (m : BTreeMap CellId RowOrNone) (r : List (CellId × RowOrNone)) → lo ≡ bound_behind after
     → IsRangeOf cell_cmp lo Unbounded m r
     → IsNextOf (λ q. is_some (finite.get (settled_of m.entries) q) ≡ true) after (cell_at (slice_get r 0))
-first_entry_at after lo m r is w = first_entry after m r (subst (λ b. IsRangeOf cell_cmp b Unbounded m r) is w)
+first_cell_at after lo m r is w = first_cell after m r (subst (λ b. IsRangeOf cell_cmp b Unbounded m r) is w)

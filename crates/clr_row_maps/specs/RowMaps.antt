@@ -52,7 +52,7 @@ with_settled rows cell = record {
 abbrev pub without_pending : FiledRows → CellId → FiledRows
 without_pending rows cell = record { settled = rows.settled; pending = finite.remove rows.pending cell }
 
--- entries without a row are room for one
+-- cells without a row are room for one
 abbrev pub settled_of : List (CellId × RowOrNone) → Settled
 settled_of [] = finite.empty
 settled_of (e ∷ es) = set_row_at (settled_of es) e.0 e.1

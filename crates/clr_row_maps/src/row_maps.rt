@@ -22,7 +22,7 @@ use std::mem;
 use std::ops::Bound;
 
 /// The spots of rows by cell, settled ones and pending changes, all under the rules of one book.
-/// An entry among the settled ones that has no row is room for one that is pending.
+/// A cell among the settled ones that has no row is room for one that is pending.
 #[derive(Drop)]
 pub struct RowMap {
     settled: BTreeMap<CellId, Option<RowSpots>>,
@@ -42,10 +42,10 @@ impl Model for RowMap {
 }
 
 /// Returns the row that is there, or none.
-fn row_in(entry: Option<&Option<RowSpots>>) -> Option<&RowSpots>
-    ensures { option_copied result ≡ option_flatten (option_copied entry.entry) }
+fn row_in(filed: Option<&Option<RowSpots>>) -> Option<&RowSpots>
+    ensures { option_copied result ≡ option_flatten (option_copied filed.entry) }
 {
-    match entry {
+    match filed {
         Some(Some(row)) => Some(row),
         _ => None,
     }

@@ -148,7 +148,7 @@ module _ {X : Type 0} where
   all_from_below cell [] below = tt
   all_from_below cell (e ∷ es) below = (less _ (first _ _ below), all_from_below cell es (second _ _ below))
 
-  -- the cells of entries in order ascend
+  -- the cells of pairs in order ascend
   pub ordered_from_sorted : (es : List (CellId × X)) → T (is_sorted cell_cmp es) → IsStrictlySortedBy cell_cmp (map (λ e. e.0) es)
   unfolding IsStrictlySortedBy
   ordered_from_sorted [] sorted = tt
@@ -170,7 +170,7 @@ module _ {X : Type 0} where
         ∙ elim (eq_by_cmp cell_cmp q e.0) as (λ b. cond b (Some (f e.1)) (option_map f (find cell_cmp q es))
         ≡ option_map f (cond b (Some e.1) (find cell_cmp q es))) [ true ↦ refl | false ↦ refl ]
 
--- entries in order are apart
+-- pairs in order are apart
 pub apart_from_sorted : (es : List (CellId × Option Row)) → T (is_sorted cell_cmp es) → AreApart es
 apart_from_sorted [] sorted = tt
 apart_from_sorted (e ∷ es) sorted = (find_below e.0 es (first _ _ sorted), apart_from_sorted es (second _ _ sorted))

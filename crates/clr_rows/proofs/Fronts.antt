@@ -1,4 +1,4 @@
--- The first entries of a finite map, for loops over the entries in order.
+-- The first pairs of a finite map, for loops over its pairs in order.
 use Rattle.std.proofs.Common.{◌≡◌, ℕ, zero, suc, ◌+◌, cond, T, List, [], ◌∷◌, ◌++◌, take, length, Some, None, refl, sym, ap, subst, ◌∙◌, arith}
 use Rattle.std.specs.FinMap.{FinMap, IsAntisymmetric, entries, entries_sorted, empty, insert, from_entries, from_entries_push, get, get-entries}
 use Rattle.std.specs.FinMap.{get-from_entries, same_map, find, is_sorted}
@@ -11,7 +11,7 @@ use Rattle.std.specs.List.{slice_get}
 use Rattle.clr_rows.proofs.Tests.{first, second, less}
 
 module _ {K X : Type 0} {R : K → K → Ordering} where
-  -- the map of the first entries
+  -- the map of the first pairs
   abbrev pub front : FinMap R X → ℕ → FinMap R X
   front m n = from_entries (take n (entries m))
 
@@ -62,7 +62,7 @@ module _ {K X : Type 0} {R : K → K → Ordering} (o : IsTotalOrder R) (exact :
       ap (λ r. cond (is_eq r) (Some f.1) (find R e.0 es)) (o.antisymm e.0 f.0 ∙ ap ordering_reverse (below_at R f.0 es n e at (first _ _ sorted)))
       ∙ found_at es n e (second _ _ sorted) at
 
-  -- what a map has at the key of one of its entries
+  -- what a map has at the key of one of its pairs
   pub get_at : (m : FinMap R X) (n : ℕ) (e : K × X) → slice_get (entries m) n ≡ Some e → get m e.0 ≡ Some e.1
   get_at m n e at = get-entries m e.0 ∙ found_at (entries m) n e (entries_sorted m) at
 

@@ -1,12 +1,12 @@
 pub mod BeginningLaws
 pub mod CellOrder
 pub mod ChangeLemmas
-pub mod Entries
 pub mod FitLemmas
 pub mod Fronts
 pub mod PartLemmas
 pub mod RowLemmas
 pub mod SameLemmas
 pub mod SchemaLemmas
+pub mod SortedMaps
 pub mod Tests
 pub mod WriteLemmas

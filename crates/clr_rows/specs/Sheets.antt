@@ -1,4 +1,4 @@
--- What a sheet's entries mean.
+-- What the rows that a sheet lists by cell mean.
 use Rattle.std.specs.Prelude.{T, List, [], Option, Some, None, map, filter, not, is_some}
 use Rattle.std.specs.FinMap as finite
 use Rattle.clr_rows.specs.declared.cells.CellId.{CellId}
@@ -9,12 +9,12 @@ use Rattle.clr_rows.specs.Contents.{Content, row_at}
 use Rattle.clr_rows.specs.Ranges.{AreWithin}
 
 abbrev pub content_of : List (CellId × Row) → Content
-content_of entries = finite.from_sorted entries
+content_of rows = finite.from_sorted rows
 
--- entries in the order of cells, each with a row whose numbers are within 64 bits
-pub record IsSoundSheet (entries : List (CellId × Row)) : Type 0 where
-  pub ascending : T (finite.is_sorted cell_cmp entries)
-  pub within : AreWithin (content_of entries)
+-- rows in the order of their cells, each with numbers within 64 bits
+pub record IsSoundSheet (rows : List (CellId × Row)) : Type 0 where
+  pub ascending : T (finite.is_sorted cell_cmp rows)
+  pub within : AreWithin (content_of rows)
 
 -- the row that stands at a cell until the cell gets its own
 abbrev pub placeholder : Row
@@ -30,7 +30,7 @@ with_placeholders cells = map (λ cell. (cell, Some placeholder)) cells
 
 -- rows at their cells, each as one that stands
 abbrev pub with_rows : List (CellId × Row) → List (CellId × Option Row)
-with_rows entries = map (λ e. (e.0, Some e.1)) entries
+with_rows rows = map (λ e. (e.0, Some e.1)) rows
 
 -- the cells of a list
 abbrev pub named_cells : List (CellId × Option Row) → List CellId

@@ -71,16 +71,16 @@ listed_stands content s h = get-entries content s.0 ∙ found_back s (entries co
 abbrev pub held_cmp : Held → Held → Ordering
 held_cmp s t = cell_cmp s.0 t.0
 
-rising_entries : (es : List Held) → T (is_sorted cell_cmp es) → IsStrictlySortedBy held_cmp es
+rising_rows : (es : List Held) → T (is_sorted cell_cmp es) → IsStrictlySortedBy held_cmp es
 unfolding IsStrictlySortedBy
-rising_entries [] b = tt
-rising_entries (e ∷ es) b =
+rising_rows [] b = tt
+rising_rows (e ∷ es) b =
     let below = first (below_all cell_cmp e.0 es) (is_sorted cell_cmp es) b in
     let later = second (below_all cell_cmp e.0 es) (is_sorted cell_cmp es) b in
-    (all_by (λ s. cell_cmp e.0 s.0 ≡ Less) es (λ s h. below_among e.0 s es below h), rising_entries es later)
+    (all_by (λ s. cell_cmp e.0 s.0 ≡ Less) es (λ s h. below_among e.0 s es below h), rising_rows es later)
 
 pub rows_rise : (content : Content) → IsStrictlySortedBy held_cmp (rows_in content)
-rows_rise content = rising_entries (entries content) (entries_sorted content)
+rows_rise content = rising_rows (entries content) (entries_sorted content)
 
 -- the choices of subjects ---------------------------------------------------------------------
 pub lt_is : (r : Ordering) → is_lt r ≡ true → r ≡ Less

@@ -5,7 +5,7 @@ ghost use Rattle.std.specs.HashMap.{get};
 ghost use Rattle.clr_spots.specs.SpotOrder.{same_spot};
 ghost use Rattle.clr_spots.specs.declared.spots.Spot.{Spot as OneSpot};
 ghost use Rattle.clr_rows.specs.Beginnings.{IsBegun};
-ghost use Rattle.clr_spot_maps.specs.Filing.{no_entries, entries_at, filed_at, filed_entry, near, HasMore, IsPartlyFiled};
+ghost use Rattle.clr_spot_maps.specs.Filing.{nothing_filed, parts_at, filed_at, with_filed, near, HasMore, IsPartlyFiled};
 
 use clr_spots::{Spot, Spots};
 use std::alloc::{AllocError, Global};
@@ -20,13 +20,13 @@ pub struct FiledPart {
     pub part: u16,
 }
 
-/// The entries of one spot, in the order in which they are filed.
+/// The parts of one spot, in the order in which they are filed.
 #[derive(Drop)]
-struct EntryList {
+struct PartList {
     list: Vec<FiledPart>,
 }
 
-impl Model for EntryList {
+impl Model for PartList {
     ghost use Rattle.std.specs.Prelude.{List};
     ghost use Rattle.clr_spot_maps.specs.declared.spot_maps.FiledPart.{FiledPart as OnePart};
 
@@ -35,20 +35,20 @@ impl Model for EntryList {
     ghost view = { λ a. a.list.items };
 }
 
-impl EntryList {
-    fn of_one(alloc: Global, entry: FiledPart) -> Result<EntryList, AllocError>
-        ensures { IfOk result (λ entries. entries ≡ entry ∷ []) }
+impl PartList {
+    fn of_one(alloc: Global, filed_part: FiledPart) -> Result<PartList, AllocError>
+        ensures { IfOk result (λ parts. parts ≡ filed_part ∷ []) }
     {
         let mut list = Vec::with_capacity(alloc, 1)?;
-        list.push(entry)?;
-        Ok(EntryList { list })
+        list.push(filed_part)?;
+        Ok(PartList { list })
     }
 
-    fn push(&mut self, entry: FiledPart) -> Result<(), AllocError>
-        ensures ok { OnOk result (self.new ≡ self.old ++ entry ∷ []) }
+    fn push(&mut self, filed_part: FiledPart) -> Result<(), AllocError>
+        ensures ok { OnOk result (self.new ≡ self.old ++ filed_part ∷ []) }
         ensures err { OnErr result (self.new ≡ self.old) }
     {
-        self.list.push(entry)?;
+        self.list.push(filed_part)?;
         Ok(())
     }
 
@@ -59,21 +59,21 @@ impl EntryList {
     }
 }
 
-/// Files an entry at a spot, behind those that the spot has.
+/// Files a part at a spot, behind those that the spot has.
 fn put_at(
-    by_spot: &mut HashMap<Spot, EntryList>,
+    by_spot: &mut HashMap<Spot, PartList>,
     alloc: Global,
     spot: Spot,
-    entry: FiledPart,
+    filed_part: FiledPart,
 ) -> Result<(), AllocError>
-    ensures ok { OnOk result (HasMore spot entry (get same_spot by_spot.old) (get same_spot by_spot.new)) }
+    ensures ok { OnOk result (HasMore spot filed_part (get same_spot by_spot.old) (get same_spot by_spot.new)) }
     ensures err { OnErr result ((x : OneSpot) → get same_spot by_spot.new x ≡ get same_spot by_spot.old x) }
 {
     match by_spot.entry(spot)? {
-        Entry::Occupied(place) => place.into_mut().push(entry),
-        Entry::Vacant(place) => match EntryList::of_one(alloc, entry) {
-            Ok(entries) => {
-                place.insert(entries);
+        Entry::Occupied(place) => place.into_mut().push(filed_part),
+        Entry::Vacant(place) => match PartList::of_one(alloc, filed_part) {
+            Ok(parts) => {
+                place.insert(parts);
                 Ok(())
             }
             Err(error) => {
@@ -84,10 +84,10 @@ fn put_at(
     }
 }
 
-/// Entries by the spots of their rows in one role, those of wide rows, and all.
+/// Parts by the spots of their rows in one role, those of wide rows, and all.
 #[derive(Drop)]
 pub struct SpotMap {
-    by_spot: HashMap<Spot, EntryList>,
+    by_spot: HashMap<Spot, PartList>,
     wide: Vec<FiledPart>,
     all: Vec<FiledPart>,
 }
@@ -104,9 +104,9 @@ impl Model for SpotMap {
 }
 
 impl SpotMap {
-    /// Returns a map without entries. It takes no memory.
+    /// Returns a map in which nothing is filed. It takes no memory.
     pub fn new(alloc: Global) -> SpotMap
-        ensures { result ≡ no_entries }
+        ensures { result ≡ nothing_filed }
     {
         SpotMap {
             by_spot: HashMap::new(alloc),
@@ -115,58 +115,68 @@ impl SpotMap {
         }
     }
 
-    fn file_at(&mut self, alloc: Global, spot: Spot, entry: FiledPart) -> Result<(), AllocError>
-        ensures ok { OnOk result (self.new ≡ record self.old { by_spot = filed_at self.old.by_spot spot entry }) }
+    fn file_at(
+        &mut self,
+        alloc: Global,
+        spot: Spot,
+        filed_part: FiledPart,
+    ) -> Result<(), AllocError>
+        ensures ok { OnOk result (self.new ≡ record self.old { by_spot = filed_at self.old.by_spot spot filed_part }) }
         ensures err { OnErr result (self.new ≡ self.old) }
     {
-        put_at(&mut self.by_spot, alloc, spot, entry)?;
+        put_at(&mut self.by_spot, alloc, spot, filed_part)?;
         Ok(())
     }
 
-    /// Files an entry at the spots of its row, or as that of a wide one. If memory runs out, all
-    /// that was filed stays, and the entry may be filed at some of them.
-    pub fn file(&mut self, alloc: Global, entry: FiledPart, spots: Spots) -> Result<(), AllocError>
-        ensures ok { OnOk result (self.new ≡ filed_entry self.old entry spots.list spots.wide) }
-        ensures err { OnErr result (IsPartlyFiled self.old entry spots.list spots.wide self.new) }
+    /// Files a part at the spots of its row, or as that of a wide one. If memory runs out, all that
+    /// was filed stays, and the part may be filed at some of them.
+    pub fn file(
+        &mut self,
+        alloc: Global,
+        filed_part: FiledPart,
+        spots: Spots,
+    ) -> Result<(), AllocError>
+        ensures ok { OnOk result (self.new ≡ with_filed self.old filed_part spots.list spots.wide) }
+        ensures err { OnErr result (IsPartlyFiled self.old filed_part spots.list spots.wide self.new) }
     {
-        self.all.push(entry)?;
+        self.all.push(filed_part)?;
         if spots.wide {
-            self.wide.push(entry)?;
+            self.wide.push(filed_part)?;
         }
         for spot in spots.list.into_vec() {
-            self.file_at(alloc, spot, entry)?;
+            self.file_at(alloc, spot, filed_part)?;
         }
         Ok(())
     }
 
-    /// Returns the entries of a spot.
-    pub fn entries_at(&self, spot: &Spot) -> &[FiledPart]
-        ensures { result.now ≡ entries_at self.now.by_spot spot.now }
+    /// Returns the parts that are filed at a spot.
+    pub fn parts_at(&self, spot: &Spot) -> &[FiledPart]
+        ensures { result.now ≡ parts_at self.now.by_spot spot.now }
     {
         if self.by_spot.is_empty() {
             return &[];
         }
         match self.by_spot.get(spot) {
-            Some(entries) => entries.as_slice(),
+            Some(parts) => parts.as_slice(),
             None => &[],
         }
     }
 
-    /// Returns the entries of wide rows.
+    /// Returns the parts of wide rows.
     pub fn wide(&self) -> &[FiledPart]
         ensures { result.now ≡ self.now.wide }
     {
         self.wide.as_slice()
     }
 
-    /// Returns all entries.
+    /// Returns all parts that are filed.
     pub fn all(&self) -> &[FiledPart]
         ensures { result.now ≡ self.now.all }
     {
         self.all.as_slice()
     }
 
-    /// Adds the entries that may stand in a need with a row of these spots: all where it is wide,
+    /// Adds the parts that may stand in a need with a row of these spots: all where it is wide,
     /// and else those of its spots and the wide ones. If memory runs out, what stood in the list
     /// stands there, with the first of these behind it.
     pub fn add_near(&self, spots: &Spots, list: &mut Vec<FiledPart>) -> Result<(), AllocError>
@@ -179,7 +189,7 @@ impl SpotMap {
         }
         list.extend_from_slice(self.wide.as_slice())?;
         for spot in spots.list.as_slice() {
-            list.extend_from_slice(self.entries_at(spot))?;
+            list.extend_from_slice(self.parts_at(spot))?;
         }
         Ok(())
     }

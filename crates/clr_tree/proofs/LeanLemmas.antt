@@ -1,4 +1,4 @@
--- Where no entry is neutral, a delta has just what it needs.
+-- Where no difference is neutral, a delta has just what it needs.
 use Rattle.std.proofs.Common.{◌≡◌, ℕ, ◌+◌, ◌<◌, List, [], ◌∷◌, length, map, refl, ap, sym, subst, ◌∙◌}
 use Rattle.std.specs.declared.option.Option.{Option}
 use Rattle.std.specs.FinMap as finite
@@ -9,7 +9,7 @@ use Rattle.clr_differences.specs.Differences.{differences_from, IsOwnOver}
 use Rattle.clr_differences.proofs.SweepLemmas.{own_differences, swept_own}
 use Rattle.clr_deltas.specs.Differing.{mark_from}
 use Rattle.clr_workspaces.specs.Workspaces.{Workspace, workspace_at}
-use Rattle.clr_deltas.specs.Deltas.{Delta, delta_at, stored_in, whole_mark, wholes, entries_of_mark, AreOwnOver}
+use Rattle.clr_deltas.specs.Deltas.{Delta, delta_at, stored_in, whole_mark, wholes, stored_in_mark, AreOwnOver}
 use Rattle.clr_deltas.specs.declared.stored_marks.StoredMark.{StoredMark}
 use Rattle.clr_deltas.specs.declared.stored_marks.StoredMark.TheVariants as kinds
 use Rattle.clr_deltas.proofs.Meaning.{name-wholes, parent-wholes}
@@ -27,7 +27,7 @@ marks_as_swept base [] own = refl
 marks_as_swept base (kinds.Saved name d ∷ ms) own = λ i. kinds.Saved name (swept_own base d (λ q. (own q).0) i) ∷ marks_as_swept base ms (λ q. (own q).1) i
 marks_as_swept base (kinds.Child name ∷ ms) own = ap (λ (ns : List StoredMark). kinds.Child name ∷ ns) (marks_as_swept base ms (λ q. (own q).1))
 
--- where no entry is neutral, marks are what their contents differ in from the base
+-- where no difference is neutral, marks are what their contents differ in from the base
 marks_differing : (base : Content) (ms : List StoredMark) → ((q : CellId) → AreOwnOver (row_at base q) q ms) → ms
     ≡ map (mark_from base) (map (whole_mark base) ms)
 marks_differing base [] own = refl
@@ -62,9 +62,9 @@ module _ (live : Content) (ls : List Delta) (k : ℕ) (r : IsRooted (wholes live
         sym (λ i. length (finite.keys (same i)) + length (finite.keys (alike i))) ∙ count_swept live ls k r some lt
 
     pub lean_saved : stored_of_marks (delta_at ls k) ≡ needed_of_marks (wholes live ls) k
-    lean_saved = ap (λ (ms : List StoredMark). map entries_of_mark ms) (sym (marks_as_swept base l.marks saved_own)) ∙ count_saved live ls k r some lt
+    lean_saved = ap (λ (ms : List StoredMark). map stored_in_mark ms) (sym (marks_as_swept base l.marks saved_own)) ∙ count_saved live ls k r some lt
 
-    -- the law of deltas without neutral entries: each is what its whole workspace differs in
+    -- the law of deltas without neutral differences: each is what its whole workspace differs in
     pub lean_delta : delta_at ls k ≡ needed_delta (wholes live ls) k
     lean_delta =
         let name = sym (name-wholes live ls k) in

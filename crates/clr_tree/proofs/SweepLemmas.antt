@@ -1,16 +1,16 @@
--- How many entries a sweep leaves.
+-- How many differences a sweep leaves.
 use Rattle.std.proofs.Common.{◌≡◌, ℕ, suc, zero, ◌+◌, ◌<◌, List, [], ◌∷◌, length, map, refl, ap, sym, ◌∙◌, arith}
 use Rattle.std.specs.Prelude.{slice_index_or}
 use Rattle.std.specs.FinMap as finite
 use Rattle.clr_rows.specs.Cells.{cell_cmp}
 use Rattle.clr_rows.specs.Contents.{Content}
 use Rattle.clr_rows.proofs.CellOrder.{cell_cmp_total, cell_cmp_exact}
-use Rattle.clr_rows.proofs.Entries.{from_no_entries}
-use Rattle.clr_differences.specs.Differences.{Differences, RowEntries, no_differences, without_neutral}
+use Rattle.clr_rows.proofs.SortedMaps.{from_sorted-empty}
+use Rattle.clr_differences.specs.Differences.{Differences, RowsByCell, no_differences, without_neutral}
 use Rattle.clr_differences.proofs.SweepLemmas.{count-swept}
 use Rattle.clr_workspaces.specs.Marks.{Mark}
 use Rattle.clr_workspaces.specs.Workspaces.{Workspace, workspace_at}
-use Rattle.clr_deltas.specs.Deltas.{Delta, delta_at, whole_mark, wholes, entries_of_mark}
+use Rattle.clr_deltas.specs.Deltas.{Delta, delta_at, whole_mark, wholes, stored_in_mark}
 use Rattle.clr_deltas.specs.declared.stored_marks.StoredMark.{StoredMark}
 use Rattle.clr_deltas.specs.declared.stored_marks.StoredMark.TheVariants as kinds
 use Rattle.clr_contents.specs.Lean.{content_of_parent, swept_marks}
@@ -19,15 +19,15 @@ use Rattle.clr_contents.proofs.ReadLemmas.{current-wholes, marks-wholes}
 use Rattle.clr_contents.proofs.SweepLemmas.{base_is}
 use Rattle.clr_tree.specs.Trees.{change_count, needed, needed_of_mark, needed_of_marks, stored_of_marks}
 
-no_entries : length (finite.keys no_differences) ≡ 0
-no_entries =
-    ap (λ (d : Differences). length (finite.keys d)) (sym (from_no_entries cell_cmp_total cell_cmp_exact))
-    ∙ ap (λ (es : RowEntries). length (map (λ e. e.0) es)) (finite.entries-from_sorted cell_cmp [] tt)
+none_stored : length (finite.keys no_differences) ≡ 0
+none_stored =
+    ap (λ (d : Differences). length (finite.keys d)) (sym (from_sorted-empty cell_cmp_total cell_cmp_exact))
+    ∙ ap (λ (es : RowsByCell). length (map (λ e. e.0) es)) (finite.entries-from_sorted cell_cmp [] tt)
 
-count-swept_marks : (b : Content) (ms : List StoredMark) → map entries_of_mark (swept_marks b ms) ≡ map (needed_of_mark b) (map (whole_mark b) ms)
+count-swept_marks : (b : Content) (ms : List StoredMark) → map stored_in_mark (swept_marks b ms) ≡ map (needed_of_mark b) (map (whole_mark b) ms)
 count-swept_marks b [] = refl
 count-swept_marks b (kinds.Saved name d ∷ ms) = λ i. count-swept b d i ∷ count-swept_marks b ms i
-count-swept_marks b (kinds.Child name ∷ ms) = λ i. no_entries i ∷ count-swept_marks b ms i
+count-swept_marks b (kinds.Child name ∷ ms) = λ i. none_stored i ∷ count-swept_marks b ms i
 
 module _ (live : Content) (ls : List Delta) (at : ℕ) (r : IsRooted (wholes live ls)) (some : 0 < at) (lt : at < length ls) where
   abbrev ws : List Workspace

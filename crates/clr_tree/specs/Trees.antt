@@ -1,4 +1,4 @@
--- A tree: its workspaces with whole contents, what is stored of each, and how many entries that and its marks have.
+-- A tree: its workspaces with whole contents, what is stored of each, and how many differences that and its marks have.
 use Rattle.std.specs.Prelude.{ℕ, ◌+◌, List, [], Option, length, map, slice_index_or, refl}
 use Rattle.std.specs.FinMap as finite
 use Rattle.std.specs.Coded.{Coded, code_by, coded×, coded_list, coded_ℕ}
@@ -6,7 +6,7 @@ use Rattle.clr_rows.specs.Contents.{Content, changes}
 use Rattle.clr_workspaces.specs.Marks.{Mark, Saved, ChildMark}
 use Rattle.clr_workspaces.specs.Workspaces.{Workspace, coded_workspace, workspace_at}
 use Rattle.clr_deltas.specs.Differing.{delta_from}
-use Rattle.clr_deltas.specs.Deltas.{Delta, coded_delta, wholes, stored_in, entries_of_mark}
+use Rattle.clr_deltas.specs.Deltas.{Delta, coded_delta, wholes, stored_in, stored_in_mark}
 use Rattle.clr_contents.specs.Lean as lean
 
 pub record Tree : Type 0 where
@@ -15,11 +15,11 @@ pub record Tree : Type 0 where
   pub stored : List ℕ
   pub saved : List (List ℕ)
 
--- how many entries are stored of the workspace at a position
+-- how many differences are stored of the workspace at a position
 abbrev pub stored_at : List ℕ → ℕ → ℕ
 stored_at counts at = slice_index_or counts at 0
 
--- how many entries are stored of each mark of the workspace at a position
+-- how many differences are stored of each mark of the workspace at a position
 abbrev pub saved_at : List (List ℕ) → ℕ → List ℕ
 saved_at counts at = slice_index_or counts at []
 
@@ -47,9 +47,9 @@ needed_of_marks ws at = let w = workspace_at ws at in map (needed_of_mark w.base
 abbrev pub needed_delta : List Workspace → ℕ → Delta
 needed_delta ws at = delta_from (lean.content_of_parent ws at) (workspace_at ws at)
 
--- how many entries a delta has in each of its marks
+-- how many differences a delta has in each of its marks
 abbrev pub stored_of_marks : Delta → List ℕ
-stored_of_marks l = map entries_of_mark l.marks
+stored_of_marks l = map stored_in_mark l.marks
 
 abbrev pub coded_tree : Coded Tree
 coded_tree =

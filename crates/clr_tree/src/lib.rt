@@ -15,12 +15,12 @@
 //!   content. Afterwards what is stored of a workspace, which `delta` shows without a copy, is
 //!   exactly what it differs in from its parent's content (`clr_deltas: Differing`). Then `stored`
 //!   is the number of cells where its base isn't as its parent's current content, and of those that
-//!   it changed; and each savepoint has as many entries as there are cells where its content isn't
+//!   it changed; and each savepoint has as many differences as there are cells where its content isn't
 //!   as the base.
-//! - No operation makes an entry neutral where none was before: this is an invariant of `Tree` from
-//!   its first sweep on. So a later sweep keeps its promise without a look at any entry.
+//! - No operation makes a difference neutral where none was before: this is an invariant of `Tree` from
+//!   its first sweep on. So a later sweep keeps its promise without a look at any difference.
 //!   `clr_contents::sweep_at` [`seen`, `lean`] and `clr_differences::Differences::sweep_at` take
-//!   exactly the neutral entries at some cells away.
+//!   exactly the neutral differences at some cells away.
 #![tactic(auto)]
 
 mod tree;

@@ -1,4 +1,4 @@
-//! Parts by their differences, with neutral entries, and deeds that make the same workspaces.
+//! Parts by their differences, of which some are neutral, and deeds that make the same workspaces.
 
 use crate::fixtures::{cell, numbered_sheet, row_of, words};
 use clr_deltas::{Delta, StoredMark, StoredPart};
@@ -67,7 +67,7 @@ fn both_marks(alloc: Global) -> Result<Vec<StoredMark>, AllocError> {
     Ok(marks)
 }
 
-/// Returns the first part: of the three entries of its base two are neutral, and so of its current content and of its
+/// Returns the first part: of the three differences of its base two are neutral, and so of its current content and of its
 /// savepoint.
 fn first_part(alloc: Global) -> Result<StoredPart, AllocError> {
     let base = [(1, 1), (2, 5), (4, 0)];
@@ -76,7 +76,7 @@ fn first_part(alloc: Global) -> Result<StoredPart, AllocError> {
     part_of(alloc, "A", "LIVE", &base, &current, marks)
 }
 
-/// Returns the entry of its base is neutral, and one of three of its current content.
+/// Returns the second part: the difference of its base is neutral, and one of three of its current content.
 fn second_part(alloc: Global) -> Result<StoredPart, AllocError> {
     let current = [(1, 3), (2, 0), (3, 2)];
     part_of(alloc, "B", "A", &[(3, 2)], &current, Vec::new(alloc))

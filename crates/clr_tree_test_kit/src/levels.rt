@@ -42,7 +42,7 @@ pub fn news_after(alloc: Global, deeds: &str) -> Result<String, AllocError> {
     news_text(alloc, &tree, THREE_LEVELS_TEXT)
 }
 
-/// Returns how many entries are stored of the workspaces under LIVE after deeds and a sweep.
+/// Returns how many differences are stored of the workspaces under LIVE after deeds and a sweep.
 pub fn counts_after(alloc: Global, deeds: &str) -> Result<String, AllocError> {
     let mut tree = tree_after(alloc, deeds)?;
     tree.sweep();

@@ -80,7 +80,7 @@ pub fn tree_text(alloc: Global, tree: &Tree) -> Result<String, AllocError> {
     Ok(text)
 }
 
-/// Returns how many entries are stored of each workspace under LIVE.
+/// Returns how many differences are stored of each workspace under LIVE.
 pub fn counts_text(alloc: Global, tree: &Tree) -> Result<String, AllocError> {
     let mut text = String::from_str(alloc, "stored")?;
     for at in 1..tree.len() {
@@ -101,7 +101,7 @@ pub fn new_lines(alloc: Global, text: &str, before: &str) -> Result<String, Allo
     Ok(new)
 }
 
-/// Returns the lines of the text of a tree that another hasn't, and how many entries are stored.
+/// Returns the lines of the text of a tree that another hasn't, and how many differences are stored.
 pub fn news_text(alloc: Global, tree: &Tree, before: &str) -> Result<String, AllocError> {
     let all = tree_text(alloc, tree)?;
     let mut text = new_lines(alloc, all.as_str(), before)?;

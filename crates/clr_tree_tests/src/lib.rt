@@ -1,4 +1,4 @@
-//! Tests of the tree of workspaces: the faults of parts, neutral entries, calls that find no memory, and random operations beside
+//! Tests of the tree of workspaces: the faults of parts, neutral differences, calls that find no memory, and random operations beside
 //! whole copies of all contents.
 #![tactic(auto)]
 

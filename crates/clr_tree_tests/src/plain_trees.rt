@@ -210,7 +210,7 @@ impl PlainTree {
         Ok(text)
     }
 
-    /// Returns how many entries each workspace under LIVE needs.
+    /// Returns how many differences each workspace under LIVE needs.
     pub(crate) fn counts_text(&self) -> Result<String, AllocError> {
         let mut text = String::from_str(self.alloc, "stored")?;
         for at in 1..self.spaces.len() {

@@ -68,7 +68,7 @@ struct Pair {
 }
 
 impl Pair {
-    /// Trees of parts with neutral entries.
+    /// Trees of parts with neutral differences.
     fn new(alloc: Global) -> Result<Pair, AllocError> {
         let tree = delta_tree(alloc)?;
         Ok(Pair {
@@ -91,7 +91,7 @@ impl Pair {
         Ok(())
     }
 
-    /// As many entries are stored as are needed.
+    /// As many differences are stored as are needed.
     fn check_counts(&self, rt: &impl Abort, alloc: Global) -> Result<(), Fail> {
         let counts = counts_text(alloc, &self.tree)?;
         let needed = self.plain.counts_text()?;

@@ -13,16 +13,16 @@ use Rattle.clr_rows.proofs.BeginningLaws.{some_begun}
 use Rattle.clr_needs.specs.Members.{changed_cells}
 use Rattle.clr_versions.proofs.Searches.{sets_of}
 
--- the cells of entries
+-- the cells of changes
 abbrev pub cells_of : List (CellId × Change) → List CellId
-cells_of entries = map (λ e. e.0) entries
+cells_of changes = map (λ e. e.0) changes
 
--- the cell of an entry goes from those that are left to those that were read
+-- the cell of a change goes from those that are left to those that were read
 pub cell_moves : (cells : List CellId) (e : CellId × Change) (left : List (CellId × Change)) → (cells ++ e.0 ∷ []) ++ cells_of left ≡ cells
     ++ cells_of (e ∷ left)
 cell_moves cells e left = append_assoc cells (e.0 ∷ []) (cells_of left)
 
--- the first of some cells stand behind a list, and those of the entries that are left follow
+-- the first of some cells stand behind a list, and those of the changes that are left follow
 abbrev pub AreReadTo : List CellId → List CellId → List CellId → List (CellId × Change) → Type 0
 AreReadTo old all cells left = (read : List CellId) × (cells ≡ old ++ read) × (read ++ cells_of left ≡ all)
 

@@ -141,7 +141,7 @@ fn move_rows(sheet: &mut Sheet, rows: Sheet)
     requires { (cell : Cell) → is_some (row_at rows cell) ≡ true → is_some (row_at sheet.old cell) ≡ true }
     ensures { sheet.new ≡ over sheet.old (with_rows (finite.entries rows)) }
 {
-    for (cell, row) in rows.into_entries() {
+    for (cell, row) in rows.into_rows() {
         replace(sheet, cell, row);
     }
 }

@@ -5,7 +5,7 @@ use Rattle.clr_differences.specs.Differences.{Differences}
 use Rattle.clr_deltas.specs.Deltas.{Delta, delta_at, wholes}
 use Rattle.clr_workspaces.specs.Workspaces.{workspace_at}
 use Rattle.clr_contents.specs.Comparing.{set_at}
-use Rattle.clr_contents.proofs.ComparedLemmas.{all_set, no_entry, own_row}
+use Rattle.clr_contents.proofs.ComparedLemmas.{all_set, no_difference, own_row}
 use Rattle.clr_contents.proofs.ReadLemmas.{none_base, parent_earlier}
 use Rattle.clr_contents.proofs.comparisons.changes_to_refreshed.Goals as goal
 
@@ -27,5 +27,5 @@ returns c =
     c.in_ok-set.ensures ∙ (λ i. set_at (c.new-before.ensures i) (after i) no_changes (cells i))
     ∙ all_set w.current (taken_over above c.args.own.now) (finite.keys l.base)
     (λ q e. own_row w.base w.current above q (sym (none_base c.args.live.now c.args.map.now c.args.at c.requires.child c.requires.within c.args.above
-    c.requires.above earlier q (no_entry l.base q e)))
+    c.requires.above earlier q (no_difference l.base q e)))
     ∙ ap (λ (own : Changes). row_at (taken_over above own) q) (sym c.requires.own))

@@ -1,5 +1,5 @@
 use Rattle.std.proofs.Common.{◌≡◌, take}
-use Rattle.clr_differences.specs.Differences.{HasEntries}
+use Rattle.clr_differences.specs.Differences.{HasDifferences}
 use Rattle.clr_deltas.specs.Deltas.{wholes, delta_at}
 use Rattle.clr_contents.specs.Pinning.{Extends, StayOwnBut}
 use Rattle.clr_contents.proofs.pins.pin_bases.Given as goal
@@ -9,5 +9,5 @@ invariant-loop-cell l = record {
   seen : wholes l.live l.map ≡ wholes l.live l.fn.map;
   extends : Extends l.fn.map l.map;
   elsewhere : StayOwnBut l.at l.cells l.fn.map l.map;
-  pinned : HasEntries (delta_at l.map l.at).base (take l.cell-index l.cells);
+  pinned : HasDifferences (delta_at l.map l.at).base (take l.cell-index l.cells);
 }

@@ -1,7 +1,7 @@
 use Rattle.std.proofs.Common.{◌≡◌, ◌≢◌, ⊎_elim, ◌∙◌, sym, subst, arith}
 use Rattle.std.proofs.lemmas.Bool.{cases_eq}
-use Rattle.clr_differences.specs.Differences.{HasEntries}
-use Rattle.clr_differences.proofs.DifferenceLemmas.{entries_keep}
+use Rattle.clr_differences.specs.Differences.{HasDifferences}
+use Rattle.clr_differences.proofs.DifferenceLemmas.{differences_keep}
 use Rattle.clr_deltas.specs.Deltas.{delta_at, IsUnder}
 use Rattle.clr_contents.proofs.PinLemmas.{extends_both, but_children_both}
 use Rattle.clr_contents.proofs.pins.pin_children.Goals as goal
@@ -20,11 +20,11 @@ loop-k-preserved c =
       elsewhere = but_children_both c.args.at c.args.cells.now c.args.map.now old new i.extends i.elsewhere e.elsewhere;
       pinned = λ j some lt under. ⊎_elim
           (λ (same : j ≡ k).
-          subst (λ n. HasEntries (delta_at new n).base c.args.cells.now) (sym same)
+          subst (λ n. HasDifferences (delta_at new n).base c.args.cells.now) (sym same)
           (e.pinned (subst (λ n. IsUnder n (delta_at new k)) (sym (i.extends.each c.args.at).name) (subst (λ n. IsUnder name (delta_at new n)) same under))))
           (λ (other : j ≢ k).
           let more = e.extends.each j in
-          entries_keep (delta_at old j).base (delta_at new j).base _ more.base
+          differences_keep (delta_at old j).base (delta_at new j).base _ more.base
           (i.pinned j some (omega arith) (subst (λ n. IsUnder name (record (delta_at old j) { parent = n })) more.parent under)))
           (cases_eq j k);
     }

@@ -1,5 +1,5 @@
 use Rattle.std.proofs.Common.{◌≡◌, ◌<◌, ℕ}
-use Rattle.clr_differences.specs.Differences.{HasEntries}
+use Rattle.clr_differences.specs.Differences.{HasDifferences}
 use Rattle.clr_deltas.specs.Deltas.{wholes, delta_at, IsUnder}
 use Rattle.clr_contents.specs.Pinning.{Extends, StayOwnButChildren}
 use Rattle.clr_contents.proofs.pins.pin_children.Given as goal
@@ -9,5 +9,5 @@ invariant-loop-k l = record {
   seen : wholes l.live l.map ≡ wholes l.live l.fn.map;
   extends : Extends l.fn.map l.map;
   elsewhere : StayOwnButChildren (delta_at l.fn.map l.at).name l.cells l.fn.map l.map;
-  pinned : (j : ℕ) → 0 < j → j < l.k → IsUnder (delta_at l.fn.map l.at).name (delta_at l.map j) → HasEntries (delta_at l.map j).base l.cells;
+  pinned : (j : ℕ) → 0 < j → j < l.k → IsUnder (delta_at l.fn.map l.at).name (delta_at l.map j) → HasDifferences (delta_at l.map j).base l.cells;
 }

@@ -1,5 +1,5 @@
 use Rattle.std.proofs.Common.{◌∙◌, arith}
-use Rattle.clr_differences.proofs.DifferenceLemmas.{entries_keep, entries_next}
+use Rattle.clr_differences.proofs.DifferenceLemmas.{differences_keep, differences_next}
 use Rattle.clr_deltas.specs.Deltas.{delta_at}
 use Rattle.clr_contents.proofs.PinLemmas.{extends_both, own_both, apart_at}
 use Rattle.clr_contents.proofs.pins.pin_own.Goals as goal
@@ -15,8 +15,8 @@ loop-cell-preserved c =
       extends = extends_both _ old new i.extends e.extends;
       elsewhere = λ k q apart. own_both q (delta_at c.args.map.now k) (delta_at old k) (delta_at new k) (i.elsewhere k q apart)
           (e.elsewhere k q (λ same. apart_at c.args.cells.now c.loop-cell.cell-index _ q (omega arith) (apart same)));
-      pinned = entries_next (delta_at new c.args.at).current _ _ _ (omega arith)
-          (entries_keep (delta_at old c.args.at).current (delta_at new c.args.at).current _ (e.extends.each c.args.at).current i.pinned) e.pinned;
+      pinned = differences_next (delta_at new c.args.at).current _ _ _ (omega arith)
+          (differences_keep (delta_at old c.args.at).current (delta_at new c.args.at).current _ (e.extends.each c.args.at).current i.pinned) e.pinned;
     }
 
 pub returns-in_err-pin_current-clause-elsewhere : goal.returns-in_err-pin_current-clause-elsewhere

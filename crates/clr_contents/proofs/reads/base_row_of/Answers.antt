@@ -7,8 +7,8 @@ use Rattle.clr_contents.proofs.reads.base_row_of.Goals as goal
 
 pub returns-in-Some : goal.returns-in-Some
 returns-in-Some c =
-    let entry = ap (λ (d : Differences). finite.get d c.args.cell) (sym c.base.ensures) ∙ sym c.get.ensures ∙ ap option_copied c.in-Some.is in
-    c.as_ref.ensures.value ∙ found_base c.args.live.now c.args.map.now c.args.at c.args.cell _ c.requires.rooted c.requires.child c.requires.within entry
+    let found = ap (λ (d : Differences). finite.get d c.args.cell) (sym c.base.ensures) ∙ sym c.get.ensures ∙ ap option_copied c.in-Some.is in
+    c.as_ref.ensures.value ∙ found_base c.args.live.now c.args.map.now c.args.at c.args.cell _ c.requires.rooted c.requires.child c.requires.within found
 
 pub returns : goal.returns
 returns c =

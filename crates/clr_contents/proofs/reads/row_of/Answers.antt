@@ -11,16 +11,16 @@ use Rattle.clr_contents.proofs.reads.row_of.Goals as goal
 
 pub returns-in-Some : goal.returns-in-Some
 returns-in-Some c =
-    let entry = ap (λ (d : Differences). finite.get d c.args.cell) (sym c.current.ensures) ∙ sym c.get.ensures ∙ ap option_copied c.in-Some.is in
-    c.as_ref.ensures.value ∙ found_current c.args.live.now c.args.map.now c.loop-at.at (omega arith) c.loop-at.invariant.within c.args.cell _ entry
+    let found = ap (λ (d : Differences). finite.get d c.args.cell) (sym c.current.ensures) ∙ sym c.get.ensures ∙ ap option_copied c.in-Some.is in
+    c.as_ref.ensures.value ∙ found_current c.args.live.now c.args.map.now c.loop-at.at (omega arith) c.loop-at.invariant.within c.args.cell _ found
     ∙ c.loop-at.invariant.same
 
 pub returns-in-Some-get : goal.returns-in-Some-get
 returns-in-Some-get c =
     let none = ap (λ (d : Differences). finite.get d c.args.cell) (sym c.current.ensures) ∙ sym c.get.ensures ∙ ap option_copied c.in_default.is in
-    let entry = ap (λ (d : Differences). finite.get d c.args.cell) (sym c.base.ensures) ∙ sym c.get-in-loop-at.ensures ∙ ap option_copied c.in-Some-get.is in
+    let found = ap (λ (d : Differences). finite.get d c.args.cell) (sym c.base.ensures) ∙ sym c.get-in-loop-at.ensures ∙ ap option_copied c.in-Some-get.is in
     c.as_ref-in-Some-get.ensures.value ∙ found_base c.args.live.now c.args.map.now c.loop-at.at c.args.cell _ c.requires.rooted (omega arith)
-    c.loop-at.invariant.within entry
+    c.loop-at.invariant.within found
     ∙ none_current c.args.live.now c.args.map.now c.loop-at.at (omega arith) c.loop-at.invariant.within c.args.cell none ∙ c.loop-at.invariant.same
 
 pub loop-at-preserved : goal.loop-at-preserved

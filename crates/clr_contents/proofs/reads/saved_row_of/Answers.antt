@@ -8,21 +8,21 @@ use Rattle.clr_workspaces.specs.Workspaces.{workspace_at}
 use Rattle.clr_contents.proofs.MarkLemmas.{row-saved, saved_stored}
 use Rattle.clr_contents.proofs.reads.saved_row_of.Goals as goal
 
-pub entry_at-requires-clause-marked : goal.entry_at-requires-clause-marked
-entry_at-requires-clause-marked c = saved_stored c.args.live.now c.args.map.now c.args.at c.requires.child c.requires.within c.args.mark c.requires.saved
+pub difference_at-requires-clause-marked : goal.difference_at-requires-clause-marked
+difference_at-requires-clause-marked c = saved_stored c.args.live.now c.args.map.now c.args.at c.requires.child c.requires.within c.args.mark c.requires.saved
 
 pub returns-in-Some : goal.returns-in-Some
 returns-in-Some c =
     let base = (workspace_at (wholes c.args.live.now c.args.map.now) c.args.at).base in
-    let entry = sym c.entry_at.ensures ∙ ap option_copied c.in-Some.is in
+    let found = sym c.difference_at.ensures ∙ ap option_copied c.in-Some.is in
     c.as_ref.ensures.value
     ∙ sym (row-saved c.args.live.now c.args.map.now c.args.at c.requires.child c.requires.within c.args.mark c.requires.saved c.args.cell
-    ∙ ap (λ (o : Option (Option Row)). unwrap_or o (row_at base c.args.cell)) entry)
+    ∙ ap (λ (o : Option (Option Row)). unwrap_or o (row_at base c.args.cell)) found)
 
 pub returns : goal.returns
 returns c =
     let base = (workspace_at (wholes c.args.live.now c.args.map.now) c.args.at).base in
-    let none = sym c.entry_at.ensures ∙ ap option_copied c.in_default.is in
+    let none = sym c.difference_at.ensures ∙ ap option_copied c.in_default.is in
     c.base_row_of.ensures
     ∙ sym (row-saved c.args.live.now c.args.map.now c.args.at c.requires.child c.requires.within c.args.mark c.requires.saved c.args.cell
     ∙ ap (λ (o : Option (Option Row)). unwrap_or o (row_at base c.args.cell)) none)

@@ -3,7 +3,7 @@ use Rattle.clr_deltas.specs.Deltas.{delta_at, wholes}
 use Rattle.clr_contents.specs.Lean.{IsLeanBeside, IsLeanOver}
 use Rattle.clr_contents.proofs.sweeps.sweep_at.Given as goal
 
--- no content has changed, those so far have no neutral entry if they had none but near, and later ones are as they were
+-- no content has changed, those so far have no neutral difference if they had none but near, and later ones are as they were
 abbrev pub invariant-loop-one : goal.invariant-loop-one
 invariant-loop-one l = record {
   seen : wholes l.live l.map ≡ wholes l.live l.fn.map;

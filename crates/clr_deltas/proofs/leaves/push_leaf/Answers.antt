@@ -1,6 +1,6 @@
 use Rattle.std.proofs.Common.{◌≡◌, ◌++◌, ◌∷◌, [], ◌∙◌, ap, string_bytes, false}
 use Rattle.clr_deltas.specs.Deltas.{leaf}
-use Rattle.clr_deltas.specs.Entries.{delta_of}
+use Rattle.clr_deltas.specs.NamedDeltas.{delta_of}
 use Rattle.clr_deltas.specs.declared.workspace_maps.Delta.{Delta as Parts}
 use Rattle.clr_deltas.proofs.Answered.{on_ok}
 use Rattle.clr_deltas.proofs.leaves.push_leaf.Goals as goal

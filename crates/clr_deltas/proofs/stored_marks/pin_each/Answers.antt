@@ -6,7 +6,7 @@ use Rattle.clr_deltas.specs.Deltas.{whole_mark, MarkPins, EachMarkPins, AreOwnOv
 use Rattle.clr_deltas.proofs.MarkLemmas.{own_set}
 use Rattle.clr_deltas.proofs.stored_marks.pin_each.Goals as goal
 
--- one more mark has an entry
+-- one more mark has a difference
 one_more : (cell : CellId) (ms : List StoredMark) (i : ℕ) (m : StoredMark) → EachMarkPins (take i ms) cell → MarkPins cell m
     → EachMarkPins (take (i + 1) (slice_set ms i m)) cell
 one_more cell ms i m pinned one = subst (λ j. EachMarkPins (take j (slice_set ms i m)) cell) same (next ms i pinned)

@@ -1,6 +1,6 @@
 use Rattle.std.proofs.Common.{◌≡◌, [], drop, map}
 use Rattle.serde_json.specs.View.{items_view}
-use Rattle.clr_deltas.specs.Entries.{stored_delta}
+use Rattle.clr_deltas.specs.NamedDeltas.{stored_delta}
 use Rattle.clr_office_text.specs.Workspaces.{HasNames}
 use Rattle.clr_item_faults.specs.FirstFaults.{first_fault_from}
 use Rattle.clr_item_faults.specs.Readings.{deltas_with}

@@ -1,7 +1,7 @@
 use Rattle.std.proofs.Common.{[], ◌∷◌, map, refl}
 use Rattle.std.proofs.lemmas.Result.{err_from_is_err_and}
 use Rattle.std.proofs.lemmas.List.{map-append}
-use Rattle.clr_deltas.specs.Entries.{stored_delta}
+use Rattle.clr_deltas.specs.NamedDeltas.{stored_delta}
 use Rattle.clr_office_text.proofs.NameTurns.{none_read}
 use Rattle.clr_office_text.proofs.WorkspaceTurns.{goes_on, ends, is_done}
 use Rattle.clr_office_text.proofs.workspaces.each_workspace.Goals as goal

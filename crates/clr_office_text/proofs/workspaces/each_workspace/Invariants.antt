@@ -1,6 +1,6 @@
 use Rattle.std.proofs.Common.{◌≡◌, [], drop, map}
 use Rattle.clr_rule_text.specs.Seen.{items_seen}
-use Rattle.clr_deltas.specs.Entries.{stored_delta}
+use Rattle.clr_deltas.specs.NamedDeltas.{stored_delta}
 use Rattle.clr_office_text.specs.Workspaces.{HasNames, deltas_after}
 use Rattle.clr_office_text.proofs.workspaces.each_workspace.Given as goal
 

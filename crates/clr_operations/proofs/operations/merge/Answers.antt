@@ -1,7 +1,7 @@
 use Rattle.std.proofs.Common.{◌∙◌, ◌<◌, ap, sym, subst, refl, arith, List, length}
 use Rattle.clr_rows.specs.declared.cells.CellId.{CellId}
 use Rattle.clr_rows.specs.Contents.{Changes, rows_after}
-use Rattle.clr_differences.specs.Differences.{RowEntries, cells_in}
+use Rattle.clr_differences.specs.Differences.{RowsByCell, cells_in}
 use Rattle.clr_deltas.specs.Deltas.{wholes}
 use Rattle.clr_workspaces.specs.Workspaces.{workspace_at}
 use Rattle.clr_deltas.proofs.Answered.{on_ok, on_err}
@@ -50,7 +50,7 @@ returns-clause-lean c = λ lean.
     let e = c.merge_rows-done.ensures in
     let own = c.in_ok-own.ensures ∙ ap (λ (x : Changes). rows_after x) c.requires.changed in
     let cells = c.as_slice-2.ensures.value ∙ c.in_ok-cells.ensures ∙ ap cells_in (c.as_slice.ensures.value ∙ own) in
-    let stay = subst (λ (rs : RowEntries). StayOwnButNear p (cells_in rs) ls ms) own e.elsewhere in
+    let stay = subst (λ (rs : RowsByCell). StayOwnButNear p (cells_in rs) ls ms) own e.elsewhere in
     let p_in : p < length ls = let within = c.requires.within in let up = c.requires.earlier in omega (arith, within, up) in
     let but : IsLeanBut p (cells_in rows) next ms = either c.merge_rows-done.result _ _ _
     (λ is. lean_merged live next ls ms c.args.at p c.requires.rooted p_in e.long is stay lean)

@@ -1,7 +1,7 @@
 use Rattle.std.proofs.Common.{◌∙◌, ap, sym, subst, refl, arith, filter, length, List}
 use Rattle.std.proofs.lemmas.List.{length-set}
 use Rattle.clr_rows.specs.Contents.{over, rows_after}
-use Rattle.clr_differences.specs.Differences.{RowEntries, no_differences, put_each, cells_in, HasEntries}
+use Rattle.clr_differences.specs.Differences.{RowsByCell, no_differences, put_each, cells_in, HasDifferences}
 use Rattle.clr_deltas.specs.Deltas.{Delta, wholes, delta_at, delta_changed, is_stored_child, IsUnder}
 use Rattle.clr_workspaces.specs.Workspaces.{workspace_at}
 use Rattle.clr_contents.specs.Pinning.{StayOwnBut}
@@ -24,7 +24,7 @@ take_over-requires-clause-pinned c =
     let name = (delta_at ls c.args.above).name in
     let under : IsUnder name (delta_at hs at) = subst (λ n. IsUnder name (record (delta_at ls at) { parent = n })) (sym (e.extends.each at).parent)
     (under_its_parent c.args.live.now ls at c.args.above c.requires.parent) in
-    subst (λ (rs : RowEntries). HasEntries (delta_at hs at).base (cells_in rs)) (c.requires.rows ∙ sym c.requires.own)
+    subst (λ (rs : RowsByCell). HasDifferences (delta_at hs at).base (cells_in rs)) (c.requires.rows ∙ sym c.requires.own)
     (e.children at c.requires.child (omega (arith, c.requires.within, e.extends.long)) under)
 
 pub returns-clause-ok : goal.returns-clause-ok
@@ -35,11 +35,11 @@ returns-clause-ok c =
     let ws = wholes c.args.live.now ls in
     let e = c.in_ok-put_rows.ensures in
     let changed = own_changes (workspace_at ws c.args.at) in
-    let put = e.ok ∙ ap (λ (rs : RowEntries). put_into ws c.args.above rs) c.requires.rows in
+    let put = e.ok ∙ ap (λ (rs : RowsByCell). put_into ws c.args.above rs) c.requires.rows in
     let rooted = subst IsRooted (sym put) (rooted_set ws c.args.above
     (with_current (over (workspace_at ws c.args.above).current (rows_after changed)) (workspace_at ws c.args.above)) refl refl c.requires.rooted) in
     ap (wholes live) c.take_over.ensures
-    ∙ ap (λ (rs : RowEntries). wholes live
+    ∙ ap (λ (rs : RowsByCell). wholes live
     (delta_changed hs c.args.at (λ l. record l { base = put_each l.base rs; current = no_differences; marks = filter is_stored_child l.marks }))) c.requires.own
     ∙ merged_is live hs ws c.args.at c.args.above changed rooted c.requires.child (omega (arith, c.requires.within, e.extends.long)) c.requires.earlier put refl
 
@@ -48,7 +48,7 @@ returns-clause-long c = ap (λ (ms : List Delta). length ms) c.take_over.ensures
     ∙ c.in_ok-put_rows.ensures.extends.long
 
 pub returns-in_err-put_rows-clause-elsewhere : goal.returns-in_err-put_rows-clause-elsewhere
-returns-in_err-put_rows-clause-elsewhere c = subst (λ (rs : RowEntries). StayOwnButNear c.args.above (cells_in rs) c.args.map.now c.put_rows.new.map)
+returns-in_err-put_rows-clause-elsewhere c = subst (λ (rs : RowsByCell). StayOwnButNear c.args.above (cells_in rs) c.args.map.now c.put_rows.new.map)
     (c.requires.rows
     ∙ sym c.requires.own) c.put_rows.ensures.elsewhere
 
@@ -59,6 +59,6 @@ returns-clause-elsewhere c =
     let at = c.args.at in
     let own = c.args.own.items in
     let e = c.in_ok-put_rows.ensures in
-    let put = subst (λ (rs : RowEntries). StayOwnButNear c.args.above (cells_in rs) ls hs) (c.requires.rows ∙ sym c.requires.own) e.elsewhere in
+    let put = subst (λ (rs : RowsByCell). StayOwnButNear c.args.above (cells_in rs) ls hs) (c.requires.rows ∙ sym c.requires.own) e.elsewhere in
     near_child at c.args.above (cells_in own) ls hs c.take_over.new.self (under_its_parent c.args.live.now ls at c.args.above c.requires.parent) put
     (subst (StayOwnBut at (cells_in own) hs) (sym c.take_over.ensures) (but_taken_over hs at own (omega (arith, c.requires.within, e.extends.long))))

@@ -1,7 +1,7 @@
 use Rattle.std.proofs.Common.{◌≡◌, refl, ◌∙◌, ap, sym, subst, arith, List}
 use Rattle.clr_rows.specs.declared.cells.CellId.{CellId}
 use Rattle.clr_rows.specs.Contents.{Content}
-use Rattle.clr_differences.specs.Differences.{cells_in, HasEntries}
+use Rattle.clr_differences.specs.Differences.{cells_in, HasDifferences}
 use Rattle.clr_deltas.specs.Deltas.{wholes, delta_at}
 use Rattle.clr_contents.specs.Pinning.{Extends, ChildrenPin}
 use Rattle.clr_operations.specs.Moves.{put_into}
@@ -38,7 +38,7 @@ returns-then-at-eq0-clause-children c =
 pub set_current-requires-clause-pinned : goal.set_current-requires-clause-pinned
 set_current-requires-clause-pinned c =
     let cells = c.as_slice-3.ensures.value ∙ c.in_ok-cells.ensures ∙ ap cells_in c.as_slice.ensures.value in
-    subst (λ (qs : List CellId). HasEntries (delta_at c.pin_own.new.map c.args.at).current qs) cells c.in_ok-pin_own.ensures.pinned
+    subst (λ (qs : List CellId). HasDifferences (delta_at c.pin_own.new.map c.args.at).current qs) cells c.in_ok-pin_own.ensures.pinned
 
 pub returns-clause-ok : goal.returns-clause-ok
 returns-clause-ok c =

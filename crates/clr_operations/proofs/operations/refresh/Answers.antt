@@ -11,7 +11,7 @@ use Rattle.clr_workspaces.specs.Roots.{IsRooted}
 use Rattle.clr_contents.specs.Lean.{IsLeanBut, StayOwnButNear}
 use Rattle.clr_workspaces.specs.Operations.{change_marks, own_changes, refresh}
 use Rattle.clr_workspaces.proofs.RootLemmas.{below_rooted}
-use Rattle.clr_contents.proofs.ComparedLemmas.{among_neither, no_entry}
+use Rattle.clr_contents.proofs.ComparedLemmas.{among_neither, no_difference}
 use Rattle.clr_operations.proofs.LeanLemmas.{lean_refreshed, lean_still}
 use Rattle.clr_deltas.proofs.Answered.{either}
 use Rattle.clr_workspaces.proofs.RootLemmas.{rooted_set}
@@ -76,7 +76,7 @@ returns-clause-lean c = λ lean.
     let none : (q : CellId) → is_among all q ≡ false → (is_among (cells_in rows) q ≡ false) × ((finite.get under q ≡ None) × (finite.get now q ≡ None)) =
     λ q apart.
     let one = among_neither (cells_in rows) (finite.keys under ++ finite.keys now) q apart in
-    let two = among_neither (finite.keys under) (finite.keys now) q one.1 in (one.0, (no_entry under q two.0, no_entry now q two.1)) in
+    let two = among_neither (finite.keys under) (finite.keys now) q one.1 in (one.0, (no_difference under q two.0, no_difference now q two.1)) in
     let but : IsLeanBut at all live ms = either c.refresh_base-done.result _ _ _
     (λ is. lean_refreshed live ls at p c.requires.rooted c.requires.child c.requires.within c.requires.parent c.requires.earlier all none ms e.long is stay
     lean)

@@ -10,7 +10,7 @@ use Rattle.clr_workspaces.specs.Operations.{change_marks, own_changes}
 use Rattle.clr_workspaces.specs.Workspaces.{workspace_at}
 use Rattle.clr_contents.specs.Lean.{StayOwnButNear}
 use Rattle.clr_contents.specs.Pinning.{StayOwnBut}
-use Rattle.clr_contents.proofs.ComparedLemmas.{among_neither, no_entry}
+use Rattle.clr_contents.proofs.ComparedLemmas.{among_neither, no_difference}
 use Rattle.clr_operations.proofs.LeanLemmas.{but_mark_moved, near_children, near_none, near_restarted}
 use Rattle.std.proofs.lemmas.List.{length-set}
 use Rattle.clr_workspaces.specs.Roots.{IsRooted}
@@ -115,7 +115,7 @@ returns-clause-elsewhere c =
     let base = finite.keys (delta_at ls at).base in
     let old = finite.keys (delta_at ls at).current in
     let both = among_neither (cells_in c.args.rows.items) (base ++ old) q (ap (λ (qs : List CellId). is_among qs q) (sym c.requires.cells) ∙ apart) in
-    (both.0, no_entry (delta_at ls at).base q (among_neither base old q both.1).0) in
+    (both.0, no_difference (delta_at ls at).base q (among_neither base old q both.1).0) in
     subst (StayOwnButNear at all ls) (sym c.restart.ensures)
     (near_restarted at all ls gs _ c.args.rows.items (omega (arith, c.requires.within, long, more.long)) (near_none at p all ls hs gs held moved)
     c.in_ok-differences.ensures none)

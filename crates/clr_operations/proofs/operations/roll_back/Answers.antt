@@ -14,7 +14,7 @@ use Rattle.clr_operations.proofs.OperationLemmas.{children_both, rolled, rolled_
 use Rattle.clr_contents.specs.Pinning.{StayOwnBut}
 use Rattle.clr_differences.specs.Differences.{is_among}
 use Rattle.std.proofs.lemmas.List.{length-set}
-use Rattle.clr_contents.proofs.ComparedLemmas.{among_neither, no_entry}
+use Rattle.clr_contents.proofs.ComparedLemmas.{among_neither, no_difference}
 use Rattle.clr_operations.proofs.LeanLemmas.{but_rolled, near_children, near_own}
 use Rattle.clr_operations.proofs.operations.roll_back.Goals as goal
 
@@ -71,7 +71,7 @@ returns-clause-elsewhere c =
     let hs = c.pin_children.new.map in
     let long = c.pin_children.ensures.extends.long in
     let none : (q : CellId) → is_among all q ≡ false → finite.get c.args.differences q ≡ None = λ q apart.
-    no_entry c.args.differences q (among_neither (finite.keys c.args.differences) (finite.keys (delta_at ls at).current) q
+    no_difference c.args.differences q (among_neither (finite.keys c.args.differences) (finite.keys (delta_at ls at).current) q
     (ap (λ (cs : List CellId). is_among cs q) (sym c.requires.cells) ∙ apart)).0 in
     near_own at all all ls hs c.roll_to.new.self refl (near_children at all all ls hs refl c.pin_children.ensures.elsewhere)
     (subst (StayOwnBut at all hs) (sym c.roll_to.ensures) (but_rolled hs at c.args.differences (suc c.args.mark) all (omega (arith, c.requires.within, long))

@@ -8,7 +8,7 @@ use Rattle.clr_deltas.proofs.Answered.{on_ok, on_err}
 use Rattle.clr_workspaces.specs.Roots.{IsRooted}
 use Rattle.clr_contents.specs.Lean.{IsLeanBut, StayOwnButNear}
 use Rattle.clr_workspaces.specs.Operations.{roll_to}
-use Rattle.clr_contents.proofs.ComparedLemmas.{among_neither, no_entry}
+use Rattle.clr_contents.proofs.ComparedLemmas.{among_neither, no_difference}
 use Rattle.clr_operations.proofs.LeanLemmas.{lean_rolled, lean_still}
 use Rattle.clr_deltas.proofs.Answered.{either}
 use Rattle.clr_workspaces.proofs.RootLemmas.{rooted_set}
@@ -52,7 +52,7 @@ returns-clause-lean c = λ lean.
     let cells = c.as_slice-4.ensures.value ∙ c.in_ok-cells.ensures ∙ joined in
     let stay = subst (λ (qs : List CellId). StayOwnButNear at qs ls ms) moved e.elsewhere in
     let none : (q : CellId) → is_among all q ≡ false → (finite.get d q ≡ None) × (finite.get now q ≡ None) = λ q apart.
-    let both = among_neither (finite.keys d) (finite.keys now) q apart in (no_entry d q both.0, no_entry now q both.1) in
+    let both = among_neither (finite.keys d) (finite.keys now) q apart in (no_difference d q both.0, no_difference now q both.1) in
     let but : IsLeanBut at all live ms = either c.roll_back-done.result _ _ _
     (λ is. lean_rolled live ls at c.requires.rooted c.requires.child c.requires.within c.args.mark all ms c.requires.saved none e.long is stay lean)
     (λ is. lean_still live live ls ms at all c.requires.rooted c.requires.within is stay lean) e.ok e.err in

@@ -1,5 +1,5 @@
 use Rattle.std.proofs.Common.{◌≡◌, ◌++◌, ◌∷◌, [], ap, sym, ◌∙◌, arith}
-use Rattle.clr_deltas.specs.Entries.{delta_of, delta_under, stored_delta}
+use Rattle.clr_deltas.specs.NamedDeltas.{delta_of, delta_under, stored_delta}
 use Rattle.clr_deltas.specs.Deltas.{Delta, find_delta, wholes}
 use Rattle.clr_workspaces.specs.Marks.{Name}
 use Rattle.clr_deltas.proofs.Meaning.{find-wholes, length-wholes}

@@ -1,7 +1,7 @@
 use Rattle.std.proofs.Common.{◌≡◌, [], map, ap, sym, ◌∙◌, subst, arith}
 use Rattle.std.proofs.lemmas.List.{nil_from_length}
 use Rattle.std.specs.Vec.Iter.{into_iter_items}
-use Rattle.clr_deltas.specs.Entries.{stored_delta}
+use Rattle.clr_deltas.specs.NamedDeltas.{stored_delta}
 use Rattle.clr_parts.specs.Parts.{spaces_of, first_part_name_fault, number_of, IsFirstPartFault}
 use Rattle.clr_parts.proofs.DeltaLemmas.{pushed_first, pushed_rooted, pushed_next, pushed_not, pushed_all}
 use Rattle.clr_parts.proofs.delta_builds.push_deltas.Goals as goal

@@ -1,6 +1,6 @@
 use Rattle.std.proofs.Common.{map}
 use Rattle.std.specs.Vec.Iter.{into_iter_items}
-use Rattle.clr_deltas.specs.Entries.{stored_delta}
+use Rattle.clr_deltas.specs.NamedDeltas.{stored_delta}
 use Rattle.clr_parts.specs.Parts.{spaces_of}
 use Rattle.clr_parts.proofs.DeltaLemmas.{ArePushed}
 use Rattle.clr_parts.proofs.delta_builds.push_deltas.Given as goal

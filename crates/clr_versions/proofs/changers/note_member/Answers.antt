@@ -26,11 +26,11 @@ loop-cell-preserved c =
     let found = kept_at c.loop-cell.changers in
     let next = kept_at c.insert.new.self in
     let left = c.next.new.self in
-    let entries = rest_more deref_pair c.loop-cell.cell-iterator left c.next.result (c.in-Some.cell, c.in-Some.field-0-1) c.in-Some.is c.next.ensures.steps in
+    let changes = rest_more deref_pair c.loop-cell.cell-iterator left c.next.result (c.in-Some.cell, c.in-Some.field-0-1) c.in-Some.is c.next.ensures.steps in
     let key = c.key_of-key.ensures in
     let before_it = found_at c.loop-cell.changers c.in-Some.cell.now c.key_of-key.result _ key (c.copied.ensures ∙ c.get.ensures.value) in
     let made = c.with_member-noted.ensures ∙ ap (λ x. with_member x c.args.position) before_it in
-    let before = subst (λ (es : List (CellId × Change)). IsNoting sets c.args.position found (cells_of es)) entries c.loop-cell.invariant in
+    let before = subst (λ (es : List (CellId × Change)). IsNoting sets c.args.position found (cells_of es)) changes c.loop-cell.invariant in
     let steps = λ (q : CellId). c.in_ok-insert.ensures.updates.0 (key_of q)
     ∙ ap (λ (k : ℕ × ℤ). if are_same_keys k (key_of q) then Some c.with_member-noted.result else found q) key
     ∙ ap (λ (m : Changers). if is_cell c.in-Some.cell.now q then Some m else found q) made in

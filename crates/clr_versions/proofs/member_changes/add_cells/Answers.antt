@@ -18,9 +18,9 @@ loop-cell-preserved c =
     let old = c.args.cells.now.items in
     let before = c.loop-cell.cells.items in
     let left = c.next.new.self in
-    let entries = rest_more deref_pair c.loop-cell.cell-iterator left c.next.result (c.in-Some.cell, c.in-Some.field-0-1) c.in-Some.is c.next.ensures.steps in
+    let changes = rest_more deref_pair c.loop-cell.cell-iterator left c.next.result (c.in-Some.cell, c.in-Some.field-0-1) c.in-Some.is c.next.ensures.steps in
     one_read old (finite.keys c.args.set.now) before _ (c.in-Some.cell.now, c.in-Some.field-0-1.now) left c.in_ok-push.ensures.items
-    (subst (λ (es : List (CellId × Change)). AreReadTo old (finite.keys c.args.set.now) before es) entries c.loop-cell.invariant)
+    (subst (λ (es : List (CellId × Change)). AreReadTo old (finite.keys c.args.set.now) before es) changes c.loop-cell.invariant)
 
 pub returns-clause-ok : goal.returns-clause-ok
 returns-clause-ok c =

@@ -15,7 +15,7 @@ pub may_serve_part-requires-clause-server : goal.may_serve_part-requires-clause-
 may_serve_part-requires-clause-server c = second_sound c.args.self.now.book.now (held_of c.args.first) (held_of c.in-Some.server)
     (map held_of c.args.self.now.rows.now)
     (fit_beside c.args.self.now.book.now (held_of c.args.first) (held_of c.in-Some.server) (map held_of c.args.self.now.rows.now) c.requires.fit
-    (at_among (map held_of c.args.self.now.rows.now) c.args.entry.position (held_of c.in-Some.server) (sym c.row_at.ensures
+    (at_among (map held_of c.args.self.now.rows.now) c.args.filed_part.position (held_of c.in-Some.server) (sym c.row_at.ensures
     ∙ ap (option_map held_of) c.in-Some.is)))
 
 pub returns-in-Some : goal.returns-in-Some

@@ -3,7 +3,7 @@ use Rattle.std.specs.FinMap as finite
 use Rattle.clr_rows.specs.Cells.{cell_cmp}
 use Rattle.clr_rows.specs.Contents.{Changes}
 use Rattle.clr_rows.proofs.CellOrder.{cell_cmp_total, cell_cmp_exact}
-use Rattle.clr_rows.proofs.Entries.{one_taken, sorted_from_ordered}
+use Rattle.clr_rows.proofs.SortedMaps.{one_taken, sorted_from_ordered}
 use Rattle.clr_change.specs.ChangeSets.{AreDifferent}
 use Rattle.clr_rows.proofs.FitLemmas.{take_keeps}
 use Rattle.clr_change.proofs.SetLemmas.{is_different}

@@ -2,7 +2,7 @@ use Rattle.std.proofs.Common.{List, ◌∙◌, ap}
 use Rattle.std.specs.Prelude.{count_by}
 use Rattle.std.specs.Str.{bytes_eq}
 use Rattle.clr_deltas.specs.Deltas.{Delta}
-use Rattle.clr_deltas.proofs.EntryLemmas.{children_here}
+use Rattle.clr_deltas.proofs.NamedDeltaLemmas.{children_here}
 use Rattle.clr_deltas.proofs.workspace_maps.WorkspaceMap.children.Goals as goal
 
 pub returns : goal.returns

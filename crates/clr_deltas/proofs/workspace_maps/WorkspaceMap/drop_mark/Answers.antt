@@ -1,7 +1,7 @@
 use Rattle.std.specs.Prelude.{remove}
 use Rattle.clr_deltas.specs.Deltas.{Delta}
-use Rattle.clr_deltas.specs.Entries.{delta_of}
-use Rattle.clr_deltas.proofs.EntryLemmas.{changed}
+use Rattle.clr_deltas.specs.NamedDeltas.{delta_of}
+use Rattle.clr_deltas.proofs.NamedDeltaLemmas.{changed}
 use Rattle.clr_deltas.proofs.workspace_maps.WorkspaceMap.drop_mark.Goals as goal
 
 pub returns : goal.returns

@@ -1,6 +1,6 @@
 use Rattle.std.proofs.Common.{◌∙◌, ap}
 use Rattle.clr_deltas.specs.Deltas.{find_delta}
-use Rattle.clr_deltas.proofs.EntryLemmas.{find_key}
+use Rattle.clr_deltas.proofs.NamedDeltaLemmas.{find_key}
 use Rattle.clr_deltas.proofs.workspace_maps.WorkspaceMap.find.Goals as goal
 
 pub returns-clause-found : goal.returns-clause-found

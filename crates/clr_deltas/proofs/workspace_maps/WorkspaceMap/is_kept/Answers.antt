@@ -1,6 +1,6 @@
 use Rattle.std.proofs.Common.{[], ap, sym, ◌∙◌}
 use Rattle.clr_deltas.specs.Deltas.{Delta, delta_at}
-use Rattle.clr_deltas.proofs.EntryLemmas.{value_at}
+use Rattle.clr_deltas.proofs.NamedDeltaLemmas.{value_at}
 use Rattle.clr_deltas.proofs.workspace_maps.WorkspaceMap.is_kept.Goals as goal
 
 pub returns : goal.returns

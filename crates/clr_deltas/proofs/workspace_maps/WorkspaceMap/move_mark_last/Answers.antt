@@ -2,9 +2,9 @@ use Rattle.std.proofs.Common.{◌++◌, ◌∷◌, []}
 use Rattle.clr_deltas.specs.declared.stored_marks.StoredMark.TheVariants.{Child}
 use Rattle.clr_deltas.specs.Deltas.{stored_without_mark_of}
 use Rattle.clr_deltas.specs.Deltas.{Delta}
-use Rattle.clr_deltas.specs.Entries.{delta_of}
+use Rattle.clr_deltas.specs.NamedDeltas.{delta_of}
 use Rattle.clr_deltas.proofs.Answered.{on_ok, on_err}
-use Rattle.clr_deltas.proofs.EntryLemmas.{changed, stays}
+use Rattle.clr_deltas.proofs.NamedDeltaLemmas.{changed, stays}
 use Rattle.clr_deltas.proofs.workspace_maps.WorkspaceMap.move_mark_last.Goals as goal
 
 pub returns-clause-ok : goal.returns-clause-ok

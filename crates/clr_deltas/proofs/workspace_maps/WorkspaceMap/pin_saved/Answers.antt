@@ -3,7 +3,7 @@ use Rattle.std.proofs.lemmas.List.{get_or-set_same}
 use Rattle.clr_deltas.specs.declared.stored_marks.StoredMark.{StoredMark}
 use Rattle.clr_deltas.specs.Deltas.{Delta, no_delta, delta_at, delta_changed, whole_mark, EachMarkPins, AreOwnOver}
 use Rattle.clr_deltas.proofs.Answered.{on_ok}
-use Rattle.clr_deltas.proofs.EntryLemmas.{changed, entry_at}
+use Rattle.clr_deltas.proofs.NamedDeltaLemmas.{changed, named_at}
 use Rattle.clr_deltas.proofs.workspace_maps.WorkspaceMap.pin_saved.Goals as goal
 
 pub returns-clause-others : goal.returns-clause-others
@@ -24,7 +24,7 @@ returns-clause-seen c = λ base row.
     c.pair_mut-delta.ensures.value refl in
     let is = ap (λ (ls : List Delta). (delta_at ls c.args.at).marks) set
     ∙ ap (λ (l : Delta). l.marks) (get_or-set_same c.args.self.now c.args.at _ no_delta c.requires) in
-    let was = ap (λ (l : Delta). l.marks) (entry_at c.self.inside.map.entries c.args.self.now c.args.at (k, v) c.self.view_is c.pair_mut-delta.ensures.value) in
+    let was = ap (λ (l : Delta). l.marks) (named_at c.self.inside.map.entries c.args.self.now c.args.at (k, v) c.self.view_is c.pair_mut-delta.ensures.value) in
     ap (map (whole_mark base)) is ∙ c.pin_each.ensures.seen base row ∙ ap (map (whole_mark base)) (sym was)
 
 pub returns-clause-pinned : goal.returns-clause-pinned
@@ -45,5 +45,5 @@ returns-clause-elsewhere c = λ q apart base own.
     c.pair_mut-delta.ensures.value refl in
     let is = ap (λ (ls : List Delta). (delta_at ls c.args.at).marks) set
     ∙ ap (λ (l : Delta). l.marks) (get_or-set_same c.args.self.now c.args.at _ no_delta c.requires) in
-    let was = ap (λ (l : Delta). l.marks) (entry_at c.self.inside.map.entries c.args.self.now c.args.at (k, v) c.self.view_is c.pair_mut-delta.ensures.value) in
+    let was = ap (λ (l : Delta). l.marks) (named_at c.self.inside.map.entries c.args.self.now c.args.at (k, v) c.self.view_is c.pair_mut-delta.ensures.value) in
     subst (AreOwnOver base q) (sym is) (c.pin_each.ensures.others q apart base (subst (AreOwnOver base q) was own))

@@ -1,7 +1,7 @@
 use Rattle.std.proofs.Common.{◌++◌, ◌∷◌, [], ◌∙◌, ap, string_bytes}
 use Rattle.clr_deltas.specs.Deltas.{find_delta}
-use Rattle.clr_deltas.specs.Entries.{deltas_of, delta_of}
-use Rattle.clr_deltas.proofs.EntryLemmas.{insert_last}
+use Rattle.clr_deltas.specs.NamedDeltas.{deltas_of, delta_of}
+use Rattle.clr_deltas.proofs.NamedDeltaLemmas.{insert_last}
 use Rattle.clr_deltas.proofs.workspace_maps.WorkspaceMap.push.Goals as goal
 
 pub returns-clause-ok : goal.returns-clause-ok

@@ -1,8 +1,8 @@
 use Rattle.std.specs.FinMap as finite
 use Rattle.clr_deltas.specs.Deltas.{Delta}
-use Rattle.clr_deltas.specs.Entries.{delta_of}
+use Rattle.clr_deltas.specs.NamedDeltas.{delta_of}
 use Rattle.clr_deltas.proofs.Answered.{on_ok, on_err}
-use Rattle.clr_deltas.proofs.EntryLemmas.{changed, stays}
+use Rattle.clr_deltas.proofs.NamedDeltaLemmas.{changed, stays}
 use Rattle.clr_deltas.proofs.workspace_maps.WorkspaceMap.put_current.Goals as goal
 
 pub returns-clause-ok : goal.returns-clause-ok

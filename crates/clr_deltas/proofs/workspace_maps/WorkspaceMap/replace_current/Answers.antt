@@ -1,6 +1,6 @@
 use Rattle.clr_deltas.specs.Deltas.{Delta}
-use Rattle.clr_deltas.specs.Entries.{delta_of}
-use Rattle.clr_deltas.proofs.EntryLemmas.{changed}
+use Rattle.clr_deltas.specs.NamedDeltas.{delta_of}
+use Rattle.clr_deltas.proofs.NamedDeltaLemmas.{changed}
 use Rattle.clr_deltas.proofs.workspace_maps.WorkspaceMap.replace_current.Goals as goal
 
 pub returns-clause-new : goal.returns-clause-new

@@ -1,7 +1,7 @@
 use Rattle.clr_differences.specs.Differences.{put_each}
 use Rattle.clr_deltas.specs.Deltas.{Delta}
-use Rattle.clr_deltas.specs.Entries.{delta_of}
-use Rattle.clr_deltas.proofs.EntryLemmas.{changed}
+use Rattle.clr_deltas.specs.NamedDeltas.{delta_of}
+use Rattle.clr_deltas.proofs.NamedDeltaLemmas.{changed}
 use Rattle.clr_deltas.proofs.workspace_maps.WorkspaceMap.set_current.Goals as goal
 
 pub returns : goal.returns

@@ -2,8 +2,8 @@ use Rattle.std.specs.Prelude.{filter}
 use Rattle.clr_differences.specs.Differences.{put_each, no_differences}
 use Rattle.clr_deltas.specs.Deltas.{is_stored_child}
 use Rattle.clr_deltas.specs.Deltas.{Delta}
-use Rattle.clr_deltas.specs.Entries.{delta_of}
-use Rattle.clr_deltas.proofs.EntryLemmas.{changed}
+use Rattle.clr_deltas.specs.NamedDeltas.{delta_of}
+use Rattle.clr_deltas.proofs.NamedDeltaLemmas.{changed}
 use Rattle.clr_deltas.proofs.workspace_maps.WorkspaceMap.take_over.Goals as goal
 
 pub returns : goal.returns

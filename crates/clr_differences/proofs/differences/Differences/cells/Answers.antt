@@ -5,12 +5,12 @@ use Rattle.std.specs.FinMap as finite
 use Rattle.clr_rows.specs.declared.cells.CellId.{CellId}
 use Rattle.clr_rows.specs.declared.rows.Row.{Row}
 use Rattle.clr_rows.specs.Cells.{cell_cmp}
-use Rattle.clr_differences.specs.Differences.{Differences, RowEntries, cells_in}
+use Rattle.clr_differences.specs.Differences.{Differences, RowsByCell, cells_in}
 use Rattle.clr_differences.proofs.differences.Differences.cells.Goals as goal
 
-pushed : (so_far : List CellId) (cell : CellId) (row : Option Row) (left all : RowEntries) → all ≡ (cell, row) ∷ left
+pushed : (so_far : List CellId) (cell : CellId) (row : Option Row) (left all : RowsByCell) → all ≡ (cell, row) ∷ left
     → (so_far ++ cell ∷ []) ++ cells_in left ≡ so_far ++ cells_in all
-pushed so_far cell row left all rest = append_assoc so_far (cell ∷ []) _ ∙ ap (λ (es : RowEntries). so_far ++ cells_in es) (sym rest)
+pushed so_far cell row left all rest = append_assoc so_far (cell ∷ []) _ ∙ ap (λ (es : RowsByCell). so_far ++ cells_in es) (sym rest)
 
 pub loop-cell-init : goal.loop-cell-init
 loop-cell-init c =

@@ -1,7 +1,7 @@
 use Rattle.std.proofs.Common.{sym, ◌∙◌, ap}
 use Rattle.std.specs.FinMap as finite
 use Rattle.clr_rows.specs.Cells.{cell_cmp}
-use Rattle.clr_rows.proofs.Entries.{get_sorted}
+use Rattle.clr_rows.proofs.SortedMaps.{get_sorted}
 use Rattle.clr_differences.specs.Differences.{Differences}
 use Rattle.clr_differences.proofs.differences.Differences.get.Goals as goal
 

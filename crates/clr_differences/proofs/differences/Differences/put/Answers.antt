@@ -3,7 +3,7 @@ use Rattle.std.proofs.lemmas.Bool.{false≢true}
 use Rattle.std.specs.FinMap as finite
 use Rattle.clr_rows.specs.Cells.{cell_cmp}
 use Rattle.clr_rows.proofs.CellOrder.{cell_cmp_total, cell_cmp_exact}
-use Rattle.clr_rows.proofs.Entries.{get_sorted, one_put, sorted_from_ordered}
+use Rattle.clr_rows.proofs.SortedMaps.{get_sorted, one_put, sorted_from_ordered}
 use Rattle.clr_differences.specs.Differences.{Differences}
 use Rattle.clr_differences.proofs.differences.Differences.put.Goals as goal
 

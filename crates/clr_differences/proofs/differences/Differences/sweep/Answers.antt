@@ -1,8 +1,8 @@
 use Rattle.std.proofs.Common.{rules, ap, ◌∙◌}
 use Rattle.clr_rows.specs.Cells.{cell_cmp}
-use Rattle.clr_rows.proofs.Entries.{sorted_from_ordered}
+use Rattle.clr_rows.proofs.SortedMaps.{sorted_from_ordered}
 use Rattle.clr_differences.specs.Differences.{Differences, is_own, without_neutral}
-use Rattle.clr_differences.proofs.SweepLemmas.{filtered_from_retain, swept_entries}
+use Rattle.clr_differences.proofs.SweepLemmas.{filtered_from_retain, swept_differences}
 use Rattle.clr_differences.proofs.differences.Differences.sweep.Goals as goal
 
 pub invariant_of-self : goal.invariant_of-self
@@ -11,6 +11,6 @@ invariant_of-self g c = sorted_from_ordered cell_cmp c.retain.new.self.entries c
 pub returns : goal.returns
 returns g c =
     let below = g.V.RowView.content c.args.below.now in
-    swept_entries below c.self.inside.rows.entries c.retain.new.self.entries c.self.invariant
+    swept_differences below c.self.inside.rows.entries c.retain.new.self.entries c.self.invariant
     (filtered_from_retain _ (is_own below) _ (λ k v b w f call. search rules) _ _ c.retain.ensures.filtered)
     ∙ ap (λ (d : Differences). without_neutral below d) c.self.view_is

@@ -2,7 +2,7 @@ use Rattle.std.proofs.Common.{◌∙◌, ap}
 use Rattle.std.specs.FinMap as finite
 use Rattle.clr_rows.specs.Cells.{cell_cmp}
 use Rattle.clr_rows.proofs.CellOrder.{cell_cmp_total, cell_cmp_exact}
-use Rattle.clr_rows.proofs.Entries.{one_taken, sorted_from_ordered}
+use Rattle.clr_rows.proofs.SortedMaps.{one_taken, sorted_from_ordered}
 use Rattle.clr_differences.specs.Differences.{Differences}
 use Rattle.clr_differences.proofs.differences.Differences.take.Goals as goal
 

@@ -19,12 +19,12 @@ loop-cell-preserved c =
     let old = c.args.self.now in
     let all = c.into_iter-cell-iterator.result in
     let left = c.next.new.self in
-    let entries : c.loop-cell.cell-iterator ≡ c.in-Some.cell.now ∷ left = search rules in
+    let rest : c.loop-cell.cell-iterator ≡ c.in-Some.cell.now ∷ left = search rules in
     record {
       whole = search rules;
       so_far = subst (λ (n : Cells). IsAddedTo old all n left) (sym c.in_ok-add.ensures.ok)
           (added_next old all c.loop-cell.self c.in-Some.cell.now left
-          (subst (λ (cells : List CellId). IsAddedTo old all c.loop-cell.self cells) entries c.loop-cell.invariant.so_far));
+          (subst (λ (cells : List CellId). IsAddedTo old all c.loop-cell.self cells) rest c.loop-cell.invariant.so_far));
     }
 
 pub returns-in_err-add-clause-err : goal.returns-in_err-add-clause-err

@@ -2,7 +2,7 @@ use Rattle.std.proofs.Common.{Contains, List, subst, sym}
 use Rattle.clr_rows.specs.declared.cells.CellId.{CellId}
 use Rattle.clr_rules.proofs.Elements.{contained}
 use Rattle.clr_finders.specs.Sharing.{found_cells}
-use Rattle.clr_finders.proofs.EntryLemmas.{one_among}
+use Rattle.clr_finders.proofs.PassingCells.{one_among}
 use Rattle.clr_finders.proofs.NextLemmas.{found_met}
 use Rattle.clr_grid.specs.Filing.{AreNear}
 use Rattle.clr_row_maps.specs.RowMaps.{FiledRows}

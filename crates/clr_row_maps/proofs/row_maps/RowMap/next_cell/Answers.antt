@@ -4,21 +4,21 @@ use Rattle.std.specs.Prelude.{slice_get}
 use Rattle.clr_rows.specs.declared.cells.CellId.{CellId}
 use Rattle.clr_finders.specs.NextCells.{IsNextOf}
 use Rattle.clr_row_maps.specs.RowMaps.{RowOrNone, FiledRows, settled_of}
-use Rattle.clr_row_maps.proofs.NextLemmas.{cell_at, first_entry_at}
+use Rattle.clr_row_maps.proofs.NextLemmas.{cell_at, first_cell_at}
 use Rattle.clr_row_maps.proofs.row_maps.RowMap.next_cell.Goals as goal
 
 pub returns-in-Some : goal.returns-in-Some
 returns-in-Some c =
-    let entries = c.self.inside.settled.entries in
+    let settled = c.self.inside.settled.entries in
     subst (λ (rows : FiledRows). IsNextOf (λ q. is_some (finite.get rows.settled q) ≡ true) c.args.after (Some c.in-Some.cell.now)) c.self.view_is
-    (subst (λ (r : List (CellId × RowOrNone)). IsNextOf (λ q. is_some (finite.get (settled_of entries) q) ≡ true) c.args.after (cell_at (slice_get r 0)))
+    (subst (λ (r : List (CellId × RowOrNone)). IsNextOf (λ q. is_some (finite.get (settled_of settled) q) ≡ true) c.args.after (cell_at (slice_get r 0)))
     c.in-Some.ensures.steps
-    (first_entry_at c.args.after c.bound_behind.result c.self.inside.settled c.range.result c.bound_behind.ensures (c.range.ensures.in_range tt)))
+    (first_cell_at c.args.after c.bound_behind.result c.self.inside.settled c.range.result c.bound_behind.ensures (c.range.ensures.in_range tt)))
 
 pub returns-in-None : goal.returns-in-None
 returns-in-None c =
-    let entries = c.self.inside.settled.entries in
+    let settled = c.self.inside.settled.entries in
     subst (λ (rows : FiledRows). IsNextOf (λ q. is_some (finite.get rows.settled q) ≡ true) c.args.after None) c.self.view_is
-    (subst (λ (r : List (CellId × RowOrNone)). IsNextOf (λ q. is_some (finite.get (settled_of entries) q) ≡ true) c.args.after (cell_at (slice_get r 0)))
+    (subst (λ (r : List (CellId × RowOrNone)). IsNextOf (λ q. is_some (finite.get (settled_of settled) q) ≡ true) c.args.after (cell_at (slice_get r 0)))
     c.in-None.ensures.steps.0
-    (first_entry_at c.args.after c.bound_behind.result c.self.inside.settled c.range.result c.bound_behind.ensures (c.range.ensures.in_range tt)))
+    (first_cell_at c.args.after c.bound_behind.result c.self.inside.settled c.range.result c.bound_behind.ensures (c.range.ensures.in_range tt)))

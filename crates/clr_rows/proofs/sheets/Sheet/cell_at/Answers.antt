@@ -2,7 +2,7 @@ use Rattle.std.proofs.Common.{List, ◌∙◌, ap}
 use Rattle.std.specs.List.{slice_get}
 use Rattle.clr_rows.specs.declared.cells.CellId.{CellId}
 use Rattle.clr_rows.proofs.CellOrder.{cell_cmp_total}
-use Rattle.clr_rows.proofs.Entries.{held_where, keys-from_sorted}
+use Rattle.clr_rows.proofs.SortedMaps.{held_where, keys-from_sorted}
 use Rattle.clr_rows.proofs.sheets.Sheet.cell_at.Goals as goal
 
 pub returns-clause-position : goal.returns-clause-position

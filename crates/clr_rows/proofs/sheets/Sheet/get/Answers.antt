@@ -1,7 +1,7 @@
 use Rattle.std.proofs.Common.{sym, ◌∙◌, ap}
 use Rattle.clr_rows.specs.Cells.{cell_cmp}
 use Rattle.clr_rows.specs.Contents.{row_at}
-use Rattle.clr_rows.proofs.Entries.{get_sorted}
+use Rattle.clr_rows.proofs.SortedMaps.{get_sorted}
 use Rattle.clr_rows.proofs.sheets.Sheet.get.Goals as goal
 
 pub returns : goal.returns

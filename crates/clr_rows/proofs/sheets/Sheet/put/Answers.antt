@@ -6,7 +6,7 @@ use Rattle.clr_rows.specs.Cells.{cell_cmp}
 use Rattle.clr_rows.specs.Contents.{Content, row_at}
 use Rattle.clr_rows.specs.Ranges.{AreWithin, is_within}
 use Rattle.clr_rows.proofs.CellOrder.{cell_cmp_total, cell_cmp_exact}
-use Rattle.clr_rows.proofs.Entries.{get_sorted, one_put, sorted_from_ordered}
+use Rattle.clr_rows.proofs.SortedMaps.{get_sorted, one_put, sorted_from_ordered}
 use Rattle.clr_rows.proofs.FitLemmas.{put_keeps}
 use Rattle.clr_rows.proofs.sheets.Sheet.put.Goals as goal
 

@@ -11,7 +11,7 @@ use Rattle.clr_rows.proofs.sheets.writes.move_rows.Goals as goal
 
 pub loop-cell-init : goal.loop-cell-init
 loop-cell-init c =
-    let all = c.into_iter-cell-iterator.ensures.into_iter_gives ∙ c.into_entries-cell-items.ensures.rest in
+    let all = c.into_iter-cell-iterator.ensures.into_iter_gives ∙ c.into_rows-cell-items.ensures.rest in
     record {
       so_far = ap (λ (es : List (CellId × Row)). over c.args.sheet.now (with_rows es)) all;
       present = λ cell there. c.requires cell (ap is_some (finite.get-entries c.args.rows cell)

@@ -12,7 +12,7 @@ pub loop-spot-preserved : goal.loop-spot-preserved
 loop-spot-preserved c =
     let old = c.args.self.now.by_spot in
     let xs = c.args.spots.list in
-    let e = c.args.entry in
+    let e = c.args.filed_part in
     let left = into_iter_items c.next.new.self in
     let before = subst (λ (ys : List Spot). IsFiledTo old xs e c.loop-spot.self.by_spot ys) c.in-Some.ensures.steps.0 c.loop-spot.invariant.so_far in
     record {
@@ -27,7 +27,7 @@ pub returns-in_err-file_at-clause-err : goal.returns-in_err-file_at-clause-err
 returns-in_err-file_at-clause-err c =
     let old = c.args.self.now in
     let xs = c.args.spots.list in
-    let e = c.args.entry in
+    let e = c.args.filed_part in
     on_err _ (subst (IsPartlyFiled old e xs c.args.spots.wide) (sym c.in_err-file_at.ensures.err) (record {
       by_spot = filed_some old.by_spot xs e c.loop-spot.self.by_spot (into_iter_items c.loop-spot.spot-iterator) c.loop-spot.invariant.so_far;
       wide = one_begun c.args.spots.wide old.wide e c.loop-spot.self.wide c.loop-spot.invariant.wide;
@@ -36,7 +36,7 @@ returns-in_err-file_at-clause-err c =
 
 pub returns-in_err-push-clause-err : goal.returns-in_err-push-clause-err
 returns-in_err-push-clause-err c =
-    let filed : IsPartlyFiled c.args.self.now c.args.entry c.args.spots.list c.args.spots.wide
+    let filed : IsPartlyFiled c.args.self.now c.args.filed_part c.args.spots.list c.args.spots.wide
     (map_type.the_view (record { by_spot = c.self.inside.by_spot; wide = c.self.inside.wide; all = c.push.new.self })) = record {
       by_spot = (0, search rules);
       wide = none_begun c.args.self.now.wide _ _ (search rules);
@@ -46,7 +46,7 @@ returns-in_err-push-clause-err c =
 
 pub returns-in_err-push-2-clause-err : goal.returns-in_err-push-2-clause-err
 returns-in_err-push-2-clause-err c =
-    let filed : IsPartlyFiled c.args.self.now c.args.entry c.args.spots.list c.args.spots.wide
+    let filed : IsPartlyFiled c.args.self.now c.args.filed_part c.args.spots.list c.args.spots.wide
     (map_type.the_view (record { by_spot = c.self.inside.by_spot; wide = c.push-then-spots.new.self; all = c.push.new.self })) = record {
       by_spot = (0, search rules);
       wide = none_begun c.args.self.now.wide _ _ (search rules);

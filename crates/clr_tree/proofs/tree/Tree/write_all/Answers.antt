@@ -1,5 +1,5 @@
 use Rattle.std.proofs.Common.{ap, sym, subst, ◌∙◌}
-use Rattle.clr_differences.specs.Differences.{RowEntries}
+use Rattle.clr_differences.specs.Differences.{RowsByCell}
 use Rattle.clr_operations.specs.Moves.{put_into}
 use Rattle.clr_workspaces.specs.Operations.{after_write}
 use Rattle.clr_workspaces.proofs.TreeLemmas.{sound_current}
@@ -23,7 +23,7 @@ invariant_of-self c =
     let in_ls = within_tree c.self.inside.live c.self.inside.map c.args.self.now c.args.at c.self.view_is c.requires in
     let lt = within_wholes live ls at in_ls in
     let s = c.self.invariant.0 in (
-      either c.write_rows.result _ _ _ (λ is. subst IsSound (sym (is ∙ ap (λ (rs : RowEntries). put_into ws at rs) c.in_ok-rows.ensures))
+      either c.write_rows.result _ _ _ (λ is. subst IsSound (sym (is ∙ ap (λ (rs : RowsByCell). put_into ws at rs) c.in_ok-rows.ensures))
           (sound_current ws at s lt _)) (λ is. subst IsSound (sym is) s) c.write_rows.ensures.ok c.write_rows.ensures.err,
       λ flag. c.write_rows.ensures.lean (c.self.invariant.1 flag),
     )
@@ -38,7 +38,7 @@ returns-clause-ok c =
     let lt = within_wholes live ls at in_ls in
     let s = c.self.invariant.0 in
     on_ok c.write_rows.result _ _ (λ is. became live c.write_rows.new.live ls c.write_rows.new.map c.args.self.now
-    (λ ws. after_write ws c.args.at c.args.changed.now) c.self.view_is (is ∙ ap (λ (rs : RowEntries). put_into ws at rs) c.in_ok-rows.ensures))
+    (λ ws. after_write ws c.args.at c.args.changed.now) c.self.view_is (is ∙ ap (λ (rs : RowsByCell). put_into ws at rs) c.in_ok-rows.ensures))
     c.write_rows.ensures.ok
 
 pub returns-clause-err : goal.returns-clause-err

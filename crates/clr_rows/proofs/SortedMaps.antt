@@ -1,4 +1,4 @@
--- A finite map by its entries in the order of their keys.
+-- A finite map by its pairs of a key and a value, in the order of keys.
 use Rattle.std.proofs.Common.{◌≡◌, ℕ, suc, zero, Bool, true, cond, T, List, [], ◌∷◌, map, Option, Some, None, refl, sym, ap, subst, ◌∙◌}
 use Rattle.std.proofs.lemmas.Bool.{or_right}
 use Rattle.std.specs.List.{AllByRecursion}
@@ -31,12 +31,12 @@ module _ {K X : Type 0} (R : K → K → Ordering) where
   find_row [] q = refl
   find_row (e ∷ es) q = ap (cond (is_at (R q) e.0) (Some e.1)) (find_row es q)
 
-  -- what the map that sorted entries make has at a key
+  -- what the map that sorted pairs make has at a key
   pub get_sorted : (es : List (K × X)) (q : K) → T (is_sorted R es) → get (from_sorted {R = R} es) q ≡ lookup (is_at (R q)) es
   get_sorted es q h = get-from_sorted R es q h ∙ find_row es q
 
 module _ {K X : Type 0} {R : K → K → Ordering} (o : IsTotalOrder R) (exact : IsAntisymmetric R) where
-  -- entries that differ at one key make maps that differ there
+  -- pairs that differ at one key make maps that differ there
   pub one_put : (es fs : List (K × X)) (s : K) (n : X) → T (is_sorted R es) → T (is_sorted R fs)
       → ((q : K) → lookup (is_at (R q)) fs ≡ cond (is_at (R s) q) (Some n) (lookup (is_at (R q)) es)) → from_sorted {R = R} fs ≡ insert (from_sorted es) s n
   one_put es fs s n se sf h = same_map o exact _ _ (λ q.
@@ -49,9 +49,9 @@ module _ {K X : Type 0} {R : K → K → Ordering} (o : IsTotalOrder R) (exact :
       get_sorted R fs q sf ∙ h q ∙ ap (λ b. cond b None (lookup (is_at (R q)) es)) ((eq_by_cmp_equiv o).symm s q)
       ∙ sym (get-remove o (from_sorted es) s q ∙ ap (cond (eq_by_cmp R q s) None) (get_sorted R es q se)))
 
--- no entries make the empty map
-pub from_no_entries : {K X : Type 0} {R : K → K → Ordering} → IsTotalOrder R → IsAntisymmetric R → from_sorted {K = K} {X = X} {R = R} [] ≡ empty
-from_no_entries {R = R} o exact = same_map o exact _ _ (λ q. get-from_sorted R [] q tt ∙ sym (get-empty R q))
+-- no pairs make the empty map
+pub from_sorted-empty : {K X : Type 0} {R : K → K → Ordering} → IsTotalOrder R → IsAntisymmetric R → from_sorted {K = K} {X = X} {R = R} [] ≡ empty
+from_sorted-empty {R = R} o exact = same_map o exact _ _ (λ q. get-from_sorted R [] q tt ∙ sym (get-empty R q))
 
 -- an element that passes the test
 pub any_at : {A : Type 0} (p : A → Bool) (xs : List A) (i : ℕ) (x : A) → slice_get xs i ≡ Some x → p x ≡ true → list_any p xs ≡ true
@@ -70,7 +70,7 @@ pub held_where : {K X : Type 0} {R : K → K → Ordering} → IsTotalOrder R �
 held_where o m i None e = tt
 held_where o m i (Some k) e = held_at o m i k (sym e)
 
--- the keys of sorted entries are those of the map that they make
+-- the keys of sorted pairs are those of the map that they make
 pub keys-from_sorted : {K X : Type 0} {R : K → K → Ordering} (es : List (K × X)) (m : FinMap R X) → T (is_sorted R es) → from_sorted es ≡ m → map (λ e. e.0) es
     ≡ keys m
 keys-from_sorted {K = K} {X = X} {R = R} es m ascending is = ap (λ (xs : List (K × X)). map (λ e. e.0) xs) (sym (entries-from_sorted R es ascending))

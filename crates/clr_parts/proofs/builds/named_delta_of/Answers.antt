@@ -1,10 +1,10 @@
 use Rattle.std.proofs.Common.{List, refl, ap, ◌∙◌}
-use Rattle.clr_deltas.specs.Entries.{delta_of}
+use Rattle.clr_deltas.specs.NamedDeltas.{delta_of}
 use Rattle.clr_deltas.specs.declared.workspace_maps.Delta.{Delta as Parts}
 use Rattle.clr_parts.specs.Parts.{marks_of}
 use Rattle.clr_parts.specs.declared.parts.MarkPart.{MarkPart}
 use Rattle.clr_parts.proofs.BuildLemmas.{whole_part}
-use Rattle.clr_parts.proofs.builds.entry_of.Goals as goal
+use Rattle.clr_parts.proofs.builds.named_delta_of.Goals as goal
 
 pub returns : goal.returns
 returns c =

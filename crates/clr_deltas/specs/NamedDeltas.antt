@@ -1,4 +1,4 @@
--- The deltas that the entries of an indexed map stand for, and stored parts.
+-- The deltas of what an indexed map has by names, and of stored parts.
 use Rattle.std.specs.Prelude.{List, map, String, string_bytes}
 use Rattle.std.specs.declared.alloc.Global.{Global}
 use Rattle.clr_deltas.specs.Deltas.{Delta}
@@ -14,7 +14,7 @@ abbrev pub delta_of : String Global × Parts → Delta
 delta_of e = delta_under (string_bytes e.0) e.1
 
 abbrev pub deltas_of : List (String Global × Parts) → List Delta
-deltas_of entries = map delta_of entries
+deltas_of named = map delta_of named
 
 -- the delta of a part
 abbrev pub stored_delta : StoredPart → Delta

@@ -1,8 +1,8 @@
 use Rattle.std.proofs.Common.{ap, ◌∙◌}
-use Rattle.clr_deltas.specs.Entries.{delta_of}
+use Rattle.clr_deltas.specs.NamedDeltas.{delta_of}
 use Rattle.clr_deltas.specs.Deltas.{wholes}
 use Rattle.clr_parts.proofs.BuildLemmas.{new_delta, part_pushed}
-use Rattle.clr_parts.proofs.builds.push_entry.Goals as goal
+use Rattle.clr_parts.proofs.builds.push_under.Goals as goal
 
 pub push-requires : goal.push-requires
 push-requires c =

@@ -1,7 +1,7 @@
 use Rattle.std.proofs.Common.{◌+◌, [], List, ap, sym, ◌∙◌}
 use Rattle.clr_deltas.specs.Deltas.{Delta, delta_at, stored_in}
-use Rattle.clr_deltas.proofs.EntryLemmas.{value_at}
-use Rattle.clr_deltas.proofs.workspace_maps.WorkspaceMap.count_entries.Goals as goal
+use Rattle.clr_deltas.proofs.NamedDeltaLemmas.{value_at}
+use Rattle.clr_deltas.proofs.workspace_maps.WorkspaceMap.count_differences.Goals as goal
 
 pub returns : goal.returns
 returns c =

@@ -1,4 +1,4 @@
--- The entries of maps by cell, and the cells whose values pass a test.
+-- What maps by cell list, and the cells whose values pass a test.
 use Rattle.std.proofs.Common.{◌≡◌, inl, inr, Bool, true, false, cond, ◌&&◌, T, List, [], ◌∷◌, map, filter, Some, refl, sym, ap, subst, ◌∙◌}
 use Rattle.std.proofs.lemmas.List.Kept.{IsStrictlySortedBy-filter}
 use Rattle.std.specs.Cmp.{Equal-is, tied_itself}
@@ -26,8 +26,8 @@ one_among cells q e =
     subst (λ z. Among z cells) (sym (cell_cmp_exact q k ((Equal-is (cell_cmp q k)).0 tie))) h
 
 module _ {X : Type 0} where
-  abbrev pub entry_cmp : CellId × X → CellId × X → Ordering
-  entry_cmp e f = cell_cmp e.0 f.0
+  abbrev pub listed_cmp : CellId × X → CellId × X → Ordering
+  listed_cmp e f = cell_cmp e.0 f.0
 
   found_in : (q : CellId) (x : X) (es : List (CellId × X)) → find cell_cmp q es ≡ Some x → Among (q, x) es
   found_in q x [] e = absurd (cc)
@@ -53,35 +53,35 @@ module _ {X : Type 0} where
       let apart : eq_by_cmp cell_cmp s.0 e.0 ≡ false = ap is_eq (cell_cmp_total.antisymm s.0 e.0 ∙ ap ordering_reverse less) in
       rw apart (found_back s es c.1 h)
 
-  pub entry_listed : (m : FinMap cell_cmp X) (q : CellId) (x : X) → get m q ≡ Some x → Among (q, x) (entries m)
-  entry_listed m q x e = found_in q x (entries m) (sym (get-entries m q) ∙ e)
+  pub value_listed : (m : FinMap cell_cmp X) (q : CellId) (x : X) → get m q ≡ Some x → Among (q, x) (entries m)
+  value_listed m q x e = found_in q x (entries m) (sym (get-entries m q) ∙ e)
 
-  pub listed_entry : (m : FinMap cell_cmp X) (s : CellId × X) → Among s (entries m) → get m s.0 ≡ Some s.1
-  listed_entry m s h = get-entries m s.0 ∙ found_back s (entries m) (entries_sorted m) h
+  pub listed_value : (m : FinMap cell_cmp X) (s : CellId × X) → Among s (entries m) → get m s.0 ≡ Some s.1
+  listed_value m s h = get-entries m s.0 ∙ found_back s (entries m) (entries_sorted m) h
 
-  entry_list_rises : (es : List (CellId × X)) → T (is_sorted cell_cmp es) → IsStrictlySortedBy entry_cmp es
+  list_rises : (es : List (CellId × X)) → T (is_sorted cell_cmp es) → IsStrictlySortedBy listed_cmp es
   unfolding IsStrictlySortedBy
-  entry_list_rises [] b = tt
-  entry_list_rises (e ∷ es) b =
+  list_rises [] b = tt
+  list_rises (e ∷ es) b =
       let c = both (below_all cell_cmp e.0 es) (is_sorted cell_cmp es) b in
-      (all_by (λ s. cell_cmp e.0 s.0 ≡ Less) es (λ s h. below_among e.0 s es c.0 h), entry_list_rises es c.1)
+      (all_by (λ s. cell_cmp e.0 s.0 ≡ Less) es (λ s h. below_among e.0 s es c.0 h), list_rises es c.1)
 
-  pub entries_rise : (m : FinMap cell_cmp X) → IsStrictlySortedBy entry_cmp (entries m)
-  entries_rise m = entry_list_rises (entries m) (entries_sorted m)
+  pub values_rise : (m : FinMap cell_cmp X) → IsStrictlySortedBy listed_cmp (entries m)
+  values_rise m = list_rises (entries m) (entries_sorted m)
 
-  -- the cells whose entries pass a test, ascending
+  -- the cells that pass a test with their values, ascending
   abbrev pub passing_cells : (CellId × X → Bool) → FinMap cell_cmp X → List CellId
   passing_cells p m = map (λ (e : CellId × X). e.0) (filter p (entries m))
 
   pub passing_rise : (p : CellId × X → Bool) (m : FinMap cell_cmp X) → IsStrictlySortedBy cell_cmp (passing_cells p m)
-  passing_rise p m = rising_mapped entry_cmp cell_cmp (λ (e : CellId × X). e.0) (λ e f less. less) (filter p (entries m))
-      (IsStrictlySortedBy-filter entry_cmp p (entries m) (entries_rise m))
+  passing_rise p m = rising_mapped listed_cmp cell_cmp (λ (e : CellId × X). e.0) (λ e f less. less) (filter p (entries m))
+      (IsStrictlySortedBy-filter listed_cmp p (entries m) (values_rise m))
 
   pub passes_in : (p : CellId × X → Bool) (m : FinMap cell_cmp X) (q : CellId) (x : X) → get m q ≡ Some x → p (q, x) ≡ true → Among q (passing_cells p m)
-  passes_in p m q x e h = mapped_among (λ (e : CellId × X). e.0) (q, x) (filter p (entries m)) (kept_among p (q, x) (entries m) (entry_listed m q x e) h)
+  passes_in p m q x e h = mapped_among (λ (e : CellId × X). e.0) (q, x) (filter p (entries m)) (kept_among p (q, x) (entries m) (value_listed m q x e) h)
 
   pub in_passes : (p : CellId × X → Bool) (m : FinMap cell_cmp X) (q : CellId) → Among q (passing_cells p m) → (x : X) × (get m q ≡ Some x) × (p (q, x) ≡ true)
   in_passes p m q h =
       let (e, k, same) = among_mapped (λ (e : CellId × X). e.0) q (filter p (entries m)) h in
       let f = among_kept p e (entries m) k in
-      (e.1, ap (get m) (sym same) ∙ listed_entry m e f.0, subst (λ c. p (c, e.1) ≡ true) same f.1)
+      (e.1, ap (get m) (sym same) ∙ listed_value m e f.0, subst (λ c. p (c, e.1) ≡ true) same f.1)
