@@ -23,7 +23,7 @@ use Rattle.clr_change.specs.declared.edits.Edit.TheVariants.{Insert, Update, Del
 use Rattle.clr_change.specs.declared.edits.EditFault.{EditFault}
 use Rattle.clr_change.specs.declared.edits.EditFault.TheVariants as fault
 use Rattle.clr_change.specs.Edits.{taken_fault, missing, edit_fault, after_edit, after_edits, first_fault, first_bad_edit, IsMade, FaultIs, IsFirstEditFault}
-use Rattle.clr_change.specs.Edits.{number_of}
+use Rattle.clr_change.specs.Edits.{fault_number}
 
 -- a row set over changes -----------------------------------------------------------------------
 
@@ -169,7 +169,7 @@ module _ (tables : List TableDef) (content : Content) (edits : List Edit) where
       }
 
   pub one_refused : (at : ℕ) (edit : Edit) (old : Changes) (why : EditFault) → at < length edits → edit ≡ get_or edits at edit → IsStagedTo at old
-      → FaultIs tables content edit old why → IsFirstEditFault (first_bad_edit tables content 1 edits) (number_of at why, why)
+      → FaultIs tables content edit old why → IsFirstEditFault (first_bad_edit tables content 1 edits) (fault_number at why, why)
   one_refused at edit old why within is so_far = go why
     where
       first : (why : EditFault) → edit_fault tables (after_edits content (take at edits)) edit ≡ Some why → first_bad_edit tables content 1 edits
@@ -179,7 +179,7 @@ module _ (tables : List TableDef) (content : Content) (edits : List Edit) where
           so_far.passed ∙ ap (first_bad_edit tables current (at + 1)) (drop_more edits at edit within ∙ ap (λ e. e ∷ drop (at + 1) edits) (sym is))
           ∙ first_bad_here tables current (at + 1) edit (drop (at + 1) edits) why e
 
-      go : (why : EditFault) → FaultIs tables content edit old why → IsFirstEditFault (first_bad_edit tables content 1 edits) (number_of at why, why)
+      go : (why : EditFault) → FaultIs tables content edit old why → IsFirstEditFault (first_bad_edit tables content 1 edits) (fault_number at why, why)
       go fault.OutOfMemory h = refl
       go (fault.Row row) h = first (fault.Row row) (h (after_edits content (take at edits)) so_far.staged_is)
       go fault.KeyTaken h = first fault.KeyTaken (h (after_edits content (take at edits)) so_far.staged_is)

@@ -43,9 +43,9 @@ first_bad_edit tables content n [] = None
 first_bad_edit tables content n (edit ∷ edits) = first_fault n (edit_fault tables content edit) (first_bad_edit tables (after_edit content edit) (n + 1) edits)
 
 -- the number in the answer to a fault at this position: edits count from 1, and want of memory is no edit's
-abbrev pub number_of : ℕ → EditFault → ℕ
-number_of at fault.OutOfMemory = 0
-number_of at _ = at + 1
+abbrev pub fault_number : ℕ → EditFault → ℕ
+fault_number at fault.OutOfMemory = 0
+fault_number at _ = at + 1
 
 -- a refusal names the first edit that can't be made, or is 0 for want of memory
 abbrev pub IsFirstEditFault : Option (ℕ × EditFault) → ℕ × EditFault → Type 0
