@@ -119,6 +119,9 @@ impl ChangeSet {
     }
 
     /// Returns the change at a cell, or none.
+    /// For example, where main 1 stays as it is, main 2 gets the code `D` in place of `B`, and main 3 goes, it
+    /// returns none for main 1. For main 2 the row before has the code `B` and the row after has `D`, and for main 3
+    /// there is no row after.
     pub fn get(&self, cell: CellId) -> Option<&Change>
         ensures change { option_copied result ≡ finite.get self.now cell }
         ensures differ { AreDifferent self.now }
@@ -127,6 +130,8 @@ impl ChangeSet {
     }
 
     /// Returns how many cells are changed.
+    /// For example, a new set has 2 changed cells once main 1 is set from the code `A` to `B`, main 2 from no row to
+    /// a row, and main 3 from a row to an equal one.
     pub fn len(&self) -> usize
         ensures { result ≡ length (finite.keys self.now) }
     {
@@ -135,6 +140,8 @@ impl ChangeSet {
 
     /// Returns the changed cell at a position in the order of cells, or none where there are fewer
     /// changes. The cell is found by going over the changes before it.
+    /// For example, where mains 4, 2 and 3 are changed and nothing else, it returns mains 2, 3 and 4 for positions 0,
+    /// 1 and 2, and none for position 3.
     pub fn cell_at(&self, at: usize) -> Option<CellId>
         ensures position { result ≡ slice_get (finite.keys self.now) at }
         ensures held { IfSome result (λ cell. IsSome (finite.get self.now cell)) }

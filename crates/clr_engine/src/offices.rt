@@ -69,6 +69,8 @@ impl Office {
     }
 
     /// Returns the schema of every row and rule.
+    /// For example, where the tables are `node` and `main`, in this order, `table` of the schema returns 0 for `node`
+    /// and 1 for `main`. No command changes that.
     pub fn schema(&self) -> &Schema
         ensures value { result.now ≡ self.now.schema }
         ensures admitted { IsAdmitted self.now }
@@ -77,6 +79,8 @@ impl Office {
     }
 
     /// Returns the rules, which hold in LIVE and in each workspace that is kept.
+    /// For example, where the only rule is that mains cross only at nodes, the book has `len` 1, and its rule 0 is
+    /// this `Crossing`. No command changes that.
     pub fn book(&self) -> &RuleBook
         ensures value { result.now ≡ self.now.book }
         ensures admitted { IsAdmitted self.now }
@@ -85,6 +89,8 @@ impl Office {
     }
 
     /// Returns LIVE's content.
+    /// For example, where LIVE has node 9, and a new workspace `W1` under LIVE deletes it, LIVE still has node 9.
+    /// After a merge of `W1` that is answered `Done`, LIVE doesn't have it.
     pub fn live(&self) -> &Sheet
         ensures value { result.now ≡ self.now.live }
         ensures admitted { IsAdmitted self.now }
@@ -93,6 +99,8 @@ impl Office {
     }
 
     /// Returns how many workspaces there are, LIVE included.
+    /// For example, an office without workspaces under LIVE has 1 workspace, LIVE. It has 2 after a `Create` that is
+    /// answered `Done`.
     pub fn len(&self) -> usize
         ensures count { result ≡ length self.now.workspaces + 1 }
         ensures sound { IsSound (live_workspace self.now.live ∷ self.now.workspaces) }
@@ -102,6 +110,8 @@ impl Office {
 
     /// Returns the name of the workspace at a position in order of creation, LIVE having position
     /// 0, or none past the end.
+    /// For example, where `W1` and then `W2` are created, and no others, it returns `LIVE` for 0, `W1` for 1, `W2`
+    /// for 2 and none for 3.
     pub fn name_at(&self, position: usize) -> Option<&str>
         ensures { option_map (λ name. name.now) result ≡ name_at self.now position }
     {
@@ -113,6 +123,8 @@ impl Office {
     }
 
     /// Returns the name of a workspace's parent, or none for LIVE and for an unknown name.
+    /// For example, where `W1` is under LIVE and `W2` is under `W1`, it returns `LIVE` for `W1`, `W1` for `W2` and
+    /// none for `LIVE`.
     pub fn parent_of(&self, ws: &str) -> Option<&str>
         ensures { option_map (λ name. name.now) result ≡ parent_in self.now ws.now }
     {
@@ -147,6 +159,8 @@ impl Office {
     /// Returns the finder of the rows of LIVE, which has position 0, or of the workspace at a
     /// position, if it is kept. The finder has settled exactly these rows, and nothing is pending
     /// in it.
+    /// For example, a new workspace at position 1 has no finder. It has one after a `Hold` that is answered `Done`,
+    /// and none again after a `Release`. LIVE always has one.
     pub fn finder(&self, position: usize) -> Option<&SpotIndex>
         ensures { IsFinderAt self.now.book (kept_content_at self.now position) (option_copied result) }
     {
@@ -168,6 +182,8 @@ impl Office {
 
     /// Returns the row at a cell in the current content of LIVE or a workspace, or none. It is
     /// none, too, for an unknown name.
+    /// For example, where main 1 has the code `A` in LIVE, and `W1` under LIVE gives it the code `W`, it returns the
+    /// row with `W` for `W1`, the row with `A` for `LIVE`, and none for an unknown `W9`.
     pub fn read(&self, ws: &str, cell: CellId) -> Option<&Row>
         ensures { option_copied result ≡ row_at (content_of self.now ws.now) cell }
     {
@@ -193,6 +209,8 @@ impl Office {
     }
 
     /// Returns a copy of the current content of LIVE or a workspace, or none for an unknown name.
+    /// For example, where LIVE has mains 1 and 2 alone, and a new workspace `W1` under LIVE deletes main 1, it
+    /// returns a sheet of main 2 for `W1`, a sheet of mains 1 and 2 for `LIVE`, and none for an unknown `W9`.
     pub fn rows(&self, ws: &str) -> Result<Option<Sheet>, AllocError>
         ensures { IfOk result (λ rows. rows ≡ if_stands self.now ws.now (content_of self.now ws.now)) }
     {
@@ -204,6 +222,8 @@ impl Office {
 
     /// Returns what a workspace changed, or none for an unknown name: the cells where its base and
     /// its current content differ. LIVE changed nothing.
+    /// For example, where a new workspace `W1` under LIVE deletes node 9 and inserts main 20, its changed cells are
+    /// node 9 and main 20. It returns a set without changes for `LIVE`, and none for an unknown `W9`.
     pub fn changes(&self, ws: &str) -> Result<Option<ChangeSet>, AllocError>
         ensures { IfOk result (λ set. set ≡ if_stands self.now ws.now (changes_in self.now ws.now)) }
     {
@@ -233,6 +253,8 @@ impl Office {
 
     /// Returns the workspace at a position in order of creation, with whole contents, or none for
     /// LIVE, which has position 0, and past the end.
+    /// For example, where `W1` under LIVE is the only workspace beside LIVE, it returns the part with the name `W1`
+    /// and the parent `LIVE` for position 1, and none for positions 0 and 2.
     pub fn part(&self, position: usize) -> Result<Option<Part>, AllocError>
         ensures { IfOk result (λ part. option_map workspace_of part ≡ part_at self.now position) }
     {

@@ -81,11 +81,16 @@ pub trait RowFinder: Drop {
         ensures err { OnErr result (pending self.new ≡ pending self.old) };
 
     /// Takes the pending changes over. It takes no memory.
+    /// For example, where just two changes are pending, main 1 with no row and main 2 with a row, `spots_at` returns
+    /// none for main 1 afterwards, and the spots of the noted row for main 2. For all other cells it returns what it
+    /// did before.
     fn settle(&mut self)
         ensures settled { (q : Cell) → finite.get (settled self.new) q ≡ next_at (settled self.old) (pending self.old) q }
         ensures pending { pending self.new ≡ finite.empty };
 
     /// Drops the pending changes. It takes no memory.
+    /// For example, where a new main 2 is noted, `spots_at` returns none for main 2 after `forget`, even once
+    /// `settle` is called. Main 2 can be noted again.
     fn forget(&mut self)
         ensures settled { settled self.new ≡ settled self.old }
         ensures pending { pending self.new ≡ finite.empty };

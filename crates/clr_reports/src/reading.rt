@@ -23,6 +23,8 @@ fn empty_piece(alloc: Global) -> Result<Vec<u8>, AllocError>
 /// Returns all the bytes that a source gives until its end. Fails with `ReadFailed` where a read
 /// fails, which is not tried again, with `TooLong` where the source gives more than
 /// `MOST_INPUT_BYTES`, and with `OutOfMemory` if memory runs out.
+/// For example, of a `Text` of the bytes `abc` it returns `abc`. Of a `Text` of 67,108,865 bytes it fails with
+/// `TooLong`, unless memory runs out.
 pub fn read_input<R: Source>(alloc: Global, reader: &mut R) -> Result<Vec<u8>, RunFault>
     requires { R.failed reader.old ≡ false }
     ensures whole { IfOk result (λ text. GivesInput (R.remaining reader.old) (R.remaining reader.new) text.items) }

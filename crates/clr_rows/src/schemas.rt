@@ -62,6 +62,8 @@ impl Schema {
     }
 
     /// Returns the number of the table of this name, or none. Upper and lower case differ.
+    /// For example, where the tables are `node`, `main`, `hydrant` and `pipe`, in this order, it returns 1 for `main`
+    /// and none for `Main`.
     #[tactic(auto, using(crate::proofs::SchemaLemmas::few_tables))]
     pub fn table(&self, name: &str) -> Option<u16>
         ensures value { result ≡ table_named self.now name.now }
@@ -74,6 +76,8 @@ impl Schema {
     }
 
     /// Returns the name of the table of this number, or none.
+    /// For example, where the tables are `node`, `main`, `hydrant` and `pipe`, in this order, it returns `hydrant`
+    /// for 2 and none for 4.
     pub fn table_name(&self, table: u16) -> Option<&str>
         ensures { option_map (λ s. s.now) result ≡ option_map (λ t. t.name) (slice_get self.now table) }
     {
@@ -84,6 +88,8 @@ impl Schema {
     }
 
     /// Returns the name of the table of this number, or no bytes where there is no such table.
+    /// For example, where the tables are `node`, `main`, `hydrant` and `pipe`, in this order, it returns `hydrant`
+    /// for 2 and the empty text for 4.
     pub fn name_of_table(&self, table: u16) -> &str
         ensures value { result.now ≡ name_of_table self.now table }
         ensures sound { schema_fault self.now ≡ None }
@@ -96,6 +102,8 @@ impl Schema {
 
     /// Returns the number of the column of this name in a table, counted from 0. Returns none where
     /// the table has no such column, and where there is no such table. Upper and lower case differ.
+    /// For example, where there are four tables, and table 1 has the columns `code` and `size`, in this order, it
+    /// returns 1 for `size` in table 1. It returns none for `Size` in table 1, and for `size` in table 4.
     pub fn column(&self, table: u16, name: &str) -> Option<u16>
         ensures { result ≡ column_named self.now table name.now }
     {
@@ -107,6 +115,8 @@ impl Schema {
     }
 
     /// Returns the table of this number, or none.
+    /// For example, where the tables are `node`, `main`, `hydrant` and `pipe`, in this order, it returns for 2 the
+    /// table with the name `hydrant`, its columns and the shape of its rows, and none for 4.
     #[tactic(auto, using(crate::proofs::SchemaLemmas::few_tables))]
     pub fn def(&self, table: u16) -> Option<&TableDef>
         ensures value { option_copied result ≡ slice_get self.now table }
@@ -118,6 +128,8 @@ impl Schema {
 
     /// Tests whether some row could stand at this cell. Fails with `NoTable` where no table has its
     /// number, and with `OutOfRange` where its key isn't 1 to 999,999,999,999,999.
+    /// For example, where there are four tables, it succeeds for key 1 of table 3. It fails with `OutOfRange` for key
+    /// 0 of table 3, and with `NoTable` for key 0 of table 4.
     #[tactic(auto, unfolding(crate::specs::Schemas::cell_fault))]
     pub fn names_cell(&self, cell: CellId) -> Result<(), RowFault>
         ensures { Answers result (cell_fault self.now cell) }

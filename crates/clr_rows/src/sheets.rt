@@ -59,6 +59,8 @@ impl Sheet {
     }
 
     /// Returns the row at a cell, or none.
+    /// For example, where a valve stands at node 9 and nothing at node 10, it returns the valve for node 9 and none
+    /// for node 10.
     pub fn get(&self, cell: CellId) -> Option<&Row>
         ensures { option_copied result ≡ row_at self.now cell }
     {
@@ -92,6 +94,8 @@ impl Sheet {
     }
 
     /// Takes the row at a cell away and returns it, or none.
+    /// For example, where a tee stands at node 9, `take` returns the tee for node 9, and none if it is called for
+    /// node 9 again.
     pub fn take(&mut self, cell: CellId) -> Option<Row>
         ensures before { result ≡ row_at self.old cell }
         ensures removed { self.new ≡ finite.remove self.old cell }
@@ -100,6 +104,8 @@ impl Sheet {
     }
 
     /// Returns how many cells have a row.
+    /// For example, a new sheet has 1 row after a valve and then a tee are put at node 9, and 0 after the tee is
+    /// taken away.
     pub fn len(&self) -> usize
         ensures { result ≡ length (cells_of self.now) }
     {
@@ -108,6 +114,8 @@ impl Sheet {
 
     /// Returns the cell of the row at a position in the order of cells, or none where there are
     /// fewer rows. The cell is found by going over the rows before it.
+    /// For example, where nodes are table 0 and mains table 1, and a sheet has rows at main 2, node 10 and node 9
+    /// alone, it returns node 9, node 10 and main 2 for positions 0, 1 and 2, and none for position 3.
     pub fn cell_at(&self, at: usize) -> Option<CellId>
         ensures position { result ≡ slice_get (cells_of self.now) at }
         ensures held { IfSome result (λ cell. IsSome (row_at self.now cell)) }
@@ -133,6 +141,8 @@ impl Sheet {
     }
 
     /// Returns a copy of the sheet.
+    /// For example, where a valve stands at node 9 and is taken away after the copy is made, the copy still has the
+    /// valve at node 9.
     pub fn copy(&self) -> Result<Sheet, AllocError>
         ensures { IfOk result (λ sheet. sheet ≡ self.now) }
     {

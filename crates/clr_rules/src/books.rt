@@ -61,6 +61,8 @@ impl RuleBook {
     }
 
     /// Returns how many rules there are.
+    /// For example, a book that is made of a `Unique` and two `Near` rules has 3, and one that is made of an empty
+    /// list has 0.
     pub fn len(&self) -> usize
         ensures value { result ≡ length self.now }
         ensures small { length self.now ≤ MOST_RULES }
@@ -69,6 +71,8 @@ impl RuleBook {
     }
 
     /// Returns the rule of a number, which is below `len`.
+    /// For example, where a book is made of a `Unique`, a `Near` with the distance 7 and a `Near` with the distance
+    /// 8, in this order, it returns the `Near` with the distance 8 for number 2.
     pub fn rule(&self, number: u16) -> &Rule
         requires { number < length self.now }
         ensures { slice_get self.now number ≡ Some result.now }

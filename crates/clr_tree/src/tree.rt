@@ -125,6 +125,8 @@ impl Tree {
     }
 
     /// Returns how many workspaces there are, with LIVE.
+    /// For example, a new tree has 1 workspace, LIVE. It has 2 after `create` makes `A` under LIVE, and 1 again after
+    /// `A` is removed.
     #[tactic(auto, using(crate::proofs::ModelLemmas::tree_long))]
     pub fn len(&self) -> usize
         ensures count { result ≡ length self.now.list }
@@ -134,6 +136,8 @@ impl Tree {
     }
 
     /// Returns the position of the workspace of this name, or none.
+    /// For example, where the workspaces are LIVE, `A` under LIVE and `B` under `A`, in this order, it returns 0 for
+    /// `LIVE`, 1 for `A`, 2 for `B` and none for `b`.
     pub fn find(&self, name: &str) -> Option<usize>
         ensures found { result ≡ find self.now.list name.now }
         ensures within { IfSome result (λ at. at < length self.now.list) }
@@ -143,6 +147,8 @@ impl Tree {
     }
 
     /// Returns the name of the workspace at a position.
+    /// For example, where the workspaces are LIVE, `A`, `B` and `C`, in this order, position 2 has the name `B`. Once
+    /// `B` is removed, position 2 has the name `C`.
     pub fn name_at(&self, at: usize) -> &str
         requires { at < length self.now.list }
         ensures { result.now ≡ (workspace_at self.now.list at).name }
@@ -152,6 +158,8 @@ impl Tree {
 
     /// Returns the position of the parent of the workspace at a position, or none for LIVE. A
     /// parent comes before its children.
+    /// For example, where the workspaces are LIVE, `A` under LIVE and `B` under `A`, in this order, it returns 1 for
+    /// position 2, 0 for position 1 and none for position 0.
     pub fn parent(&self, at: usize) -> Option<usize>
         requires { at < length self.now.list }
         ensures found { result ≡ position_of_parent self.now.list at }
@@ -162,6 +170,8 @@ impl Tree {
     }
 
     /// Returns how many children the workspace at a position has.
+    /// For example, where the workspaces are LIVE, `A` under LIVE and `B` under `A`, in this order, LIVE and `A` have
+    /// 1 child each, and `B` has 0.
     pub fn children(&self, at: usize) -> usize
         requires { at < length self.now.list }
         ensures { result ≡ children_of self.now.list (workspace_at self.now.list at).name }
@@ -170,6 +180,8 @@ impl Tree {
     }
 
     /// Returns how many workspaces are above the one at a position.
+    /// For example, where the workspaces are LIVE, `A` under LIVE, `B` under `A`, and `C` under LIVE, in this order,
+    /// the answers are 0, 1, 2 and 1.
     pub fn depth(&self, at: usize) -> usize
         requires { at < length self.now.list }
         ensures { result ≡ depth_of self.now.list at }
@@ -198,6 +210,8 @@ impl Tree {
     }
 
     /// Returns how many savepoints the workspace at a position has. LIVE has none.
+    /// For example, where a new workspace sets the savepoint `s1`, gets a child and sets the savepoint `s2`, it has 2
+    /// savepoints, since the mark of the child isn't one.
     pub fn saved(&self, at: usize) -> usize
         requires within { at < length self.now.list }
         ensures { result ≡ saved_count (workspace_at self.now.list at).marks }
@@ -231,6 +245,8 @@ impl Tree {
     }
 
     /// Returns the row at a cell in the current content of the workspace at a position, or none.
+    /// For example, where main 1 has the code `A` in LIVE, and a workspace under LIVE gives it the code `W`, it
+    /// returns the row with `W` for the workspace, and the row with `A` for LIVE.
     pub fn read(&self, at: usize, cell: CellId) -> Option<&Row>
         requires { at < length self.now.list }
         ensures { option_copied result ≡ row_at (workspace_at self.now.list at).current cell }
@@ -240,6 +256,9 @@ impl Tree {
 
     /// Returns the row at a cell in the base of the workspace at a position, or none. LIVE has no
     /// base, and so no row there.
+    /// For example, where a workspace is made under LIVE while main 1 has the code `A` there, and LIVE gives it the
+    /// code `L` later, it returns the row with `A` for the workspace. Once the workspace is refreshed, it returns the
+    /// row with `L`.
     pub fn base(&self, at: usize, cell: CellId) -> Option<&Row>
         requires within { at < length self.now.list }
         ensures { option_copied result ≡ row_at (workspace_at self.now.list at).base cell }
@@ -272,6 +291,8 @@ impl Tree {
     }
 
     /// Returns the current content of the workspace at a position, seen by cell.
+    /// For example, where LIVE has main 1, and a workspace under LIVE deletes it, `row` of the workspace's view
+    /// returns none for main 1, and `row` of LIVE's view still returns the row.
     pub fn view(&self, at: usize) -> View<'_>
         requires { at < length self.now.list }
         ensures { result ≡ (workspace_at self.now.list at).current }
@@ -280,6 +301,8 @@ impl Tree {
     }
 
     /// Returns the current content of the workspace at a position, whole.
+    /// For example, where LIVE has mains 1 and 2 alone, and a new workspace under LIVE deletes main 1 and inserts
+    /// main 20, the rows of the workspace are mains 2 and 20, and those of LIVE are mains 1 and 2.
     pub fn rows(&self, at: usize) -> Result<Sheet, AllocError>
         requires { at < length self.now.list }
         ensures { IfOk result (λ sheet. sheet ≡ (workspace_at self.now.list at).current) }
@@ -289,6 +312,9 @@ impl Tree {
 
     /// Returns the workspace at a position with whole contents. LIVE has no parent, no base and no
     /// marks.
+    /// For example, where a new workspace `B` under `A` inserts main 20 and then sets the savepoint `s`, its part has
+    /// the name `B`, the parent `A` and one mark, `s`. The current content and the content of `s` have main 20, and
+    /// the base hasn't.
     pub fn part(&self, at: usize) -> Result<Part, AllocError>
         requires within { at < length self.now.list }
         ensures { IfOk result (λ part. workspace_of part ≡ workspace_at self.now.list at) }
@@ -320,6 +346,8 @@ impl Tree {
     }
 
     /// Returns what the workspace at a position, which isn't LIVE, changed.
+    /// For example, where a new workspace under LIVE gives main 1 the code `W` in place of `A`, that is its only
+    /// change. What LIVE changes later isn't among its changes.
     pub fn changes(&self, at: usize) -> Result<ChangeSet, AllocError>
         requires child { 0 < at }
         requires within { at < length self.now.list }
@@ -384,6 +412,8 @@ impl Tree {
     }
 
     /// Takes the leaf at a position, which isn't LIVE, and its mark away.
+    /// For example, where the workspaces are LIVE, `A` under LIVE, `B` under `A`, and `C` under LIVE, in this order,
+    /// a remove of `B`, at position 2, leaves `C` at position 2, and takes the mark of `B` from the marks of `A`.
     pub fn remove(&mut self, at: usize)
         requires child { 0 < at }
         requires within { at < length self.old.list }
@@ -395,6 +425,8 @@ impl Tree {
 
     /// Takes changes over into the current content of the workspace at a position. If memory runs
     /// out, nothing changes.
+    /// For example, where main 20 stands nowhere, and the changes insert it, the workspace sees main 20 afterwards.
+    /// Its base doesn't have it, and no other workspace sees it.
     pub fn write_all(&mut self, at: usize, changed: &ChangeSet) -> Result<(), AllocError>
         requires { at < length self.old.list }
         ensures ok { OnOk result (self.new.list ≡ after_write self.old.list at changed.now) }
@@ -406,6 +438,8 @@ impl Tree {
 
     /// Puts a savepoint of a new name, with the current content, at the end of the marks of the
     /// workspace at a position, which isn't LIVE. If memory runs out, nothing changes.
+    /// For example, where a workspace sets the savepoint `s` while main 1 has the code `A`, and then gives main 1 the
+    /// code `B`, the content of `s` has main 1 with the code `A`.
     pub fn mark(&mut self, at: usize, name: &str) -> Result<(), AllocError>
         requires child { 0 < at }
         requires within { at < length self.old.list }
@@ -419,6 +453,8 @@ impl Tree {
     }
 
     /// Takes away the savepoint at a position of the marks of a workspace, which isn't LIVE.
+    /// For example, where the marks are the savepoints `s1`, `s2` and `s3`, and `s2`, at position 1, is taken away,
+    /// `s1` has position 0 and `s3` has position 1. The current content stays as it is.
     pub fn unmark(&mut self, at: usize, mark: usize)
         requires child { 0 < at }
         requires within { at < length self.old.list }
@@ -444,6 +480,8 @@ impl Tree {
     }
 
     /// Makes the base of a leaf, which isn't LIVE, its current content. Its savepoints go.
+    /// For example, where all that a leaf changed is that it inserted main 20, and it set the savepoint `s`, it has
+    /// neither main 20 nor `s` nor any change afterwards.
     pub fn roll_all(&mut self, at: usize)
         requires child { 0 < at }
         requires within { at < length self.old.list }
