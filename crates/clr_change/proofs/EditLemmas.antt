@@ -22,8 +22,8 @@ use Rattle.clr_change.specs.declared.edits.Edit.{Edit}
 use Rattle.clr_change.specs.declared.edits.Edit.TheVariants.{Insert, Update, Delete}
 use Rattle.clr_change.specs.declared.edits.EditFault.{EditFault}
 use Rattle.clr_change.specs.declared.edits.EditFault.TheVariants as fault
-use Rattle.clr_change.specs.Edits.{taken_fault, missing, edit_fault, after_edit, after_edits, first_fault, first_bad_edit, IsMade, FaultIs, IsFirstEditFault}
-use Rattle.clr_change.specs.Edits.{number_of}
+use Rattle.clr_change.specs.Edits.{taken_fault, missing, edit_fault, after_edit, after_edits, fault_or_later, first_bad_edit, IsMade, FaultIs, IsFirstEditFault}
+use Rattle.clr_change.specs.Edits.{fault_number}
 
 -- a row set over changes -----------------------------------------------------------------------
 
@@ -132,12 +132,12 @@ all_edited_none content = refl
 first_bad_more : (tables : List TableDef) (current : Content) (n : ℕ) (edit : Edit) (rest : List Edit) → edit_fault tables current edit ≡ None
     → first_bad_edit tables current n (edit ∷ rest) ≡ first_bad_edit tables (after_edit current edit) (n + 1) rest
 unfolding first_bad_edit
-first_bad_more tables current n edit rest none = ap (λ why. first_fault n why (first_bad_edit tables (after_edit current edit) (n + 1) rest)) none
+first_bad_more tables current n edit rest none = ap (λ why. fault_or_later n why (first_bad_edit tables (after_edit current edit) (n + 1) rest)) none
 
 first_bad_here : (tables : List TableDef) (current : Content) (n : ℕ) (edit : Edit) (rest : List Edit) (why : EditFault) → edit_fault tables current edit
     ≡ Some why → first_bad_edit tables current n (edit ∷ rest) ≡ Some (n, why)
 unfolding first_bad_edit
-first_bad_here tables current n edit rest why is = ap (λ found. first_fault n found (first_bad_edit tables (after_edit current edit) (n + 1) rest)) is
+first_bad_here tables current n edit rest why is = ap (λ found. fault_or_later n found (first_bad_edit tables (after_edit current edit) (n + 1) rest)) is
 
 pub first_bad_none : (tables : List TableDef) (current : Content) (n : ℕ) → first_bad_edit tables current n [] ≡ None
 unfolding first_bad_edit
@@ -169,7 +169,7 @@ module _ (tables : List TableDef) (content : Content) (edits : List Edit) where
       }
 
   pub one_refused : (at : ℕ) (edit : Edit) (old : Changes) (why : EditFault) → at < length edits → edit ≡ get_or edits at edit → IsStagedTo at old
-      → FaultIs tables content edit old why → IsFirstEditFault (first_bad_edit tables content 1 edits) (number_of at why, why)
+      → FaultIs tables content edit old why → IsFirstEditFault (first_bad_edit tables content 1 edits) (fault_number at why, why)
   one_refused at edit old why within is so_far = go why
     where
       first : (why : EditFault) → edit_fault tables (after_edits content (take at edits)) edit ≡ Some why → first_bad_edit tables content 1 edits
@@ -179,7 +179,7 @@ module _ (tables : List TableDef) (content : Content) (edits : List Edit) where
           so_far.passed ∙ ap (first_bad_edit tables current (at + 1)) (drop_more edits at edit within ∙ ap (λ e. e ∷ drop (at + 1) edits) (sym is))
           ∙ first_bad_here tables current (at + 1) edit (drop (at + 1) edits) why e
 
-      go : (why : EditFault) → FaultIs tables content edit old why → IsFirstEditFault (first_bad_edit tables content 1 edits) (number_of at why, why)
+      go : (why : EditFault) → FaultIs tables content edit old why → IsFirstEditFault (first_bad_edit tables content 1 edits) (fault_number at why, why)
       go fault.OutOfMemory h = refl
       go (fault.Row row) h = first (fault.Row row) (h (after_edits content (take at edits)) so_far.staged_is)
       go fault.KeyTaken h = first fault.KeyTaken (h (after_edits content (take at edits)) so_far.staged_is)
@@ -208,7 +208,7 @@ module _ (tables : List TableDef) where
   edited_fits content (Update cell row) all none = put_keeps fits content cell row all (fits_first _ _ none)
   edited_fits content (Delete cell) all none = take_keeps fits content cell all
 
-  first_passed : (n : ℕ) (judged : Option EditFault) (later : Option (ℕ × EditFault)) → first_fault n judged later ≡ None → (judged ≡ None) × (later ≡ None)
+  first_passed : (n : ℕ) (judged : Option EditFault) (later : Option (ℕ × EditFault)) → fault_or_later n judged later ≡ None → (judged ≡ None) × (later ≡ None)
   first_passed n None later e = (refl, e)
   first_passed n (Some why) later e = cc
 

@@ -33,19 +33,20 @@ unfoldable pub after_edits : Content → List Edit → Content
 after_edits content [] = content
 after_edits content (edit ∷ edits) = after_edits (after_edit content edit) edits
 
-abbrev pub first_fault : ℕ → Option EditFault → Option (ℕ × EditFault) → Option (ℕ × EditFault)
-first_fault n None later = later
-first_fault n (Some why) later = Some (n, why)
+abbrev pub fault_or_later : ℕ → Option EditFault → Option (ℕ × EditFault) → Option (ℕ × EditFault)
+fault_or_later n None later = later
+fault_or_later n (Some why) later = Some (n, why)
 
 -- the number of the first edit that can't be made, counted on from this number, and why
 unfoldable pub first_bad_edit : List TableDef → Content → ℕ → List Edit → Option (ℕ × EditFault)
 first_bad_edit tables content n [] = None
-first_bad_edit tables content n (edit ∷ edits) = first_fault n (edit_fault tables content edit) (first_bad_edit tables (after_edit content edit) (n + 1) edits)
+first_bad_edit tables content n (edit ∷ edits) =
+    fault_or_later n (edit_fault tables content edit) (first_bad_edit tables (after_edit content edit) (n + 1) edits)
 
 -- the number in the answer to a fault at this position: edits count from 1, and want of memory is no edit's
-abbrev pub number_of : ℕ → EditFault → ℕ
-number_of at fault.OutOfMemory = 0
-number_of at _ = at + 1
+abbrev pub fault_number : ℕ → EditFault → ℕ
+fault_number at fault.OutOfMemory = 0
+fault_number at _ = at + 1
 
 -- a refusal names the first edit that can't be made, or is 0 for want of memory
 abbrev pub IsFirstEditFault : Option (ℕ × EditFault) → ℕ × EditFault → Type 0

@@ -7,7 +7,7 @@ ghost use Rattle.clr_rows.specs.Schemas.{Answers, row_fault, cell_fault};
 ghost use Rattle.clr_change.specs.declared.edits.Edit.TheVariants.{Insert, Update, Delete};
 ghost use Rattle.clr_change.specs.declared.edits.EditFault.TheVariants.{OutOfMemory, Row as Unfit};
 ghost use Rattle.clr_change.specs.ChangeSets.{set_change};
-ghost use Rattle.clr_change.specs.Edits.{after_edits, first_bad_edit, FaultIs, IsMade, IsFirstEditFault, number_of};
+ghost use Rattle.clr_change.specs.Edits.{after_edits, first_bad_edit, FaultIs, IsMade, IsFirstEditFault, fault_number};
 
 use crate::change_sets::ChangeSet;
 use crate::edits::{Edit, EditFault};
@@ -42,7 +42,7 @@ pub fn stage<V: RowView>(
 /// and 0 stands beside `OutOfMemory`.
 fn number(at: usize, fault: EditFault) -> usize
     requires { at < 2 ^ 63 }
-    ensures { result ≡ number_of at fault }
+    ensures { result ≡ fault_number at fault }
 {
     match fault {
         EditFault::OutOfMemory => 0,

@@ -18,8 +18,8 @@ database_command name = with_rule (new_app name) (value (codes "DB"))
 abbrev pub audit : App
 audit = database_command (codes "audit")
 
-abbrev pub run : App
-run = with_rule (database_command (codes "run")) (value (codes "SCRIPT"))
+abbrev pub run_subcommand : App
+run_subcommand = with_rule (database_command (codes "run")) (value (codes "SCRIPT"))
 
 abbrev pub plan : App
 plan = with_rule (database_command (codes "plan")) name_arguments
@@ -40,7 +40,7 @@ demanding name = let bare = new_app name in record bare { top = record bare.top 
 -- the subcommands that print something and change nothing
 abbrev pub reporting : App
 reporting =
-    with_subcommand (with_subcommand (with_subcommand (with_subcommand (demanding (codes "clr_office")) audit.top) run.top) plan.top) plan_under.top
+    with_subcommand (with_subcommand (with_subcommand (with_subcommand (demanding (codes "clr_office")) audit.top) run_subcommand.top) plan.top) plan_under.top
 
 abbrev pub program : App
 program = with_subcommand (with_subcommand reporting check.top) merge.top

@@ -3,7 +3,7 @@
 ghost use Rattle.std.specs.Prelude.{◌≡◌, codes, false, IfOk, IsOkAnd};
 ghost use Rattle.clap.specs.Words.{app_of, with_rule, with_subcommand};
 ghost use Rattle.clap.specs.declared.builder.command.Command.TheViews.{out-Command as fields_of};
-ghost use Rattle.clr_command_line.specs.Program.{audit, check, demanding, merge, plan, plan_under, program, reporting, run, value};
+ghost use Rattle.clr_command_line.specs.Program.{audit, check, demanding, merge, plan, plan_under, program, reporting, run_subcommand, value};
 
 use crate::arguments::{add, over_database, with_names, with_value};
 use clap::Command;
@@ -69,7 +69,7 @@ fn audit<'a>(alloc: Global) -> Result<Command<'a>, AllocError>
 
 /// Returns the subcommand `run`.
 fn run<'a>(alloc: Global) -> Result<Command<'a>, AllocError>
-    ensures shape { IfOk result (λ c. app_of c ≡ run) }
+    ensures shape { IfOk result (λ c. app_of c ≡ run_subcommand) }
     ensures plain { IfOk result (λ c. (fields_of c).has_globals ≡ false) }
 {
     let command = over_database(

@@ -18,7 +18,7 @@ use Rattle.clr_rows.proofs.ChangeLemmas.{find_below, get-changes, row-set_cell, 
 use Rattle.clr_rows.proofs.RowLemmas.{tied_cells}
 use Rattle.clr_rows.proofs.SchemaLemmas.{cell_named, fits_table}
 use Rattle.clr_rows.proofs.Tests.{first, second}
-use Rattle.clr_change.specs.Edits.{after_edit, edit_fault, first_bad_edit, first_fault}
+use Rattle.clr_change.specs.Edits.{after_edit, edit_fault, fault_or_later, first_bad_edit}
 use Rattle.clr_layer_changes.specs.Changes.{edit_of, edit_to, edits_between}
 use Rattle.clr_layer_changes.proofs.EditLemmas.{after_edit_to}
 use Rattle.clr_script_text.specs.ReadBack.{Fits}
@@ -113,7 +113,7 @@ module _ (tables : List TableDef) (base current : Content) (base_fits : FitsSche
       let one = are e.0 e.1 (found_first e es) in
       let next = after_edit content (edit_of e) in
       let made = edit_is_made content e.0 e.1.before e.1.after one.before one.after one.differ (ready e.0 e.1 (found_first e es)) in
-      ap (λ why. first_fault n why (first_bad_edit tables next (n + 1) (map edit_of es))) made
+      ap (λ why. fault_or_later n why (first_bad_edit tables next (n + 1) (map edit_of es))) made
       ∙ none_bad next (n + 1) es (second _ _ sorted) (λ q change is. are q change (found_later e es q change sorted is)) (λ q change is.
       ap (λ (m : Content). row_at m q) (after_edit_to content e.0 e.1.before e.1.after) ∙ row-set_cell content e.0 e.1.after q
       ∙ ap (λ t. cond t e.1.after (row_at content q)) (apart_from_first e es q change sorted is) ∙ ready q change (found_later e es q change sorted is))

@@ -11,7 +11,6 @@ use Rattle.clr_svg.specs.declared.elements.Step.{Step}
 use Rattle.clr_svg.specs.declared.elements.Step.TheVariants.{Begin, Line, Close}
 use Rattle.clr_svg.specs.Lengths.{stopped}
 use Rattle.clr_views.specs.declared.views.View.{View}
-use Rattle.clr_views.specs.Extents.{span}
 use Rattle.clr_views.specs.Views.{spot_on}
 
 abbrev pub are_one : Spot → Spot → Bool
@@ -36,20 +35,20 @@ unfoldable pub with_line : List Step → Spot → Spot → List Step
 with_line steps from to = if are_one from to then steps else beginning steps from ++ Line to ∷ []
 
 -- how many parts a shape has, up to the most that have numbers
-abbrev pub part_count : Shape → ℕ
-part_count shape = min (length (parts_of shape)) 65535
+abbrev pub numbered_part_count : Shape → ℕ
+numbered_part_count shape = min (length (parts_of shape)) 65535
 
-abbrev pub with_part : View → List Step → Place × Place → List Step
-with_part v steps part = with_line steps (spot_on v part.0) (spot_on v part.1)
+abbrev pub with_line_of_part : View → List Step → Place × Place → List Step
+with_line_of_part v steps part = with_line steps (spot_on v part.0) (spot_on v part.1)
 
 -- a part, if there is one
 abbrev pub with_found : View → List Step → Option (Place × Place) → List Step
 with_found v steps None = steps
-with_found v steps (Some part) = with_part v steps part
+with_found v steps (Some part) = with_line_of_part v steps part
 
 -- the lines of the parts of a shape, of which a point has none
 abbrev pub with_shape : View → List Step → Shape → List Step
-with_shape v steps shape = fold (with_part v) steps (take (part_count shape) (parts_of shape))
+with_shape v steps shape = fold (with_line_of_part v) steps (take (numbered_part_count shape) (parts_of shape))
 
 unfoldable pub halfway_number : ℤ → ℤ → ℤ
 halfway_number from to = stopped (from +ℤ int_div (stopped (to -ℤ from)) (pos 2))
@@ -66,7 +65,7 @@ middle_number count = count / 2 + count % 2
 
 -- of a line the middle of its middle part
 abbrev pub middle_of_parts : Shape → Option Place
-middle_of_parts shape = option_map halfway_of (part_of shape (middle_number (part_count shape)))
+middle_of_parts shape = option_map halfway_of (part_of shape (middle_number (numbered_part_count shape)))
 
 -- of a point its own place
 abbrev pub middle_place : Shape → Option Place

@@ -41,8 +41,8 @@ abbrev pub outline : Spot → Pixels → ℤ × ℤ → List (ℤ × ℤ) → Li
 outline middle radius first others = Begin (away middle radius first) ∷ map (line_to middle radius) others ++ Close ∷ []
 
 -- where a diamond and a triangle begin
-abbrev pub top : ℤ × ℤ
-top = (pos 0, negsuc 124)
+abbrev pub top_corner : ℤ × ℤ
+top_corner = (pos 0, negsuc 124)
 
 -- the other corners
 abbrev pub diamond : List (ℤ × ℤ)
@@ -52,8 +52,8 @@ abbrev pub triangle : List (ℤ × ℤ)
 triangle = (pos 115, pos 80) ∷ (negsuc 114, pos 80) ∷ []
 
 -- where a hexagon begins
-abbrev pub left : ℤ × ℤ
-left = (negsuc 109, pos 0)
+abbrev pub left_corner : ℤ × ℤ
+left_corner = (negsuc 109, pos 0)
 
 abbrev pub hexagon : List (ℤ × ℤ)
 hexagon = (negsuc 54, negsuc 99) ∷ (pos 55, negsuc 99) ∷ (pos 110, pos 0) ∷ (pos 55, pos 100) ∷ (negsuc 54, pos 100) ∷ []
@@ -67,9 +67,9 @@ square_element middle radius ink =
 abbrev pub IsSign : Sign → Spot → Pixels → Ink → Element → Type 0
 IsSign sign.Circle middle radius ink e = e ≡ Circle middle radius ink
 IsSign sign.Square middle radius ink e = e ≡ square_element middle radius ink
-IsSign sign.Diamond middle radius ink e = IsPath (outline middle radius top diamond) ink e
-IsSign sign.Triangle middle radius ink e = IsPath (outline middle radius top triangle) ink e
-IsSign sign.Hexagon middle radius ink e = IsPath (outline middle radius left hexagon) ink e
+IsSign sign.Diamond middle radius ink e = IsPath (outline middle radius top_corner diamond) ink e
+IsSign sign.Triangle middle radius ink e = IsPath (outline middle radius top_corner triangle) ink e
+IsSign sign.Hexagon middle radius ink e = IsPath (outline middle radius left_corner hexagon) ink e
 
 -- two strokes that cross
 abbrev pub cross_steps : Spot → Pixels → List Step

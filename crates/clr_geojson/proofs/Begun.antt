@@ -4,7 +4,7 @@ use Rattle.std.proofs.Math.Seq.{take-append_seam, drop-append_seam}
 use Rattle.std.specs.List.{flat_map}
 use Rattle.clr_geojson.specs.declared.features.Feature.{Feature}
 use Rattle.clr_geojson.specs.declared.marks.TheConstants.{COLLECTION, FEATURES}
-use Rattle.clr_geojson.specs.Collections.{begun_text, head_text, line_of, next_text, system_text, without_comma}
+use Rattle.clr_geojson.specs.Collections.{begun_text, head_text, line_of, line_with_comma, system_text, without_comma}
 use Rattle.clr_geojson.specs.Features.{after_comma, with_commas}
 
 one_less : (front : List ℕ) (b : ℕ) → length (front ++ b ∷ []) - 1 ≡ length front
@@ -23,17 +23,17 @@ head_stays : (system : Option ℕ) → without_comma (head_text system) ≡ head
 unfolding head_text
 head_stays system = bracket_stays (COLLECTION.now ++ system_text system ++ FEATURES.now)
 
-commas_move : (features : List Feature) → codes "," ++ flat_map next_text features ≡ flat_map (after_comma line_of) features ++ codes ","
-unfolding next_text
+commas_move : (features : List Feature) → codes "," ++ flat_map line_with_comma features ≡ flat_map (after_comma line_of) features ++ codes ","
+unfolding line_with_comma
 commas_move [] = refl
 commas_move (f ∷ fs) =
-    ap (λ t. codes "," ++ t) (append_assoc (line_of f) (codes ",") (flat_map next_text fs) ∙ ap (λ t. line_of f ++ t) (commas_move fs))
+    ap (λ t. codes "," ++ t) (append_assoc (line_of f) (codes ",") (flat_map line_with_comma fs) ∙ ap (λ t. line_of f ++ t) (commas_move fs))
     ∙ sym (append_assoc (codes "," ++ line_of f) (flat_map (after_comma line_of) fs) (codes ","))
 
-some_lines : (f : Feature) (fs : List Feature) → flat_map next_text (f ∷ fs) ≡ with_commas line_of (f ∷ fs) ++ codes ","
-unfolding next_text
+some_lines : (f : Feature) (fs : List Feature) → flat_map line_with_comma (f ∷ fs) ≡ with_commas line_of (f ∷ fs) ++ codes ","
+unfolding line_with_comma
 some_lines f fs =
-    append_assoc (line_of f) (codes ",") (flat_map next_text fs) ∙ ap (λ t. line_of f ++ t) (commas_move fs)
+    append_assoc (line_of f) (codes ",") (flat_map line_with_comma fs) ∙ ap (λ t. line_of f ++ t) (commas_move fs)
     ∙ sym (append_assoc (line_of f) (flat_map (after_comma line_of) fs) (codes ","))
 
 pub last_comma_goes : (system : Option ℕ) (features : List Feature) → without_comma (begun_text system features) ≡ head_text system

@@ -27,9 +27,9 @@ abbrev pub without_comma : List ℕ → List ℕ
 without_comma text = if ends_with nat_eq text (codes ",") then take (length text - 1) text else text
 
 -- a feature of a collection while it is written: a comma follows each
-unfoldable pub next_text : Feature → List ℕ
-next_text f = line_of f ++ codes ","
+unfoldable pub line_with_comma : Feature → List ℕ
+line_with_comma f = line_of f ++ codes ","
 
 -- what is written of a collection before its end
 abbrev pub begun_text : Option ℕ → List Feature → List ℕ
-begun_text system features = head_text system ++ flat_map next_text features
+begun_text system features = head_text system ++ flat_map line_with_comma features

@@ -1,7 +1,7 @@
 //! How collections of features are written, one feature after another.
 
 ghost use Rattle.std.specs.Prelude.{◌≡◌, ◌++◌, ℕ, List, Option, IfOk, OnOk};
-ghost use Rattle.clr_geojson.specs.Collections.{begun_text, collection_text, head_text, next_text, system_text, without_comma};
+ghost use Rattle.clr_geojson.specs.Collections.{begun_text, collection_text, head_text, line_with_comma, system_text, without_comma};
 ghost use Rattle.clr_geojson.specs.Features.{feature_text};
 ghost use Rattle.clr_geojson.specs.declared.features.Feature.{Feature as OneFeature};
 
@@ -58,9 +58,9 @@ pub fn begin_collection(alloc: Global, system: Option<u32>) -> Result<Vec<u8>, A
 }
 
 /// Adds a feature to a collection that was begun, on a line of its own. If memory runs out, the text is dropped.
-#[tactic(auto, unfolding(crate::specs::Collections::line_of, crate::specs::Collections::next_text))]
+#[tactic(auto, unfolding(crate::specs::Collections::line_of, crate::specs::Collections::line_with_comma))]
 pub fn add_feature(text: &mut Vec<u8>, feature: &Feature) -> Result<(), AllocError>
-    ensures { OnOk result (text.new.items ≡ text.old.items ++ next_text feature.now) }
+    ensures { OnOk result (text.new.items ≡ text.old.items ++ line_with_comma feature.now) }
 {
     text.extend_from_slice(b"\n")?;
     add_feature_text(text, feature)?;

@@ -8,15 +8,15 @@ use Rattle.std.specs.Str.Parse.{signed_digits_value, without_leading_sign}
 use Rattle.clr_rows.specs.Numbers.{is_i64}
 use Rattle.clr_hints.specs.declared.metres.TheConstants.{DECIMALS}
 
-abbrev pub is_point : ℕ → Bool
-is_point byte = byte == 46
+abbrev pub is_decimal_point : ℕ → Bool
+is_decimal_point byte = byte == 46
 
 abbrev pub is_digit : ℕ → Bool
 is_digit byte = nat_le 48 byte && nat_le byte 57
 
 -- what stands before the first point of a text, and behind it
 abbrev pub around_point : List ℕ → Option (List ℕ × List ℕ)
-around_point text = option_map (λ _. (before_first is_point text, after_first is_point text)) (position is_point text)
+around_point text = option_map (λ _. (before_first is_decimal_point text, after_first is_decimal_point text)) (position is_decimal_point text)
 
 -- no more digits behind the point than a whole number of millimetres has, nothing but digits, and a digit before it where there is none behind it
 abbrev pub is_decimal : List ℕ → List ℕ → Bool

@@ -12,8 +12,8 @@ use Rattle.clr_workspaces.specs.Workspaces.{Workspace, no_workspace, parent_of, 
 use Rattle.clr_workspaces.proofs.LeafLemmas.{map_remove}
 use Rattle.clr_workspaces.proofs.RootLemmas.{later_stays}
 use Rattle.clr_workspaces.specs.Operations.{after_create, after_refresh, after_remove, after_remove_under, after_rebase, after_rebase_under, after_write}
-use Rattle.clr_workspaces.specs.Operations.{at_position, change_at, change_marks, keep_row, new_leaf, own_changes, with_base_merged, refresh, with_current}
-use Rattle.clr_workspaces.specs.Operations.{with_mark_of, with_marks}
+use Rattle.clr_workspaces.specs.Operations.{at_position, change_marks, change_workspace, keep_row, new_leaf, own_changes, with_base_merged, refresh}
+use Rattle.clr_workspaces.specs.Operations.{with_current, with_mark_of, with_marks}
 use Rattle.clr_workspaces.specs.declared.rebases.Keep.{Keep}
 use Rattle.clr_workspaces.specs.declared.rebases.Keep.TheVariants as keeps
 use Rattle.clr_workspaces.specs.declared.rebases.Rebase.TheVariants as ways
@@ -29,11 +29,11 @@ with_content contents at next = slice_set contents at (option_map (λ _. next) (
 
 -- changes that leave the flag, and the content but for one workspace
 module _ (ws : List Workspace) (at : ℕ) (f : Workspace → Workspace) where
-  pub same_content : kept_content (f (workspace_at ws at)) ≡ kept_content (workspace_at ws at) → kept_contents (change_at ws at f) ≡ kept_contents ws
+  pub same_content : kept_content (f (workspace_at ws at)) ≡ kept_content (workspace_at ws at) → kept_contents (change_workspace ws at f) ≡ kept_contents ws
   same_content e = map-set_same kept_content ws at (f (workspace_at ws at)) no_workspace e
 
   pub other_content : (next : Content) → (f (workspace_at ws at)).kept ≡ (workspace_at ws at).kept → (f (workspace_at ws at)).current ≡ next
-      → kept_contents (change_at ws at f) ≡ with_content (kept_contents ws) at next
+      → kept_contents (change_workspace ws at f) ≡ with_content (kept_contents ws) at next
   other_content next flag current =
       map-set kept_content ws at (f (workspace_at ws at)) ∙ ap (slice_set (kept_contents ws) at) (is ∙ ap (option_map (λ _. next)) (sym (content_at ws at)))
     where
@@ -65,7 +65,7 @@ pub after_refreshing : (ws : List Workspace) (at above : ℕ) → parent_of ws a
 after_refreshing ws at above e lt = ap (λ r. kept_contents (at_position ws r (after_rebase_under ws at ways.Refresh))) e ∙ by above lt
   where
     moved : (vs : List Workspace) (content : Content) → workspace_at vs at ≡ workspace_at ws at → kept_contents vs ≡ kept_contents ws
-        → kept_contents (change_at vs at (refresh content)) ≡ with_content (kept_contents ws) at (taken_over content (own_changes (workspace_at ws at)))
+        → kept_contents (change_workspace vs at (refresh content)) ≡ with_content (kept_contents ws) at (taken_over content (own_changes (workspace_at ws at)))
     moved vs content same contents =
         other_content vs at (refresh content) (taken_over content (own_changes (workspace_at vs at))) refl refl
         ∙ (λ i. with_content (contents i) at (taken_over content (own_changes (same i))))

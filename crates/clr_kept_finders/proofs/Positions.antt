@@ -4,7 +4,7 @@ use Rattle.std.specs.Str.{bytes_eq}
 use Rattle.clr_workspaces.specs.Marks.{Name, Mark, ChildMark, is_saved, is_saved_as, find_mark, mark_at}
 use Rattle.clr_workspaces.specs.Workspaces.{Workspace, children_of, no_workspace, parent_of, workspace_at}
 use Rattle.clr_rows.specs.Contents.{taken_over}
-use Rattle.clr_workspaces.specs.Operations.{after_rebase, after_rebase_under, at_position, change_at, own_changes, with_base_merged, with_current}
+use Rattle.clr_workspaces.specs.Operations.{after_rebase, after_rebase_under, at_position, change_workspace, own_changes, with_base_merged, with_current}
 use Rattle.clr_workspaces.specs.declared.rebases.Rebase.TheVariants as ways
 use Rattle.clr_workspaces.proofs.CountLemmas.{count-set}
 use Rattle.clr_workspaces.proofs.NameLemmas.{saved_as}
@@ -27,10 +27,10 @@ found_saved marks name i e = saved_as name (mark_at marks i) (first_passes (is_s
 -- a workspace that changes, but for names, has the children that it had
 changed_leaf : (f : Workspace → Workspace) → ((w : Workspace) → (f w).name ≡ w.name) → ((w : Workspace) → (f w).parent ≡ w.parent)
     → (ws : List Workspace) (at i : ℕ)
-    → children_of (change_at ws at f) (workspace_at (change_at ws at f) i).name ≡ children_of ws (workspace_at ws i).name
+    → children_of (change_workspace ws at f) (workspace_at (change_workspace ws at f) i).name ≡ children_of ws (workspace_at ws i).name
 changed_leaf f names parents ws at i =
     let n = (workspace_at ws i).name in
-    ap (children_of (change_at ws at f)) (stays_at (λ w. w.name) ws at (f (workspace_at ws at)) (names (workspace_at ws at)) i)
+    ap (children_of (change_workspace ws at f)) (stays_at (λ w. w.name) ws at (f (workspace_at ws at)) (names (workspace_at ws at)) i)
     ∙ count-set (λ w. bytes_eq n w.parent) ws at (f (workspace_at ws at)) no_workspace (ap (bytes_eq n) (parents (workspace_at ws at)))
 
 -- a merge leaves the children
@@ -43,4 +43,4 @@ leaf_after_merge ws at = by (parent_of ws at)
     by None = refl
     by (Some above) =
         let write = λ (w : Workspace). with_current (taken_over w.current (own_changes (workspace_at ws at))) w in
-        changed_leaf with_base_merged (λ w. refl) (λ w. refl) (change_at ws above write) at at ∙ changed_leaf write (λ w. refl) (λ w. refl) ws above at
+        changed_leaf with_base_merged (λ w. refl) (λ w. refl) (change_workspace ws above write) at at ∙ changed_leaf write (λ w. refl) (λ w. refl) ws above at

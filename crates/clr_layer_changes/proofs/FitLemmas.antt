@@ -24,7 +24,7 @@ use Rattle.clr_layer_text.specs.Layers.{
   cell_of,
   fields_of_table,
   if_fits,
-  key_of,
+  key_in_field,
   layer_in_text,
   layer_rows_of,
   row_of,
@@ -133,7 +133,7 @@ module _ (tables : List TableDef) where
     where
       whole : whole_row_of tables table rounded at fields ≡ Ok read → FitsAt tables table read
       whole h =
-          let key = both_read (key_of (field_of fields at.key)) _ read h in
+          let key = both_read (key_in_field (field_of fields at.key)) _ read h in
           let values = both_read (values_of at.columns fields) _ read key.2 in
           let shape = both_read (shape_in rounded at.shape fields) _ read values.2 in
           let r : LayerRow = record { key = key.0; row = record { values = values.0; shape = shape.0 } } in

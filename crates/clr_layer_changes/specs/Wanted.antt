@@ -30,13 +30,13 @@ unfoldable pub replaced : Content → ℕ → Content → Content
 replaced content table rows = over content (with_none (table_cells_in content table) ++ with_rows (finite.entries rows))
 
 -- whether a layer is of the table of this name
-abbrev pub is_of_table : List ℕ → GivenLayer → Bool
-is_of_table name layer = bytes_eq layer.table name
+abbrev pub is_layer_of_table : List ℕ → GivenLayer → Bool
+is_layer_of_table name layer = bytes_eq layer.table name
 
 -- the number of a layer's table, which no layer before it names; a fault of the whole layer stands beside 0
 abbrev pub table_of : List TableDef → List GivenLayer → GivenLayer → Result ℕ (ℕ × LayersFault)
 table_of schema earlier layer =
-    if list_any (is_of_table layer.table) earlier then Err (0, TableTwice) else or_fault (0, NoTable) (table_named schema layer.table)
+    if list_any (is_layer_of_table layer.table) earlier then Err (0, TableTwice) else or_fault (0, NoTable) (table_named schema layer.table)
 
 -- a content with the rows of one more layer in place of its table's
 unfoldable pub with_layer : List TableDef → Content → LayerOptions → List GivenLayer → Content → GivenLayer → Result Content (ℕ × LayersFault)

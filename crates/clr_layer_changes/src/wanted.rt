@@ -5,7 +5,7 @@ ghost use Rattle.std.specs.FinMap as finite;
 ghost use Rattle.std.specs.List.{list_any};
 ghost use Rattle.clr_rows.specs.Schemas.{FitsSchema};
 ghost use Rattle.clr_rows.specs.Sheets.{with_none, with_rows};
-ghost use Rattle.clr_layer_changes.specs.Wanted.{Replaces, table_cells_in, is_of_table, replaced, table_of, wanted, with_layer};
+ghost use Rattle.clr_layer_changes.specs.Wanted.{Replaces, table_cells_in, is_layer_of_table, replaced, table_of, wanted, with_layer};
 
 use crate::faults::{FaultyLayer, LayersFault};
 use crate::layer_rows::layer_rows;
@@ -52,7 +52,7 @@ fn replace(alloc: Global, content: &mut Sheet, table: u16, rows: &Sheet) -> Resu
 
 /// Returns whether one of some layers is of the table of this name.
 fn is_given(layers: &[GivenLayer], name: &str) -> bool
-    ensures { result ≡ list_any (is_of_table name.now) layers.now }
+    ensures { result ≡ list_any (is_layer_of_table name.now) layers.now }
 {
     layers.iter().any(|layer| layer.table.as_str() == name)
 }

@@ -26,8 +26,8 @@ use Rattle.clr_rows.proofs.SchemaLemmas.{key_of as key_parts, row_fits}
 use Rattle.clr_records.specs.Records.{field_of, in_turn}
 use Rattle.clr_records.proofs.Decimals.{number_again}
 use Rattle.clr_layer_text.specs.declared.rows.LayerRow.{LayerRow}
-use Rattle.clr_layer_text.specs.Layers.{cell_of, header_of, key_of, key_text, row_fields, row_of, shape_fields, shape_in, shape_name, value_of, value_text}
-use Rattle.clr_layer_text.specs.Layers.{whole_row_of}
+use Rattle.clr_layer_text.specs.Layers.{cell_of, header_of, key_in_field, key_text, row_fields, row_of, shape_fields, shape_in, shape_name, value_of}
+use Rattle.clr_layer_text.specs.Layers.{value_text, whole_row_of}
 use Rattle.clr_layer_text.specs.Pieces.{is_empty}
 use Rattle.clr_layer_text.proofs.HeaderAgain.{columns_from, shape_behind, written_fields}
 use Rattle.clr_layer_text.proofs.ShapeAgain.{shape_again}
@@ -65,7 +65,7 @@ values_again fields front (column ∷ columns) (value ∷ values) rest n long of
 low_key : (n : ℕ) → n ≤ unsigned_abs GREATEST_KEY → is_i64 (pos n) ≡ true
 low_key n le = lt-ltb n (2 ^ 63) (omega arith)
 
-some_key : (z : ℤ) → is_key z ≡ true → key_of (signed_decimal z) ≡ Ok (Some z)
+some_key : (z : ℤ) → is_key z ≡ true → key_in_field (signed_decimal z) ≡ Ok (Some z)
 some_key z e =
     let k = key_parts z e in
     let le = k.3 in
@@ -75,7 +75,7 @@ some_key z e =
     let number : number_of (signed_decimal z) ≡ Some z = rw k.1 (number_again (pos k.0) (low_key k.0 le)) in
     rw (full, number) refl
 
-key_again : (key : Option ℤ) → is_key (unwrap_or key (pos 1)) ≡ true → key_of (key_text key) ≡ Ok key
+key_again : (key : Option ℤ) → is_key (unwrap_or key (pos 1)) ≡ true → key_in_field (key_text key) ≡ Ok key
 key_again None e = refl
 key_again (Some z) e = some_key z e
 

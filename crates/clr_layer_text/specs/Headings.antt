@@ -2,5 +2,5 @@
 use Rattle.clr_layer_text.specs.declared.headings.Headings.{Headings}
 use Rattle.clr_layer_text.specs.Layers.{Fields}
 
-abbrev pub seen : Headings → Fields
-seen h = record { width = h.width; key = h.key; columns = h.columns.items; shape = h.shape }
+abbrev pub seen_headings : Headings → Fields
+seen_headings h = record { width = h.width; key = h.key; columns = h.columns.items; shape = h.shape }

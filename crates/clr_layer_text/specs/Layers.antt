@@ -114,8 +114,8 @@ fields_in names table = do
 -- reading: a row ------------------------------------------------------------------------------------
 
 -- the key of a row, which has none yet where the field is empty
-abbrev pub key_of : List ℕ → Result (Option ℤ) LayerFault
-key_of text = if is_empty text then Ok None else (or_fault BadNumber (number_of text) >>= λ key. Ok (Some key))
+abbrev pub key_in_field : List ℕ → Result (Option ℤ) LayerFault
+key_in_field text = if is_empty text then Ok None else (or_fault BadNumber (number_of text) >>= λ key. Ok (Some key))
 
 abbrev pub value_of : Kind → List ℕ → Result Value LayerFault
 value_of kind.Int text = or_fault BadNumber (number_of text) >>= λ n. Ok (Int n)
@@ -142,7 +142,7 @@ fitting tables table r = if_fits (row_fault tables (cell_of table r.key) r.row) 
 
 unfoldable pub whole_row_of : List TableDef → ℕ → Bool → Fields → List (List ℕ) → Result LayerRow LayerFault
 whole_row_of tables table rounded at fields = do
-  key ← key_of (field_of fields at.key)
+  key ← key_in_field (field_of fields at.key)
   values ← values_of at.columns fields
   shape ← shape_in rounded at.shape fields
   fitting tables table (record { key = key; row = record { values = values; shape = shape } })

@@ -6,7 +6,7 @@ use Rattle.clr_rows.specs.Names.{is_between}
 use Rattle.clr_rows.specs.declared.faults.RowFault.TheVariants.{OutOfRange}
 use Rattle.clr_records.specs.Decimals.{number_of}
 use Rattle.clr_readings.specs.Readings.{◌>>=◌}
-use Rattle.clr_metres.specs.Metres.{minus, point, zero_digit}
+use Rattle.clr_metres.specs.Metres.{minus_sign, point, zero_digit}
 use Rattle.clr_layer_text.specs.declared.faults.LayerFault.{LayerFault}
 use Rattle.clr_layer_text.specs.declared.faults.LayerFault.TheVariants.{NotDecimal, Finer, Unfit}
 use Rattle.clr_layer_text.specs.declared.limits.TheConstants.{MOST_METRES}
@@ -66,4 +66,4 @@ signed_of rounded (Some parts) text = if is_empty parts.0 then (unsigned_of roun
 
 -- the millimetres of a number of metres
 unfoldable pub millimetres_of : Bool → List ℕ → Result ℤ LayerFault
-millimetres_of rounded text = signed_of rounded (cut_of minus text) text
+millimetres_of rounded text = signed_of rounded (cut_of minus_sign text) text

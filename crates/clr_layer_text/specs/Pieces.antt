@@ -19,8 +19,8 @@ space = 32
 abbrev pub comma : ℕ
 comma = 44
 
-abbrev pub has_mark : ℕ → List ℕ → Bool
-has_mark mark text = list_any (is_mark mark) text
+abbrev pub contains_byte : ℕ → List ℕ → Bool
+contains_byte mark text = list_any (is_mark mark) text
 
 abbrev pub is_empty : List ℕ → Bool
 is_empty text = length text == 0

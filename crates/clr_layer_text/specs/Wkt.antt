@@ -18,7 +18,7 @@ use Rattle.clr_layer_text.specs.declared.faults.LayerFault.TheVariants.{NotWkt, 
 use Rattle.clr_layer_text.specs.declared.geometries.Geometry.{Geometry}
 use Rattle.clr_layer_text.specs.declared.geometries.Geometry.TheVariants as geometry
 use Rattle.clr_layer_text.specs.Metres.{millimetres_of}
-use Rattle.clr_layer_text.specs.Pieces.{comma, cut_of, has_mark, is_blank, pieces_of, space, spaced_words_of}
+use Rattle.clr_layer_text.specs.Pieces.{comma, contains_byte, cut_of, is_blank, pieces_of, space, spaced_words_of}
 
 abbrev pub opening : ℕ
 opening = 40
@@ -109,7 +109,7 @@ closed_of text = do
 
 -- what stands in brackets, if no other part follows behind a comma
 abbrev pub single_of : List ℕ → Result (List ℕ) LayerFault
-single_of text = if has_mark comma text then Err SeveralParts else closed_of text
+single_of text = if contains_byte comma text then Err SeveralParts else closed_of text
 
 -- the one part in parentheses of its own, of what stands before its `(` and behind it
 unfoldable pub inner_of : List ℕ → List ℕ → Result (List ℕ) LayerFault

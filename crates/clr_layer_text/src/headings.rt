@@ -8,7 +8,7 @@ ghost use Rattle.csv.specs.Records.{fields_of};
 ghost use Rattle.clr_records.specs.Records.{field_of};
 ghost use Rattle.clr_readings.specs.Readings.{Gives};
 ghost use Rattle.clr_layer_text.specs.Faults.{layer_lacks_memory};
-ghost use Rattle.clr_layer_text.specs.Headings.{seen};
+ghost use Rattle.clr_layer_text.specs.Headings.{seen_headings};
 ghost use Rattle.clr_layer_text.specs.Layers.{column_of, columns_of, fields_in, fields_of_table, heading_of, shape_heading_of};
 
 use crate::faults::LayerFault;
@@ -124,7 +124,7 @@ fn shape_heading(names: &[Words], form: Form) -> Result<Option<ShapeHeading>, La
 
 #[tactic(auto, unfolding(crate::specs::Layers::fields_in))]
 fn headings_in(alloc: Global, names: &[Words], table: &TableDef) -> Result<Headings, LayerFault>
-    ensures { Gives layer_lacks_memory seen result (fields_in names.now table.now) }
+    ensures { Gives layer_lacks_memory seen_headings result (fields_in names.now table.now) }
 {
     let key = find_once(names, KEY)?;
     let columns = columns(alloc, names, table.columns.as_slice())?;
@@ -145,7 +145,7 @@ pub(crate) fn find_headings(
     header: &StringRecord,
     table: Option<&TableDef>,
 ) -> Result<Headings, LayerFault>
-    ensures { Gives layer_lacks_memory seen result (fields_of_table (fields_of header.now) (option_copied table.entry)) }
+    ensures { Gives layer_lacks_memory seen_headings result (fields_of_table (fields_of header.now) (option_copied table.entry)) }
 {
     match table {
         None => Err(LayerFault::Unfit(RowFault::NoTable)),

@@ -1,7 +1,7 @@
 //! Texts cut at a mark.
 
 ghost use Rattle.std.specs.Prelude.{◌≡◌, ◌<◌, IfOk, map, option_map};
-ghost use Rattle.clr_layer_text.specs.Pieces.{comma, cut_of, has_mark, is_blank, pieces_of, spaced_words_of};
+ghost use Rattle.clr_layer_text.specs.Pieces.{comma, contains_byte, cut_of, is_blank, pieces_of, spaced_words_of};
 
 use std::alloc::{AllocError, Global};
 
@@ -15,8 +15,8 @@ pub(crate) fn cut(text: &str, mark: char) -> Option<(&str, &str)>
 }
 
 /// Returns whether such a mark stands in a text.
-pub(crate) fn has_mark(text: &str, mark: u8) -> bool
-    ensures { result ≡ has_mark mark text.now }
+pub(crate) fn contains_byte(text: &str, mark: u8) -> bool
+    ensures { result ≡ contains_byte mark text.now }
 {
     text.as_bytes().iter().any(|byte| *byte == mark)
 }

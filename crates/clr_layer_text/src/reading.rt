@@ -6,8 +6,9 @@ ghost use Rattle.clr_records.specs.Decimals.{number_of};
 ghost use Rattle.clr_readings.specs.Readings.{Gives, GivesAt, or_fault};
 ghost use Rattle.clr_layer_text.specs.declared.faults.LayerFault.TheVariants.{BadNumber};
 ghost use Rattle.clr_layer_text.specs.Faults.{layer_lacks_memory};
-ghost use Rattle.clr_layer_text.specs.Headings.{seen};
-ghost use Rattle.clr_layer_text.specs.Layers.{fitting, key_of, layer_in_text, layer_rows_of, row_of, rows_from, shape_in, value_of, values_of, whole_row_of};
+ghost use Rattle.clr_layer_text.specs.Headings.{seen_headings};
+ghost use Rattle.clr_layer_text.specs.Layers.{fitting, key_in_field, layer_in_text, layer_rows_of, row_of, rows_from, shape_in, value_of, values_of};
+ghost use Rattle.clr_layer_text.specs.Layers.{whole_row_of};
 
 use crate::faults::{LayerFault, numbered_fault};
 use crate::headings::{Heading, Headings, ShapeHeading, find_headings};
@@ -26,7 +27,7 @@ fn number(text: &str) -> Result<i64, LayerFault>
 
 /// Returns the key of a row, or none where its field is empty.
 fn key(text: &str) -> Result<Option<i64>, LayerFault>
-    ensures { result ≡ key_of text.now }
+    ensures { result ≡ key_in_field text.now }
 {
     if text.is_empty() {
         return Ok(None);
@@ -89,7 +90,7 @@ fn whole_row(
     headings: &Headings,
     fields: &StringRecord,
 ) -> Result<LayerRow, LayerFault>
-    ensures { Gives layer_lacks_memory (λ x. x) result (whole_row_of schema.now table rounded (seen headings.now) (fields_of fields.now)) }
+    ensures { Gives layer_lacks_memory (λ x. x) result (whole_row_of schema.now table rounded (seen_headings headings.now) (fields_of fields.now)) }
 {
     let key = key(field(fields, headings.key))?;
     let values = values(alloc, headings.columns.as_slice(), fields)?;
@@ -113,7 +114,7 @@ fn row(
     headings: &Headings,
     fields: &StringRecord,
 ) -> Result<LayerRow, LayerFault>
-    ensures { Gives layer_lacks_memory (λ x. x) result (row_of schema.now table rounded (seen headings.now) (fields_of fields.now)) }
+    ensures { Gives layer_lacks_memory (λ x. x) result (row_of schema.now table rounded (seen_headings headings.now) (fields_of fields.now)) }
 {
     if fields.len() == headings.width {
         whole_row(alloc, schema, table, rounded, headings, fields)
@@ -132,7 +133,7 @@ fn rows(
     records: &[StringRecord],
 ) -> Result<Vec<LayerRow>, (usize, LayerFault)>
     requires { length records.now + 2 < 2 ^ 64 }
-    ensures { GivesAt layer_lacks_memory (λ v. v.items) result (rows_from schema.now table rounded (seen headings.now) 2 (map fields_of records.now)) }
+    ensures { GivesAt layer_lacks_memory (λ v. v.items) result (rows_from schema.now table rounded (seen_headings headings.now) 2 (map fields_of records.now)) }
 {
     let mut list = Vec::new(alloc);
     for (i, fields) in records.iter().enumerate() {

@@ -10,7 +10,7 @@ ghost use Rattle.clr_layer_text.specs.Wkt.{place_by, place_of, places_between, p
 use crate::faults::LayerFault;
 use crate::geometries::{Geometry, geometry_by};
 use crate::metres::millimetres;
-use crate::pieces::{cut, has_mark, is_blank, pieces, words};
+use crate::pieces::{contains_byte, cut, is_blank, pieces, words};
 use clr_rows::{Form, Place, RowFault, Shape, Vertices};
 use std::alloc::Global;
 
@@ -32,7 +32,7 @@ fn closed(text: &str) -> Result<&str, LayerFault>
 fn single(text: &str) -> Result<&str, LayerFault>
     ensures { Gives layer_lacks_memory (λ inside. inside.now) result (single_of text.now) }
 {
-    if has_mark(text, b',') {
+    if contains_byte(text, b',') {
         return Err(LayerFault::SeveralParts);
     }
     closed(text)

@@ -4,8 +4,8 @@ use Rattle.clr_verdict_lines.specs.Verdicts.{member_name}
 use Rattle.clr_plan_scenes.specs.declared.designs.Designs.{Designs}
 use Rattle.clr_plan_scenes.specs.Designs.{leaders_of}
 
-abbrev pub names_of : Designs → List (List ℕ)
-names_of d = map (λ name. name.now) d.members.names.now
+abbrev pub design_names : Designs → List (List ℕ)
+design_names d = map (λ name. name.now) d.members.names.now
 
 -- the names of designs by position, with a comma before each
 unfoldable pub behind_commas : List (List ℕ) → List ℕ → List ℕ
@@ -16,23 +16,23 @@ abbrev pub listed : List (List ℕ) → List ℕ → List ℕ
 listed names [] = []
 listed names (at ∷ ats) = member_name names at ++ behind_commas names ats
 
-abbrev pub count_of : Designs → ℕ
-count_of d = length d.members.names.now
+abbrev pub design_count : Designs → ℕ
+design_count d = length d.members.names.now
 
 -- how many of many designs are named: four, or fewer where there are fewer
 abbrev pub named_of : Designs → ℕ
 named_of d = min 4 (length d.order.items)
 
 unfoldable pub some_names : Designs → List ℕ
-some_names d = listed (names_of d) (take (named_of d) d.order.items) ++ codes " and " ++ decimal (count_of d - named_of d) ++ codes " more"
+some_names d = listed (design_names d) (take (named_of d) d.order.items) ++ codes " and " ++ decimal (design_count d - named_of d) ++ codes " more"
 
 unfoldable pub names_of_leaders : Designs → List ℕ
-names_of_leaders d = listed (names_of d) (leaders_of d) ++ codes ", of " ++ decimal (count_of d) ++ codes " designs"
+names_of_leaders d = listed (design_names d) (leaders_of d) ++ codes ", of " ++ decimal (design_count d) ++ codes " designs"
 
 -- of many designs those that a cause names, or the first
 abbrev pub few_names : Designs → List ℕ
 few_names d = if nat_le (length (leaders_of d)) 0 then some_names d else names_of_leaders d
 
 -- of up to six designs all, in the order in which they are told
-abbrev pub names_text : Designs → List ℕ
-names_text d = if nat_le (count_of d) 6 then listed (names_of d) d.order.items else few_names d
+abbrev pub design_names_text : Designs → List ℕ
+design_names_text d = if nat_le (design_count d) 6 then listed (design_names d) d.order.items else few_names d

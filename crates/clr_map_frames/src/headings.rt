@@ -1,7 +1,7 @@
 //! What stands above the map: the names of the designs, and the plan in a sentence.
 
 ghost use Rattle.std.specs.Prelude.{◌≡◌, ◌++◌, IfOk, OnOk, decimal, string_bytes};
-ghost use Rattle.clr_map_frames.specs.Headings.{behind_commas, few_names, listed, names_of, names_of_leaders, names_text, some_names};
+ghost use Rattle.clr_map_frames.specs.Headings.{behind_commas, design_names, design_names_text, few_names, listed, names_of_leaders, some_names};
 
 use clr_drawing::{INK, SOFT, Sketch, words_width};
 use clr_plan_scenes::{Designs, Field, LEFT, PAGE_WIDTH};
@@ -24,7 +24,7 @@ fn add_others(
     designs: &Designs<'_>,
     positions: &[usize],
 ) -> Result<(), AllocError>
-    ensures { OnOk result (string_bytes text.new ≡ string_bytes text.old ++ behind_commas (names_of designs.now) positions.now) }
+    ensures { OnOk result (string_bytes text.new ≡ string_bytes text.old ++ behind_commas (design_names designs.now) positions.now) }
 {
     for at in positions {
         text.push_str(", ")?;
@@ -35,7 +35,7 @@ fn add_others(
 
 /// Returns the names of these designs, with commas between them.
 fn listed(alloc: Global, designs: &Designs<'_>, positions: &[usize]) -> Result<String, AllocError>
-    ensures { IfOk result (λ text. string_bytes text ≡ listed (names_of designs.now) positions.now) }
+    ensures { IfOk result (λ text. string_bytes text ≡ listed (design_names designs.now) positions.now) }
 {
     let Some((first, others)) = positions.split_first() else {
         return Ok(String::new(alloc));
@@ -93,7 +93,7 @@ fn few_names(alloc: Global, designs: &Designs<'_>) -> Result<String, AllocError>
 
 /// Returns the names of the designs, those of the cause first; where they are many, only some.
 pub fn names_text(field: Field<'_>) -> Result<String, AllocError>
-    ensures { IfOk result (λ text. string_bytes text ≡ names_text field.entry.designs.now) }
+    ensures { IfOk result (λ text. string_bytes text ≡ design_names_text field.entry.designs.now) }
 {
     if field.designs.len() <= FEW {
         return listed(field.alloc, field.designs, field.designs.order());

@@ -37,8 +37,8 @@ pub record Kinds : Type 0 where
   pub dashes : List Step
   pub crosses : List Spot
 
-abbrev pub lines_of : Lines → Kinds
-lines_of l = record { full = l.added.items; double = l.changed.items; dashes = l.removed.items; crosses = l.crosses.items }
+abbrev pub kinds_of_lines : Lines → Kinds
+kinds_of_lines l = record { full = l.added.items; double = l.changed.items; dashes = l.removed.items; crosses = l.crosses.items }
 
 abbrev pub middle_spots : View → Shape → List Spot
 middle_spots v shape = option_to_list (option_map (spot_on v) (middle_place shape))
@@ -73,14 +73,14 @@ with_changed v k before after = record {
 abbrev pub with_added : View → Kinds → Shape → Kinds
 with_added v k after = record { full = with_shape v k.full after; double = k.double; dashes = k.dashes; crosses = k.crosses }
 
-abbrev pub with_rows : View → Kinds → Option Row → Option Row → Kinds
-with_rows v k None None = k
-with_rows v k None (Some after) = with_added v k after.shape
-with_rows v k (Some before) None = with_removed v k before.shape
-with_rows v k (Some before) (Some after) = with_changed v k before.shape after.shape
+abbrev pub with_before_and_after : View → Kinds → Option Row → Option Row → Kinds
+with_before_and_after v k None None = k
+with_before_and_after v k None (Some after) = with_added v k after.shape
+with_before_and_after v k (Some before) None = with_removed v k before.shape
+with_before_and_after v k (Some before) (Some after) = with_changed v k before.shape after.shape
 
 abbrev pub with_change : View → Kinds → Change → Kinds
-with_change v k e = with_rows v k e.before e.after
+with_change v k e = with_before_and_after v k e.before e.after
 
 abbrev pub no_lines : Kinds
 no_lines = record { full = []; double = []; dashes = []; crosses = [] }

@@ -2,7 +2,7 @@
 
 ghost use Rattle.std.specs.Prelude.{◌≡◌, ◌++◌, IfOk, OnOk};
 ghost use Rattle.clr_rows.specs.Same.{same_shape};
-ghost use Rattle.clr_map_marks.specs.Lines.{DrawsKinds, DrawsTwice, is_point, lines_drawn, lines_of, middle_spots, with_change, with_changed, with_left};
+ghost use Rattle.clr_map_marks.specs.Lines.{DrawsKinds, DrawsTwice, is_point, kinds_of_lines, lines_drawn, middle_spots, with_change, with_changed, with_left};
 ghost use Rattle.clr_map_marks.specs.Lines.{with_removed};
 
 use clr_change::ChangeSet;
@@ -52,7 +52,7 @@ fn add_middle(crosses: &mut Vec<Spot>, view: &View, shape: &Shape) -> Result<(),
 
 /// Adds the lines of a row that goes, with a cross in its middle.
 fn add_removed(lines: &mut Lines, view: &View, row: &Row) -> Result<(), AllocError>
-    ensures { OnOk result (lines_of lines.new ≡ with_removed view.now (lines_of lines.old) row.now.shape) }
+    ensures { OnOk result (kinds_of_lines lines.new ≡ with_removed view.now (kinds_of_lines lines.old) row.now.shape) }
 {
     if is_point(&row.shape) {
         return Ok(());
@@ -85,7 +85,7 @@ fn add_left(
 
 /// Adds the lines of a row that stays in another form.
 fn add_changed(lines: &mut Lines, view: &View, before: &Row, after: &Row) -> Result<(), AllocError>
-    ensures { OnOk result (lines_of lines.new ≡ with_changed view.now (lines_of lines.old) before.now.shape after.now.shape) }
+    ensures { OnOk result (kinds_of_lines lines.new ≡ with_changed view.now (kinds_of_lines lines.old) before.now.shape after.now.shape) }
 {
     add_left(&mut lines.removed, view, &before.shape, &after.shape)?;
     add_shape(&mut lines.changed, view, &after.shape)
@@ -93,7 +93,7 @@ fn add_changed(lines: &mut Lines, view: &View, before: &Row, after: &Row) -> Res
 
 /// Adds the lines of a change.
 fn add_change(lines: &mut Lines, view: &View, change: &Change) -> Result<(), AllocError>
-    ensures { OnOk result (lines_of lines.new ≡ with_change view.now (lines_of lines.old) change.now) }
+    ensures { OnOk result (kinds_of_lines lines.new ≡ with_change view.now (kinds_of_lines lines.old) change.now) }
 {
     match (&change.before, &change.after) {
         (None, Some(after)) => add_shape(&mut lines.added, view, &after.shape),
@@ -105,7 +105,7 @@ fn add_change(lines: &mut Lines, view: &View, change: &Change) -> Result<(), All
 
 /// Returns the lines of a design.
 fn lines_of(alloc: Global, view: &View, set: &ChangeSet) -> Result<Lines, AllocError>
-    ensures { IfOk result (λ lines. lines_of lines ≡ lines_drawn view.now set.now) }
+    ensures { IfOk result (λ lines. kinds_of_lines lines ≡ lines_drawn view.now set.now) }
 {
     let mut lines = Lines {
         added: Vec::new(alloc),
@@ -141,7 +141,7 @@ fn add_kinds(
     dash: Dash,
     colour: Colour,
 ) -> Result<(), AllocError>
-    ensures { OnOk result (DrawsKinds (lines_of lines) width dash colour sketch.old.elements.items sketch.new.elements.items) }
+    ensures { OnOk result (DrawsKinds (kinds_of_lines lines) width dash colour sketch.old.elements.items sketch.new.elements.items) }
 {
     let broad = Ink::drawn(colour, width + Pixels::of_tenths(16));
     let hollow = Ink::drawn(PAPER, width - Pixels::of_tenths(16));

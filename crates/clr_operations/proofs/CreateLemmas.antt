@@ -18,7 +18,8 @@ use Rattle.clr_deltas.proofs.Meaning.{name-wholes, named_found}
 use Rattle.clr_deltas.proofs.Places.{wholes-push}
 use Rattle.clr_contents.specs.Pinning.{Extends, ChildrenPin}
 use Rattle.clr_operations.specs.Moves.{mark_moved}
-use Rattle.clr_workspaces.specs.Operations.{change_at, with_marks, with_mark_of, change_marks, new_leaf, own_changes, refresh, after_create, after_refresh}
+use Rattle.clr_workspaces.specs.Operations.{change_workspace, with_marks, with_mark_of, change_marks, new_leaf, own_changes, refresh, after_create}
+use Rattle.clr_workspaces.specs.Operations.{after_refresh}
 use Rattle.clr_workspaces.specs.Roots.{IsRooted}
 use Rattle.clr_workspaces.proofs.RootLemmas.{below_current, below_parent, below_rooted, below_stays, rooted_more}
 use Rattle.clr_contents.proofs.ReadLemmas.{base-wholes, current-wholes, within_wholes}
@@ -80,12 +81,12 @@ module _ (live : Content) (ls : List Delta) (name : Name) (p : ℕ) (r : IsRoote
     })) ≡ after_create (wholes live ls) name p
     created_under some =
         mark_pushed live pushed p pushed_rooted some p_pushed (stored.Child name)
-        ∙ ap (λ (vs : List Workspace). change_at vs p (with_marks (with_mark_of name))) leaf_made
+        ∙ ap (λ (vs : List Workspace). change_workspace vs p (with_marks (with_mark_of name))) leaf_made
         ∙ ap (λ (w : Workspace). slice_set (ws ++ made ∷ []) p (with_marks (with_mark_of name) w)) (get_or-append ws (made ∷ []) no_workspace p p_in)
         ∙ set-append_left ws (made ∷ []) p _ p_in
         ∙ ap (λ (vs : List Workspace). vs ++ made ∷ []) (below p some)
       where
-        below : (q : ℕ) → 0 < q → change_at ws q (with_marks (with_mark_of name)) ≡ change_marks ws q (with_mark_of name)
+        below : (q : ℕ) → 0 < q → change_workspace ws q (with_marks (with_mark_of name)) ≡ change_marks ws q (with_mark_of name)
         below zero some = absurd (omega arith)
         below (suc q) some = refl
 

@@ -10,7 +10,7 @@ use Rattle.clr_workspaces.specs.Workspaces.{Workspace, workspace_at, parent_of, 
 use Rattle.clr_deltas.specs.Deltas.{Delta, delta_at, delta_changed, top, wholes, IsUnder, stored_without_mark_of}
 use Rattle.clr_deltas.proofs.Meaning.{length-wholes, name-wholes, parent-wholes, parents-wholes}
 use Rattle.clr_deltas.proofs.Places.{leaf_removed}
-use Rattle.clr_workspaces.specs.Operations.{change_at, with_marks, at_position, after_remove, after_remove_under}
+use Rattle.clr_workspaces.specs.Operations.{change_workspace, with_marks, at_position, after_remove, after_remove_under}
 use Rattle.clr_workspaces.specs.Roots.{IsRooted}
 use Rattle.clr_workspaces.proofs.LeafLemmas.{rooted_removed}
 use Rattle.clr_contents.proofs.ReadLemmas.{within_wholes}
@@ -58,14 +58,14 @@ no_child live ls at none k some lt under =
 -- LIVE has no marks
 live_dropped : (live : Content) (ls : List Delta) (child : Name)
     → wholes live (delta_changed ls 0 (λ l. record l { marks = stored_without_mark_of child l.marks }))
-    ≡ change_at (wholes live ls) 0 (with_marks (without_mark_of child))
+    ≡ change_workspace (wholes live ls) 0 (with_marks (without_mark_of child))
 unfolding wholes top
 live_dropped live [] child = refl
 live_dropped live (l ∷ ls) child = refl
 
 pub any_dropped : (live : Content) (ls : List Delta) (p : ℕ) (child : Name) → IsRooted (wholes live ls) → p < length ls
     → wholes live (delta_changed ls p (λ l. record l { marks = stored_without_mark_of child l.marks }))
-    ≡ change_at (wholes live ls) p (with_marks (without_mark_of child))
+    ≡ change_workspace (wholes live ls) p (with_marks (without_mark_of child))
 any_dropped live ls zero child r lt = live_dropped live ls child
 any_dropped live ls (suc p) child r lt = mark_dropped live ls (suc p) r (omega arith) lt child
 
@@ -92,5 +92,5 @@ module _ (live : Content) (ls : List Delta) (at p : ℕ) (r : IsRooted (wholes l
       let rooted : IsRooted (wholes live (remove ls at)) =
       subst IsRooted (sym gone) (rooted_removed (wholes live ls) at r some (within_wholes live ls at lt) (no_child_whole live ls at none)) in
       any_dropped live (remove ls at) p child rooted parent_left
-      ∙ ap (λ (vs : List Workspace). change_at vs p (with_marks (without_mark_of child))) gone
+      ∙ ap (λ (vs : List Workspace). change_workspace vs p (with_marks (without_mark_of child))) gone
       ∙ ap (λ o. at_position (wholes live ls) o (after_remove_under (wholes live ls) at)) (sym parent)

@@ -25,8 +25,8 @@ use Rattle.clr_deltas.proofs.Meaning.{wholes-live}
 use Rattle.clr_deltas.proofs.Places.{moved_live}
 use Rattle.clr_contents.specs.Pinning.{ChildrenPin}
 use Rattle.clr_operations.specs.Moves.{put_into, row_moved}
-use Rattle.clr_workspaces.specs.Operations.{change_at, with_marks, with_current, with_kept, roll_all, own_changes, with_base_merged, after_mark, after_unmark}
-use Rattle.clr_workspaces.specs.Operations.{after_roll_to, after_roll_all, set_kept, after_write, after_merge, after_resolve}
+use Rattle.clr_workspaces.specs.Operations.{change_workspace, with_marks, with_current, with_kept, roll_all, own_changes, with_base_merged, after_mark}
+use Rattle.clr_workspaces.specs.Operations.{after_unmark, after_roll_to, after_roll_all, set_kept, after_write, after_merge, after_resolve}
 use Rattle.clr_workspaces.specs.Roots.{IsRooted}
 use Rattle.clr_workspaces.specs.declared.rebases.Keep.TheVariants as keeps
 use Rattle.clr_workspaces.proofs.RootLemmas.{later_stays}
@@ -231,7 +231,7 @@ module _ (live : Content) (ls : List Delta) (at : ℕ) (r : IsRooted (wholes liv
   kept_set kept = becomes_still live ls at r some lt _ (with_kept kept) refl refl (whole_kept above l_at kept) refl
 
   pub mark_pushed : (m : StoredMark) → wholes live (delta_changed ls at (λ l. record l { marks = l.marks ++ m ∷ [] }))
-      ≡ change_at (wholes live ls) at (λ w. record w { marks = w.marks ++ whole_mark w.base m ∷ [] })
+      ≡ change_workspace (wholes live ls) at (λ w. record w { marks = w.marks ++ whole_mark w.base m ∷ [] })
   mark_pushed m = becomes_still live ls at r some lt _ (λ w. record w { marks = w.marks ++ whole_mark w.base m ∷ [] }) refl refl (whole_pushed above l_at m)
       refl
 
@@ -245,12 +245,12 @@ module _ (live : Content) (ls : List Delta) (at : ℕ) (r : IsRooted (wholes liv
   mark_removed i = becomes_still live ls at r some lt _ (with_marks (λ ms. remove ms i)) refl refl (whole_removed above l_at i) refl
 
   pub mark_dropped : (child : Name) → wholes live (delta_changed ls at (λ l. record l { marks = stored_without_mark_of child l.marks }))
-      ≡ change_at (wholes live ls) at (with_marks (without_mark_of child))
+      ≡ change_workspace (wholes live ls) at (with_marks (without_mark_of child))
   mark_dropped child = becomes_still live ls at r some lt _ (with_marks (without_mark_of child)) refl refl (whole_dropped above l_at child) refl
 
   pub mark_lasts : (child : Name)
       → wholes live (delta_changed ls at (λ l. record l { marks = stored_without_mark_of child l.marks ++ stored.Child child ∷ [] }))
-      ≡ change_at (wholes live ls) at (with_marks (mark_last child))
+      ≡ change_workspace (wholes live ls) at (with_marks (mark_last child))
   mark_lasts child = becomes_still live ls at r some lt _ (with_marks (mark_last child)) refl refl (whole_last above l_at child) refl
 
   pub all_rolled : ((k : ℕ) → 0 < k → k < length ls → IsUnder (delta_at ls at).name (delta_at ls k) → ⊥)
@@ -263,7 +263,7 @@ module _ (live : Content) (ls : List Delta) (at : ℕ) (r : IsRooted (wholes liv
   pub rolled : (d old : Differences) (n : ℕ) → (workspace_at (wholes live ls) at).current ≡ seen_over (workspace_at (wholes live ls) at).base old
       → ChildrenPin ls (delta_at ls at).name (finite.keys d) → ChildrenPin ls (delta_at ls at).name (finite.keys old)
       → wholes live (delta_changed ls at (λ l. record l { current = d; marks = take n l.marks }))
-      ≡ change_at (wholes live ls) at (λ w. record w { current = seen_over w.base d; marks = take n w.marks })
+      ≡ change_workspace (wholes live ls) at (λ w. record w { current = seen_over w.base d; marks = take n w.marks })
   rolled d old n was held_new held_old =
       becomes live ls at r some lt _ (λ w. record w { current = seen_over w.base d; marks = take n w.marks }) refl refl (whole_rolled_to above l_at d n)
       (λ k k_some k_lt under q none.
@@ -278,7 +278,7 @@ module _ (live : Content) (ls : List Delta) (at : ℕ) (r : IsRooted (wholes liv
   -- the base takes rows over that make it the current content
   pub based : (rows : RowsByCell) → over (workspace_at (wholes live ls) at).base rows ≡ (workspace_at (wholes live ls) at).current
       → wholes live (delta_changed ls at (λ l. record l { base = put_each l.base rows; current = no_differences; marks = filter is_stored_child l.marks }))
-      ≡ change_at (wholes live ls) at (λ w. record w { base = over w.base rows; marks = without_saved w.marks })
+      ≡ change_workspace (wholes live ls) at (λ w. record w { base = over w.base rows; marks = without_saved w.marks })
   based rows own =
       becomes_still live ls at r some lt _ (λ w. record w { base = over w.base rows; current = over w.base rows; marks = without_saved w.marks }) refl refl
       (whole_taken_over above l_at rows) own
@@ -300,7 +300,7 @@ module _ (live : Content) (ls : List Delta) (at : ℕ) (r : IsRooted (wholes liv
           marks = filter is_stored_child
               l.marks;
         }))
-        ≡ change_at (wholes live ls) at (λ w. let c = (workspace_at (wholes live ls) p).current in record w {
+        ≡ change_workspace (wholes live ls) at (λ w. let c = (workspace_at (wholes live ls) p).current in record w {
           base = c;
           current = over c rows;
           marks =
@@ -382,7 +382,8 @@ merged_is live ls ws at p changed r some lt up put is =
 -- ROLLTO: the savepoint's content, and no later savepoints
 pub rolled_is : (ws : List Workspace) (at i : ℕ) (ms : List StoredMark) → (workspace_at ws at).marks ≡ map (whole_mark (workspace_at ws at).base) ms
     → is_saved (mark_at (workspace_at ws at).marks i) ≡ true → is_held (workspace_at ws at).marks i ≡ false
-    → change_at ws at (λ w. record w { current = seen_over w.base (saved_differences (stored_at ms i)); marks = take (suc i) w.marks }) ≡ after_roll_to ws at i
+    → change_workspace ws at (λ w. record w { current = seen_over w.base (saved_differences (stored_at ms i)); marks = take (suc i) w.marks })
+    ≡ after_roll_to ws at i
 rolled_is ws at i ms marks saved free =
     let w = workspace_at ws at in
     let there = saved_there w.base ms i (ap (λ (ns : List Mark). is_saved (mark_at ns i)) (sym marks) ∙ saved) in

@@ -12,7 +12,7 @@ use Rattle.clr_workspaces.specs.Workspaces.{Workspace, live_workspace, workspace
 use Rattle.clr_workspaces.proofs.FindLemmas.{find_within}
 use Rattle.clr_deltas.proofs.Meaning.{length-wholes, name-whole, parent-whole, find-wholes, named_found}
 use Rattle.clr_deltas.proofs.Places.{wholes-push}
-use Rattle.clr_parts.specs.Parts.{marks_of, workspace_of, marks_fault_at, first_below, first_part_name_fault, first_marks_fault, workspaces_fault, number_of}
+use Rattle.clr_parts.specs.Parts.{marks_of, workspace_of, marks_fault_at, first_below, first_part_name_fault, first_marks_fault, workspaces_fault, fault_number}
 use Rattle.clr_parts.specs.Parts.{IsPartFault, IsFirstPartFault}
 use Rattle.clr_workspaces.specs.Soundness.{IsSound}
 use Rattle.clr_parts.specs.declared.parts.Part.{Part}
@@ -64,7 +64,7 @@ is_fault found fault.TooMany e = e
 is_fault found fault.BadMarks e = e
 
 pub refused_at : (wrong : ℕ → Option PartFault) (at n : ℕ) (why : PartFault) → at < n → first_below wrong at ≡ None → IsPartFault (wrong at) why
-    → IsFirstPartFault (first_below wrong n) (number_of at why, why)
+    → IsFirstPartFault (first_below wrong n) (fault_number at why, why)
 refused_at wrong at n fault.OutOfMemory lt before e = refl
 refused_at wrong at n fault.BadName lt before e = below_found wrong at n fault.BadName lt before e
 refused_at wrong at n fault.NameTaken lt before e = below_found wrong at n fault.NameTaken lt before e

@@ -8,7 +8,7 @@ use Rattle.clr_deltas.specs.Deltas.{Delta, above_in, grow, leaf, whole_of, whole
 use Rattle.clr_workspaces.specs.Workspaces.{Workspace, live_workspace, workspace_at}
 use Rattle.clr_deltas.proofs.Meaning.{length-wholes, name-whole, parent-whole}
 use Rattle.clr_workspaces.specs.Roots.{IsRooted}
-use Rattle.clr_parts.specs.Parts.{place_fault, part_name_fault_at, first_below, first_part_name_fault, number_of, IsPartFault, IsFirstPartFault}
+use Rattle.clr_parts.specs.Parts.{place_fault, part_name_fault_at, first_below, first_part_name_fault, fault_number, IsPartFault, IsFirstPartFault}
 use Rattle.clr_parts.specs.declared.parts.PartFault.{PartFault}
 use Rattle.clr_deltas.proofs.Meaning.{root_made}
 use Rattle.clr_parts.proofs.FaultLemmas.{below_none, below_next, below_all, shaped_take}
@@ -104,7 +104,7 @@ module _ (live : Content) (rest : List Workspace) (ls : List Delta) where
         }
 
     pub pushed_not : (why : PartFault) → IsPartFault (place_fault ws l.name l.parent) why
-        → IsFirstPartFault (first_part_name_fault live rest) (number_of (length ls - 1) why, why)
+        → IsFirstPartFault (first_part_name_fault live rest) (fault_number (length ls - 1) why, why)
     pushed_not why e =
         let all = room (l ∷ others) p in
         let here = position (l ∷ others) p in

@@ -130,9 +130,9 @@ IsPartFault found fault.TooMany = found ≡ Some fault.TooMany
 IsPartFault found fault.BadMarks = found ≡ Some fault.BadMarks
 
 -- the number in the answer to the fault of the workspace at a position
-abbrev pub number_of : ℕ → PartFault → ℕ
-number_of at fault.OutOfMemory = 0
-number_of at _ = at
+abbrev pub fault_number : ℕ → PartFault → ℕ
+fault_number at fault.OutOfMemory = 0
+fault_number at _ = at
 
 -- a mark has a good name that no later savepoint has, if it is a savepoint
 abbrev pub has_new_name : Mark → List Mark → Bool

@@ -6,8 +6,7 @@ ghost use Rattle.clr_differences.specs.Differences.{seen_over};
 ghost use Rattle.clr_deltas.specs.NamedDeltas.{delta_of};
 ghost use Rattle.clr_deltas.specs.Deltas.{leaf, whole_mark, whole_of, wholes};
 ghost use Rattle.clr_workspaces.specs.Workspaces.{workspace_at, find};
-ghost use Rattle.clr_parts.specs.Parts.{mark_of, marks_of, workspace_of, list_of, part_name_fault_at, first_part_name_fault};
-ghost use Rattle.clr_parts.specs.Parts.{IsPartFault, IsFirstPartFault, number_of};
+ghost use Rattle.clr_parts.specs.Parts.{mark_of, marks_of, workspace_of, list_of, part_name_fault_at, first_part_name_fault, IsPartFault, IsFirstPartFault, fault_number};
 ghost use Rattle.clr_parts.specs.declared.parts.PartFault.TheVariants.{OutOfMemory};
 ghost use Rattle.clr_workspaces.specs.Roots.{IsRooted};
 
@@ -142,8 +141,8 @@ fn push_part(
 
 /// Returns the number that stands beside a fault of the part at a position: 0 beside `OutOfMemory`,
 /// and else the position.
-pub fn number_of(at: usize, fault: PartFault) -> usize
-    ensures { result ≡ number_of at fault }
+pub fn fault_number(at: usize, fault: PartFault) -> usize
+    ensures { result ≡ fault_number at fault }
 {
     match fault {
         PartFault::OutOfMemory => 0,
@@ -177,7 +176,7 @@ pub fn push_parts(
     let mut map = start(alloc)?;
     for at in 0..parts.len() {
         if let Err(fault) = push_part(live, &mut map, parts, at) {
-            return Err((number_of(at, fault), fault));
+            return Err((fault_number(at, fault), fault));
         }
     }
     Ok(map)

@@ -7,7 +7,7 @@ ghost use Rattle.clr_workspaces.specs.Workspaces.{live_workspace};
 ghost use Rattle.clr_parts.specs.Parts.{spaces_of, place_fault, first_part_name_fault, IsPartFault, IsFirstPartFault};
 ghost use Rattle.clr_workspaces.specs.Roots.{IsRooted};
 
-use crate::builds::{number_of, start};
+use crate::builds::{fault_number, start};
 use crate::part_checks::judge_place;
 use crate::parts::PartFault;
 use clr_deltas::{StoredPart, WorkspaceMap};
@@ -49,7 +49,7 @@ pub fn push_deltas(
     for part in parts {
         let at = map.len() - 1;
         if let Err(fault) = push_delta(live, &mut map, part) {
-            return Err((number_of(at, fault), fault));
+            return Err((fault_number(at, fault), fault));
         }
     }
     Ok(map)

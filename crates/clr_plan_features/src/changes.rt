@@ -2,7 +2,7 @@
 
 ghost use Rattle.std.specs.Prelude.{◌≡◌, ◌++◌, map, OnOk};
 ghost use Rattle.std.specs.List.{flat_map};
-ghost use Rattle.clr_geojson.specs.Collections.{next_text};
+ghost use Rattle.clr_geojson.specs.Collections.{line_with_comma};
 ghost use Rattle.clr_plan_features.specs.ChangeFeatures.{change_features, changed_features, member_features};
 
 use crate::row_features::{What, row_feature};
@@ -21,7 +21,7 @@ fn add_change(
     cell: CellId,
     change: &Change,
 ) -> Result<(), AllocError>
-    ensures { OnOk result (text.new.items ≡ text.old.items ++ flat_map next_text (change_features schema.now causes.now name.now (cell, change.now))) }
+    ensures { OnOk result (text.new.items ≡ text.old.items ++ flat_map line_with_comma (change_features schema.now causes.now name.now (cell, change.now))) }
 {
     let (what, row) = match (&change.before, &change.after) {
         (None, Some(after)) => (What::Added, after),
@@ -43,7 +43,7 @@ fn add_member(
     name: &str,
     set: &ChangeSet,
 ) -> Result<(), AllocError>
-    ensures { OnOk result (text.new.items ≡ text.old.items ++ flat_map next_text (member_features schema.now causes.now (name.now, set.now))) }
+    ensures { OnOk result (text.new.items ≡ text.old.items ++ flat_map line_with_comma (member_features schema.now causes.now (name.now, set.now))) }
 {
     for (cell, change) in set.iter() {
         add_change(alloc, text, schema, causes, name, *cell, change)?;
@@ -61,7 +61,7 @@ pub(crate) fn add_changes(
     sets: &[ChangeSet],
 ) -> Result<(), AllocError>
     ensures { OnOk result (text.new.items ≡ text.old.items
-        ++ flat_map next_text (changed_features schema.now causes.now (map (λ name. name.now) names.now) sets.now)) }
+        ++ flat_map line_with_comma (changed_features schema.now causes.now (map (λ name. name.now) names.now) sets.now)) }
 {
     let count = names.len().min(sets.len());
     for at in 0..count {

@@ -2,7 +2,7 @@
 
 ghost use Rattle.std.specs.Prelude.{◌≡◌, ◌++◌, is_some, true, IfOk, OnOk};
 ghost use Rattle.std.specs.List.{flat_map};
-ghost use Rattle.clr_geojson.specs.Collections.{next_text};
+ghost use Rattle.clr_geojson.specs.Collections.{line_with_comma};
 ghost use Rattle.clr_plan_features.specs.PlanFeatures.{is_blocked, spot_feature, spot_features};
 
 use clr_engine::Office;
@@ -119,7 +119,7 @@ pub(crate) fn add_spot(
     text: &mut Vec<u8>,
     spot: &Option<Spot>,
 ) -> Result<(), AllocError>
-    ensures { OnOk result (text.new.items ≡ text.old.items ++ flat_map next_text (spot_features spot.now)) }
+    ensures { OnOk result (text.new.items ≡ text.old.items ++ flat_map line_with_comma (spot_features spot.now)) }
 {
     match spot {
         Some(spot) => {

@@ -3,7 +3,7 @@
 ghost use Rattle.std.specs.Prelude.{◌≡◌, ◌++◌, is_some, OnOk};
 ghost use Rattle.std.specs.FinMap as finite;
 ghost use Rattle.std.specs.List.{flat_map};
-ghost use Rattle.clr_geojson.specs.Collections.{next_text};
+ghost use Rattle.clr_geojson.specs.Collections.{line_with_comma};
 ghost use Rattle.clr_plan_features.specs.ChangeFeatures.{is_changed_by, standing_features};
 ghost use Rattle.clr_plan_features.specs.RowFeatures.{row_feature};
 ghost use Rattle.clr_plan_features.specs.declared.row_features.What.TheVariants.{Stands as IsStanding};
@@ -37,7 +37,7 @@ fn add_row(
     cell: CellId,
     row: &Row,
 ) -> Result<(), AllocError>
-    ensures { OnOk result (text.new.items ≡ text.old.items ++ next_text (row_feature schema.now causes.now root.now IsStanding cell row.now)) }
+    ensures { OnOk result (text.new.items ≡ text.old.items ++ line_with_comma (row_feature schema.now causes.now root.now IsStanding cell row.now)) }
 {
     let feature = row_feature(alloc, schema, causes, root, What::Stands, cell, row)?;
     add_feature(text, &feature)
@@ -54,7 +54,7 @@ pub(crate) fn add_standing(
     rows: &Sheet,
 ) -> Result<(), AllocError>
     ensures { OnOk result (text.new.items ≡ text.old.items
-        ++ flat_map next_text (standing_features schema.now causes.now root.now sets.now rows.now)) }
+        ++ flat_map line_with_comma (standing_features schema.now causes.now root.now sets.now rows.now)) }
 {
     for (cell, row) in rows.iter() {
         if !is_changed_by(sets, *cell) {

@@ -39,11 +39,11 @@ abbrev pub sets_of : Designs → List Changes
 sets_of d = d.members.changes.items
 
 -- the place of a design in the order in which they are told
-unfoldable pub place_of : List ℕ → ℕ → Option ℕ
-place_of order at = position (λ other. other == at) order
+unfoldable pub index_of_design : List ℕ → ℕ → Option ℕ
+index_of_design order at = position (λ other. other == at) order
 
 abbrev pub rank_of : List ℕ → ℕ → ℕ
-rank_of order at = unwrap_or (place_of order at) at
+rank_of order at = unwrap_or (index_of_design order at) at
 
 -- what a design changes at a cell
 abbrev pub change_of : List Changes → ℕ → CellId → Option Change

@@ -7,8 +7,8 @@ ghost use Rattle.clr_drawing.specs.Palette.{colours_of};
 ghost use Rattle.clr_steps.specs.Quiet.{MergeSet};
 ghost use Rattle.clr_verdict_lines.specs.Verdicts.{member_name};
 ghost use Rattle.clr_plan_words.specs.Versions.{AreMembers};
-ghost use Rattle.clr_plan_scenes.specs.Designs.{change_of, changer_of, counts_at, follower, is_among, leaders_of, newest_at, order_of, place_of, rank_of};
-ghost use Rattle.clr_plan_scenes.specs.Designs.{sets_of};
+ghost use Rattle.clr_plan_scenes.specs.Designs.{change_of, changer_of, counts_at, follower, index_of_design, is_among, leaders_of, newest_at, order_of};
+ghost use Rattle.clr_plan_scenes.specs.Designs.{rank_of, sets_of};
 
 use clr_change::ChangeSet;
 use clr_drawing::{DesignColours, design_colours};
@@ -33,9 +33,9 @@ fn is_among(positions: &[usize], at: usize) -> bool
 }
 
 /// Returns which of some positions one is, if it is one of them.
-#[tactic(auto, unfolding(crate::specs::Designs::place_of))]
-fn place_of(order: &[usize], at: usize) -> Option<usize>
-    ensures { result ≡ place_of order.now at }
+#[tactic(auto, unfolding(crate::specs::Designs::index_of_design))]
+fn index_of_design(order: &[usize], at: usize) -> Option<usize>
+    ensures { result ≡ index_of_design order.now at }
 {
     order.iter().position(|other| *other == at)
 }
@@ -44,7 +44,7 @@ fn place_of(order: &[usize], at: usize) -> Option<usize>
 fn rank_of(order: &[usize], at: usize) -> usize
     ensures { result ≡ rank_of order.now at }
 {
-    place_of(order, at).unwrap_or(at)
+    index_of_design(order, at).unwrap_or(at)
 }
 
 /// Adds a position that doesn't lead.

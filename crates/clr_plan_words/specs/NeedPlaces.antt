@@ -30,12 +30,12 @@ IsCrossingPlace (Some a) (Some b) place = IsMeetingOfParts a.0 a.1 b.0 b.1 place
 IsCrossingPlace _ _ place = place ≡ meeting.NoParts
 
 -- of an end the end itself, of a crossing where the parts of its two rows meet; another rule asks for no place, and a row that isn't there has none
-abbrev pub IsPlaceOf : Option Rule → Need → Option Row → Option Row → Meeting → Type 0
-IsPlaceOf (Some (EndNode subject tip server)) need (Some first) second place = place ≡ end_place (end_in tip first.shape)
-IsPlaceOf (Some (Crossing a b server)) need (Some first) (Some second) place =
+abbrev pub IsServingPlace : Option Rule → Need → Option Row → Option Row → Meeting → Type 0
+IsServingPlace (Some (EndNode subject tip server)) need (Some first) second place = place ≡ end_place (end_in tip first.shape)
+IsServingPlace (Some (Crossing a b server)) need (Some first) (Some second) place =
     IsCrossingPlace (part_of first.shape need.first_part) (part_of second.shape need.second_part) place
-IsPlaceOf _ need first second place = place ≡ meeting.NoParts
+IsServingPlace _ need first second place = place ≡ meeting.NoParts
 
 -- where a row that serves a need over a merge set would have to stand
 abbrev pub IsPlaceIn : Office → MergeSet → Need → Meeting → Type 0
-IsPlaceIn o s need place = IsPlaceOf (rule_in o need) need (row_in o s need.first) (option_and_then (row_in o s) need.second) place
+IsPlaceIn o s need place = IsServingPlace (rule_in o need) need (row_in o s need.first) (option_and_then (row_in o s) need.second) place

@@ -35,13 +35,13 @@ abbrev pub held_in : Office → MergeSet → VersionId → Option Held
 held_in o s v = option_map (λ row. (v.cell, row)) (row_in o s v)
 
 -- the subjects, where the second stands too, if there is to be one
-abbrev pub with_second : Office → MergeSet → Option VersionId → Held → Option Subjects
-with_second o s None first = Some (record { first = first; second = None })
-with_second o s (Some v) first = option_map (λ second. record { first = first; second = Some second }) (held_in o s v)
+abbrev pub with_second_subject : Office → MergeSet → Option VersionId → Held → Option Subjects
+with_second_subject o s None first = Some (record { first = first; second = None })
+with_second_subject o s (Some v) first = option_map (λ second. record { first = first; second = Some second }) (held_in o s v)
 
 -- the rows of a need's subjects, if all of them stand
 abbrev pub subjects_in : Office → MergeSet → Need → Option Subjects
-subjects_in o s need = option_and_then (with_second o s need.second) (held_in o s need.first)
+subjects_in o s need = option_and_then (with_second_subject o s need.second) (held_in o s need.first)
 
 abbrev pub fits : List TableDef → Held → Bool
 fits tables s = is_none (row_fault tables s.0 s.1)

@@ -8,13 +8,13 @@ use Rattle.clr_rows.specs.Cells.{cell_cmp}
 use Rattle.clr_rows.specs.Contents.{Content, row_at}
 use Rattle.clr_rows.specs.Ranges.{AreWithin}
 
-abbrev pub content_of : List (CellId × Row) → Content
-content_of rows = finite.from_sorted rows
+abbrev pub sheet_content : List (CellId × Row) → Content
+sheet_content rows = finite.from_sorted rows
 
 -- rows in the order of their cells, each with numbers within 64 bits
 pub record IsSoundSheet (rows : List (CellId × Row)) : Type 0 where
   pub ascending : T (finite.is_sorted cell_cmp rows)
-  pub within : AreWithin (content_of rows)
+  pub within : AreWithin (sheet_content rows)
 
 -- the row that stands at a cell until the cell gets its own
 abbrev pub placeholder : Row

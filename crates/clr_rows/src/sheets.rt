@@ -35,9 +35,9 @@ impl Model for Sheet {
 
     ghost coded = { coded_content };
 
-    ghost use Rattle.clr_rows.specs.Sheets.{content_of, IsSoundSheet};
+    ghost use Rattle.clr_rows.specs.Sheets.{sheet_content, IsSoundSheet};
 
-    ghost view = { λ a. content_of a.rows.entries };
+    ghost view = { λ a. sheet_content a.rows.entries };
 
     ghost invariant = { λ a. IsSoundSheet a.rows.entries };
 }

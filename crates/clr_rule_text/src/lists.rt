@@ -3,7 +3,7 @@
 ghost use Rattle.std.specs.Fn.{FnReturnsAt};
 ghost use Rattle.clr_readings.specs.Readings.{Gives};
 ghost use Rattle.clr_rule_text.specs.Fields.{each, each_in, text_lacks_memory};
-ghost use Rattle.clr_rule_text.specs.Lists.{Reads};
+ghost use Rattle.clr_rule_text.specs.Lists.{ReadsElements};
 ghost use Rattle.clr_rule_text.specs.Seen.{items_seen};
 
 use crate::faults::TextFault;
@@ -21,7 +21,7 @@ pub fn read_each<X, T: Drop, F: Fn(&X) -> Result<T, TextFault>>(
     read: F,
 ) -> Result<Vec<T>, TextFault>
     requires { F.IsAlwaysCallable read }
-    ensures { (f : _) → Reads (FnReturnsAt F.Fn read) f → Gives text_lacks_memory (λ v. v.items) result (each_in f elements.now) }
+    ensures { (f : _) → ReadsElements (FnReturnsAt F.Fn read) f → Gives text_lacks_memory (λ v. v.items) result (each_in f elements.now) }
 {
     let mut list = Vec::with_capacity(alloc, elements.len().min(MOST_RESERVED))?;
     for element in elements {
@@ -38,7 +38,7 @@ pub fn read_items<J: JsonValue, T: Drop, F: Fn(&J) -> Result<T, TextFault>>(
     read: F,
 ) -> Result<Vec<T>, TextFault>
     requires { F.IsAlwaysCallable read }
-    ensures { (f : _) → Reads (FnReturnsAt F.Fn read) (λ v. f (J.stands_for v))
+    ensures { (f : _) → ReadsElements (FnReturnsAt F.Fn read) (λ v. f (J.stands_for v))
         → Gives text_lacks_memory (λ v. v.items) result (each f (items_seen J.stands_for items.now)) }
 {
     read_each(alloc, items, read)
@@ -51,7 +51,7 @@ pub fn make_each<X: Drop, T: Drop, F: Fn(X) -> Result<T, TextFault>>(
     make: F,
 ) -> Result<Vec<T>, TextFault>
     requires { F.IsAlwaysCallable make }
-    ensures { (f : _) → Reads (λ x r. F.post make x r) f → Gives text_lacks_memory (λ v. v.items) result (each_in f elements.items) }
+    ensures { (f : _) → ReadsElements (λ x r. F.post make x r) f → Gives text_lacks_memory (λ v. v.items) result (each_in f elements.items) }
 {
     let mut list = Vec::with_capacity(alloc, elements.len())?;
     for element in elements {

@@ -18,7 +18,7 @@ use Rattle.clr_workspaces.specs.Workspaces.{Workspace, workspace_at, find, paren
 use Rattle.clr_workspaces.specs.Operations as tree
 use Rattle.clr_workspaces.specs.declared.rebases.Rebase.TheVariants as rebase_as
 use Rattle.clr_workspaces.specs.Soundness.{IsSound}
-use Rattle.clr_workspaces.specs.Operations.{change_at, without_at, with_marks, with_current, with_kept, with_mark_of, new_leaf, save, roll_to, roll_all}
+use Rattle.clr_workspaces.specs.Operations.{change_workspace, without_at, with_marks, with_current, with_kept, with_mark_of, new_leaf, save, roll_to, roll_all}
 use Rattle.clr_workspaces.specs.Operations.{refresh, with_base_merged, keep_row, own_changes, at_position, under_parent}
 use Rattle.clr_steps.specs.Names.{same_name, is_live}
 use Rattle.clr_steps.specs.Offices.{Office, with_workspaces, office_of, workspace, content_of, set_content, modify, modify_marks, below_live}
@@ -55,7 +55,7 @@ module _ (schema : List TableDef) (book : List Rule) (ws : List Workspace) (soun
 
   -- a workspace under LIVE, modified under its own name
   own_changed : (n : Name) (k : ℕ) (f : Workspace → Workspace) → find ws n ≡ Some (suc k)
-      → office_of schema book (change_at ws (suc k) f) ≡ with_workspaces o (modify (workspace_at ws (suc k)).name f (below_live ws))
+      → office_of schema book (change_workspace ws (suc k) f) ≡ with_workspaces o (modify (workspace_at ws (suc k)).name f (below_live ws))
   own_changed n k f e =
       let m = (workspace_at ws (suc k)).name in
       ap (office_of schema book) (changed_is m f ws (suc k) (only m (suc k) (own n (suc k) e)))
@@ -67,7 +67,7 @@ module _ (schema : List TableDef) (book : List Rule) (ws : List Workspace) (soun
   under_is k above f under = ap (λ r. office_of schema book (at_position ws r f)) under
 
   -- an operation is known by what it makes of the workspace there
-  alike : (at : ℕ) (f g : Workspace → Workspace) → f (workspace_at ws at) ≡ g (workspace_at ws at) → change_at ws at f ≡ change_at ws at g
+  alike : (at : ℕ) (f g : Workspace → Workspace) → f (workspace_at ws at) ≡ g (workspace_at ws at) → change_workspace ws at f ≡ change_workspace ws at g
   alike at f g e = ap (slice_set ws at) e
 
   -- commands on one workspace --------------------------------------------------------------------------------
@@ -76,7 +76,7 @@ module _ (schema : List TableDef) (book : List Rule) (ws : List Workspace) (soun
   unfolding effect after_apply edited_content
   apply_is n edits at e =
       let c = (workspace_at ws at).current in
-      ap (λ d. office_of schema book (change_at ws at (with_current d))) (taken_over-own c (after_edits c edits))
+      ap (λ d. office_of schema book (change_workspace ws at (with_current d))) (taken_over-own c (after_edits c edits))
       ∙ ap (office_of schema book) (changed_is n (with_current (after_edits c edits)) ws at (only n at e))
       ∙ modified_content schema book n (after_edits c edits) ws at sound.rooted.live (only n at e)
       ∙ ap (λ d. set_content o n (after_edits d edits)) (sym (content_is n at e))
@@ -195,7 +195,7 @@ module _ (schema : List TableDef) (book : List Rule) (ws : List Workspace) (soun
       let f = refresh (workspace_at ws (suc a)).current in
       let g = with_marks (mark_last w.name) in
       let vs = modify w.parent g ws in
-      ap (λ (xs : List Workspace). office_of schema book (change_at xs (suc k) f)) (changed_is w.parent g ws (suc a) (only w.parent (suc a) under))
+      ap (λ (xs : List Workspace). office_of schema book (change_workspace xs (suc k) f)) (changed_is w.parent g ws (suc a) (only w.parent (suc a) under))
       ∙ ap (office_of schema book) (changed_is w.name f vs (suc k) (only_modify w.name w.parent g (λ v. refl) ws (suc k) (only w.name (suc k) mine)))
       ∙ modified_below schema book w.name f vs (part_modify (λ v. v.name) w.parent g (λ v. refl) ws 0 ∙ sound.rooted.live) (not_live w.name k mine)
       ∙ ap (λ (x : Office). with_workspaces x (modify w.name f x.workspaces)) (modified_marks schema book w.parent (mark_last w.name) ws)
@@ -219,7 +219,7 @@ module _ (schema : List TableDef) (book : List Rule) (ws : List Workspace) (soun
   merged_by_name k above mine under =
       let w = workspace_at ws (suc k) in
       let f = with_current (taken_over (workspace_at ws above).current (own_changes w)) in
-      ap (λ (xs : List Workspace). change_at xs (suc k) with_base_merged) (changed_is w.parent f ws above (only w.parent above under))
+      ap (λ (xs : List Workspace). change_workspace xs (suc k) with_base_merged) (changed_is w.parent f ws above (only w.parent above under))
       ∙ changed_is w.name with_base_merged (modify w.parent f ws) (suc k) (only_modify w.name w.parent f (λ v. refl) ws (suc k) (only w.name (suc k) mine))
 
   merged_is : (k above : ℕ) → find ws (workspace_at ws (suc k)).name ≡ Some (suc k) → parent_of ws (suc k) ≡ Some above
@@ -256,7 +256,7 @@ module _ (schema : List TableDef) (book : List Rule) (ws : List Workspace) (soun
       ∙ position_of_only (has_name w.parent) vs above (stays w.parent above (only w.parent above under)) in
       ap (λ (xs : List Workspace). office_of schema book (tree.after_remove xs (suc k))) is
       ∙ ap (λ r. office_of schema book (at_position vs r (tree.after_remove_under vs (suc k)))) up
-      ∙ ap (λ m. office_of schema book (change_at (without_at vs (suc k)) above (with_marks (without_mark_of m)))) name
+      ∙ ap (λ m. office_of schema book (change_workspace (without_at vs (suc k)) above (with_marks (without_mark_of m)))) name
       ∙ removed_is schema book w.name w.parent (suc k) above vs (part (λ v. v.name) (λ v. refl) (λ v. refl) 0 ∙ sound.rooted.live) (not_live w.name k mine)
       before
       (stays w.name (suc k) (only w.name (suc k) mine)) (stays w.parent above (only w.parent above under))

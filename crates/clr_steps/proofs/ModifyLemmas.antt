@@ -8,7 +8,7 @@ use Rattle.clr_rows.specs.Names.{live_name}
 use Rattle.clr_rules.specs.declared.rules.Rule.{Rule}
 use Rattle.clr_workspaces.specs.Marks.{Mark, without_mark_of, Name}
 use Rattle.clr_workspaces.specs.Workspaces.{Workspace, workspace_at}
-use Rattle.clr_workspaces.specs.Operations.{change_at, without_at, with_marks, with_current}
+use Rattle.clr_workspaces.specs.Operations.{change_workspace, without_at, with_marks, with_current}
 use Rattle.clr_steps.specs.Names.{same_name, is_live}
 use Rattle.clr_steps.specs.Offices.{Office, with_workspaces, modify, modify_marks, without, set_content, below_live, office_of}
 use Rattle.clr_steps.proofs.FirstLemmas.{IsNone, IsOnly, remove_only, only_remove}
@@ -26,7 +26,7 @@ unfolding same_name
 modify_none n f [] h = refl
 modify_none n f (w ∷ ws) h = rw h.0 (ap (λ vs. w ∷ vs) (modify_none n f ws h.1))
 
-pub changed_is : (n : Name) (f : Workspace → Workspace) (ws : List Workspace) (at : ℕ) → IsOnly (has_name n) ws at → change_at ws at f ≡ modify n f ws
+pub changed_is : (n : Name) (f : Workspace → Workspace) (ws : List Workspace) (at : ℕ) → IsOnly (has_name n) ws at → change_workspace ws at f ≡ modify n f ws
 unfolding same_name
 changed_is n f [] at h = absurd h
 changed_is n f (w ∷ ws) zero h = rw h.0 (ap (λ vs. f w ∷ vs) (sym (modify_none n f ws h.1)))
@@ -137,7 +137,7 @@ module _ (schema : List TableDef) (book : List Rule) where
   -- a workspace taken out, and its mark
   pub removed_is : (n p : Name) (at above : ℕ) (ws : List Workspace) → (workspace_at ws 0).name ≡ live_name → is_live n ≡ false → above < at
       → IsOnly (has_name n) ws at → IsOnly (has_name p) ws above
-      → office_of schema book (change_at (without_at ws at) above (with_marks (without_mark_of n)))
+      → office_of schema book (change_workspace (without_at ws at) above (with_marks (without_mark_of n)))
       ≡ with_workspaces (office_of schema book ws) (modify_marks p (without_mark_of n) (without n (below_live ws)))
   removed_is n p at above ws live e lt h under =
       let f = with_marks (without_mark_of n) in

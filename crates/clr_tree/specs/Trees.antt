@@ -16,8 +16,8 @@ pub record Tree : Type 0 where
   pub saved : List (List ℕ)
 
 -- how many differences are stored of the workspace at a position
-abbrev pub stored_at : List ℕ → ℕ → ℕ
-stored_at counts at = slice_index_or counts at 0
+abbrev pub stored_count_at : List ℕ → ℕ → ℕ
+stored_count_at counts at = slice_index_or counts at 0
 
 -- how many differences are stored of each mark of the workspace at a position
 abbrev pub saved_at : List (List ℕ) → ℕ → List ℕ

@@ -12,7 +12,7 @@ ghost use Rattle.clr_workspaces.specs.Operations.{after_roll_to, after_roll_all,
 ghost use Rattle.clr_parts.specs.Parts.{workspace_of, list_of, spaces_of, first_fault, workspaces_fault, IsFirstPartFault};
 ghost use Rattle.clr_workspaces.specs.Soundness.{IsSound};
 ghost use Rattle.clr_workspaces.specs.declared.rebases.Rebase.TheVariants as rebase;
-ghost use Rattle.clr_tree.specs.Trees.{tree_of, stored_at, saved_at, needed, needed_delta, needed_of_marks};
+ghost use Rattle.clr_tree.specs.Trees.{tree_of, stored_count_at, saved_at, needed, needed_delta, needed_of_marks};
 
 use clr_change::ChangeSet;
 use clr_contents::{
@@ -276,7 +276,7 @@ impl Tree {
     pub fn stored(&self, at: usize) -> usize
         requires child { 0 < at }
         requires within { at < length self.now.list }
-        ensures { result ≡ stored_at self.now.stored at }
+        ensures { result ≡ stored_count_at self.now.stored at }
     {
         self.map.count_differences(at)
     }
@@ -559,7 +559,7 @@ impl Tree {
     pub fn sweep(&mut self)
         ensures contents { self.new.list ≡ self.old.list }
         ensures deltas { (at : ℕ) → 0 < at → at < length self.new.list → delta_at self.new.deltas at ≡ needed_delta self.new.list at }
-        ensures counts { (at : ℕ) → 0 < at → at < length self.new.list → stored_at self.new.stored at ≡ needed self.new.list at }
+        ensures counts { (at : ℕ) → 0 < at → at < length self.new.list → stored_count_at self.new.stored at ≡ needed self.new.list at }
         ensures saved { (at : ℕ) → 0 < at → at < length self.new.list → saved_at self.new.saved at ≡ needed_of_marks self.new.list at }
     {
         if self.swept {

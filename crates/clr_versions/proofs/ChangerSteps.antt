@@ -14,7 +14,8 @@ use Rattle.clr_rows.specs.Contents.{Changes}
 use Rattle.clr_rows.proofs.ChangeLemmas.{tied_self}
 use Rattle.clr_rules.proofs.Elements.{Among, any_by}
 use Rattle.clr_versions.specs.declared.changers.Changers.{Changers}
-use Rattle.clr_versions.specs.Changers.{AreChangersAt, KeptChangers, are_same_keys, changers_at, changers_from, kept_at, key_of, with_member, with_second}
+use Rattle.clr_versions.specs.Changers.{AreChangersAt, NotedChangers, are_same_keys, changers_at, changers_from, key_of, noted_changers, with_member}
+use Rattle.clr_versions.specs.Changers.{with_second}
 use Rattle.clr_needs.specs.Members.{ChangesCell, IsFirstChanger, IsFound, NoneChanges, after_at, after_in, after_of, positions}
 use Rattle.clr_needs.specs.Settings.{first_changer}
 use Rattle.clr_versions.proofs.Searches.{found_is, none_behind, search, search_finds}
@@ -169,8 +170,8 @@ one_cell p q h =
     ap (λ t. let c : CellId = record { table = t; key = p.key } in c) same.0 ∙ ap (λ k. let c : CellId = record { table = q.table; key = k } in c) same.1
 
 -- what is found by the key of a cell is what is kept there
-pub found_at : (changers : KeptChangers) (q : CellId) (key : ℕ × ℤ) (x : Option Changers) → key ≡ key_of q → x ≡ get are_same_keys changers key
-    → x ≡ kept_at changers q
+pub found_at : (changers : NotedChangers) (q : CellId) (key : ℕ × ℤ) (x : Option Changers) → key ≡ key_of q → x ≡ get are_same_keys changers key
+    → x ≡ noted_changers changers q
 found_at changers q key x is h = h ∙ ap (get are_same_keys changers) is
 
 -- one more of its cells

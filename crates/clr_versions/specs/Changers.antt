@@ -27,16 +27,16 @@ abbrev pub are_same_keys : ℕ × ℤ → ℕ × ℤ → Bool
 are_same_keys a b = (a.0 == b.0) && int_eq a.1 b.1
 
 -- changers by the table and the key of their cell
-abbrev pub KeptChangers : Type 0
-KeptChangers = HashMap (ℕ × ℤ) Changers (BuildHasherDefault FoldHasher)
+abbrev pub NotedChangers : Type 0
+NotedChangers = HashMap (ℕ × ℤ) Changers (BuildHasherDefault FoldHasher)
 
--- the changers that are kept for a cell
-abbrev pub kept_at : KeptChangers → CellId → Option Changers
-kept_at changers q = get are_same_keys changers (key_of q)
+-- the changers that are noted of a cell
+abbrev pub noted_changers : NotedChangers → CellId → Option Changers
+noted_changers changers q = get are_same_keys changers (key_of q)
 
 -- the changers of each cell, among the members below a number
-abbrev pub AreChangersBelow : List Changes → ℕ → KeptChangers → Type 0
-AreChangersBelow sets end changers = (q : CellId) → AreChangersAt sets end q (kept_at changers q)
+abbrev pub AreChangersBelow : List Changes → ℕ → NotedChangers → Type 0
+AreChangersBelow sets end changers = (q : CellId) → AreChangersAt sets end q (noted_changers changers q)
 
 -- the first member of all that changes the cell and the next one
 abbrev pub changers_from : List Changes → CellId → Option ℕ → Option Changers

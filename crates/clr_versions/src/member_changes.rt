@@ -6,7 +6,7 @@ ghost use Rattle.clr_rows.specs.declared.cells.CellId.{CellId as Cell};
 ghost use Rattle.clr_needs.specs.declared.limits.TheConstants.{MOST_MEMBERS};
 ghost use Rattle.clr_rows.specs.Beginnings.{IsBegun};
 ghost use Rattle.clr_needs.specs.Members.{AreApart, AreFirstTwo, IsApart, IsLeastShared, after_of, changed_cells, positions};
-ghost use Rattle.clr_versions.specs.Changers.{changers_at, kept_at, lesser};
+ghost use Rattle.clr_versions.specs.Changers.{changers_at, lesser, noted_changers};
 ghost use Rattle.clr_needs.specs.Settings.{first_changer};
 ghost use Rattle.clr_versions.specs.Versions.{new_version_at, row_and_life, version_of};
 
@@ -26,7 +26,7 @@ pub struct Members<'a> {
     changers: HashMap<(u16, i64), Changers>,
     pub ghost few: { length sets.items ≤ MOST_MEMBERS },
     pub ghost all: { cells.items ≡ changed_cells (map (λ s. s.now) sets.items) },
-    ghost changed_by: { (q : Cell) → kept_at changers q ≡ changers_at (map (λ s. s.now) sets.items) q },
+    ghost changed_by: { (q : Cell) → noted_changers changers q ≡ changers_at (map (λ s. s.now) sets.items) q },
 }
 
 /// Adds the cells that a change set changes to a list, ascending. If memory runs out, the list keeps what stood in it,

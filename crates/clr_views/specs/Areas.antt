@@ -24,8 +24,8 @@ holds a b =
     && int_le b.bottom.tenths a.bottom.tenths
 
 -- the spot is in the area, edges included
-unfoldable pub has : Area → Spot → Bool
-has a s =
+unfoldable pub has_spot : Area → Spot → Bool
+has_spot a s =
     ((int_le a.left.tenths s.x.tenths && int_le s.x.tenths a.right.tenths) && int_le a.top.tenths s.y.tenths)
     && int_le s.y.tenths a.bottom.tenths
 
@@ -40,19 +40,19 @@ area_around middle width height =
 abbrev pub grown_area : Area → Pixels → Area
 grown_area a by = record { left = minus a.left by; top = minus a.top by; right = plus a.right by; bottom = plus a.bottom by }
 
-abbrev pub lesser : Pixels → Pixels → Pixels
-lesser a b = length_of (int_min a.tenths b.tenths)
+abbrev pub lesser_length : Pixels → Pixels → Pixels
+lesser_length a b = length_of (int_min a.tenths b.tenths)
 
-abbrev pub greater : Pixels → Pixels → Pixels
-greater a b = length_of (int_max a.tenths b.tenths)
+abbrev pub greater_length : Pixels → Pixels → Pixels
+greater_length a b = length_of (int_max a.tenths b.tenths)
 
 -- from the lesser to the greater sides of two areas
 abbrev pub joined_area : Area → Area → Area
 joined_area a b = record {
-  left = lesser a.left b.left;
-  top = lesser a.top b.top;
-  right = greater a.right b.right;
-  bottom = greater a.bottom b.bottom;
+  left = lesser_length a.left b.left;
+  top = lesser_length a.top b.top;
+  right = greater_length a.right b.right;
+  bottom = greater_length a.bottom b.bottom;
 }
 
 abbrev pub width_of : Area → Pixels
@@ -69,4 +69,4 @@ middle_spot a = record { x = plus a.left (half (width_of a)); y = plus a.top (ha
 
 -- a spot outside is moved to the edge, along each axis
 abbrev pub nearest_spot : Area → Spot → Spot
-nearest_spot a s = record { x = greater a.left (lesser s.x a.right); y = greater a.top (lesser s.y a.bottom) }
+nearest_spot a s = record { x = greater_length a.left (lesser_length s.x a.right); y = greater_length a.top (lesser_length s.y a.bottom) }

@@ -11,14 +11,14 @@ unfoldable pub pixels_of : Area → ℤ
 pixels_of area = stopped (int_div (width_of area).tenths (pos 10) *ℤ int_div (height_of area).tenths (pos 10))
 
 -- the area has more pixels than a square of this many pixels for each row
-unfoldable pub has_room : Area → ℕ → ℤ → Bool
-has_room area rows square = int_lt (stopped (stopped (pos rows) *ℤ square)) (pixels_of area)
+unfoldable pub has_pixels_for_rows : Area → ℕ → ℤ → Bool
+has_pixels_for_rows area rows square = int_lt (stopped (stopped (pos rows) *ℤ square)) (pixels_of area)
 
 -- the squares have sides of 26 and of 11 pixels
 abbrev pub detail_of : Area → ℕ → Detail
 detail_of area rows =
-    if has_room area rows (pos 676) then Fine
-    else if has_room area rows (pos 121) then Middle
+    if has_pixels_for_rows area rows (pos 676) then Fine
+    else if has_pixels_for_rows area rows (pos 121) then Middle
     else Coarse
 
 abbrev pub is_fine : Detail → Bool

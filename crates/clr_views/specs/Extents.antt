@@ -35,12 +35,12 @@ extent_with extent shape = with_extent extent (box_of_shape shape)
 abbrev pub extent_with_all : Option Bounds → List Shape → Option Bounds
 extent_with_all extent shapes = fold extent_with extent shapes
 
-unfoldable pub span : ℤ → ℤ → ℤ
-span low high = stopped (high -ℤ low)
+unfoldable pub length_between : ℤ → ℤ → ℤ
+length_between low high = stopped (high -ℤ low)
 
 -- where a range of this length begins that lies round the middle of another
 unfoldable pub start_about : ℤ → ℤ → ℤ → ℤ
-start_about low high length = stopped (stopped (low +ℤ int_div (span low high) (pos 2)) -ℤ int_div length (pos 2))
+start_about low high length = stopped (stopped (low +ℤ int_div (length_between low high) (pos 2)) -ℤ int_div length (pos 2))
 
 unfoldable pub end_about : ℤ → ℤ → ℤ → ℤ
 end_about low high length = stopped (start_about low high length +ℤ length)
@@ -53,10 +53,10 @@ box_about b width height = record {
 }
 
 abbrev pub width_of_box : Bounds → ℤ
-width_of_box b = span b.least.x b.most.x
+width_of_box b = length_between b.least.x b.most.x
 
 abbrev pub height_of_box : Bounds → ℤ
-height_of_box b = span b.least.y b.most.y
+height_of_box b = length_between b.least.y b.most.y
 
 -- a percentage of a length, and at least another length
 unfoldable pub scaled : ℤ → ℤ → ℤ → ℤ

@@ -11,11 +11,11 @@ use Rattle.clr_svg.specs.Lengths.{length_of, minus, plus, stopped}
 use Rattle.clr_views.specs.declared.areas.Area.{Area}
 use Rattle.clr_views.specs.declared.views.View.{View}
 use Rattle.clr_views.specs.Areas.{height_of, width_of}
-use Rattle.clr_views.specs.Extents.{box_about, height_of_box, span, width_of_box}
+use Rattle.clr_views.specs.Extents.{box_about, height_of_box, length_between, width_of_box}
 
--- the share of a number, and 0 where it is a share of nothing
-unfoldable pub share : ℤ → ℤ → ℤ → ℤ
-share number part whole = if int_lt (pos 0) whole then int_div (stopped (number *ℤ part)) whole else pos 0
+-- a number in the ratio of a part to a whole, and 0 where the whole is nothing
+unfoldable pub scaled_by_ratio : ℤ → ℤ → ℤ → ℤ
+scaled_by_ratio number part whole = if int_lt (pos 0) whole then int_div (stopped (number *ℤ part)) whole else pos 0
 
 -- at least 1
 unfoldable pub side : ℤ → ℤ
@@ -23,11 +23,11 @@ side length = int_max length (pos 1)
 
 -- how wide a box of this height would be that has the proportions of a frame
 unfoldable pub fitting_width : Bounds → Area → ℤ
-fitting_width b frame = share (side (height_of_box b)) (width_of frame).tenths (height_of frame).tenths
+fitting_width b frame = scaled_by_ratio (side (height_of_box b)) (width_of frame).tenths (height_of frame).tenths
 
 -- how high one of this width
 unfoldable pub fitting_height : Bounds → Area → ℤ
-fitting_height b frame = share (side (width_of_box b)) (height_of frame).tenths (width_of frame).tenths
+fitting_height b frame = scaled_by_ratio (side (width_of_box b)) (height_of frame).tenths (width_of frame).tenths
 
 unfoldable pub wide_for : Bounds → Area → ℤ
 wide_for b frame = int_max (side (width_of_box b)) (fitting_width b frame)
@@ -44,13 +44,13 @@ view_width v = width_of_box v.world
 
 -- how long a length of the world is on the page
 unfoldable pub length_on : View → ℤ → Pixels
-length_on v millimetres = length_of (share millimetres (width_of v.frame).tenths (view_width v))
+length_on v millimetres = length_of (scaled_by_ratio millimetres (width_of v.frame).tenths (view_width v))
 
 -- x goes to the right from the left side of the frame, and y upwards from its bottom
 unfoldable pub spot_on : View → Place → Spot
 spot_on v p = record {
-  x = plus v.frame.left (length_on v (span v.world.least.x p.x));
-  y = minus v.frame.bottom (length_on v (span v.world.least.y p.y));
+  x = plus v.frame.left (length_on v (length_between v.world.least.x p.x));
+  y = minus v.frame.bottom (length_on v (length_between v.world.least.y p.y));
 }
 
 -- where a box of the world stands on the page

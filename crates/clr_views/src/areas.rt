@@ -1,8 +1,8 @@
 //! Rectangles of a page.
 
 ghost use Rattle.std.specs.Prelude.{◌≡◌, int_le, int_lt};
-ghost use Rattle.clr_views.specs.Areas.{area_around, corner_of, grown_area, has, height_of, holds, joined_area, middle_spot, nearest_spot};
-ghost use Rattle.clr_views.specs.Areas.{greater, lesser, overlaps, width_of};
+ghost use Rattle.clr_views.specs.Areas.{area_around, corner_of, grown_area, has_spot, height_of, holds, joined_area, middle_spot, nearest_spot};
+ghost use Rattle.clr_views.specs.Areas.{greater_length, lesser_length, overlaps, width_of};
 
 use clr_svg::{Pixels, Spot};
 
@@ -47,10 +47,10 @@ impl Area {
         ensures { result ≡ joined_area self other }
     {
         Area {
-            left: lesser(self.left, other.left),
-            top: lesser(self.top, other.top),
-            right: greater(self.right, other.right),
-            bottom: greater(self.bottom, other.bottom),
+            left: lesser_length(self.left, other.left),
+            top: lesser_length(self.top, other.top),
+            right: greater_length(self.right, other.right),
+            bottom: greater_length(self.bottom, other.bottom),
         }
     }
 
@@ -93,8 +93,8 @@ impl Area {
         ensures { result ≡ nearest_spot self spot }
     {
         Spot {
-            x: greater(self.left, lesser(spot.x, self.right)),
-            y: greater(self.top, lesser(spot.y, self.bottom)),
+            x: greater_length(self.left, lesser_length(spot.x, self.right)),
+            y: greater_length(self.top, lesser_length(spot.y, self.bottom)),
         }
     }
 
@@ -121,9 +121,9 @@ impl Area {
     }
 
     /// Returns whether a spot is in the area, edges included.
-    #[tactic(auto, unfolding(crate::specs::Areas::has))]
+    #[tactic(auto, unfolding(crate::specs::Areas::has_spot))]
     pub fn has(self, spot: Spot) -> bool
-        ensures { result ≡ has self spot }
+        ensures { result ≡ has_spot self spot }
     {
         is_at_most(self.left, spot.x)
             && is_at_most(spot.x, self.right)
@@ -144,14 +144,14 @@ fn is_at_most(a: Pixels, b: Pixels) -> bool
     a.tenths <= b.tenths
 }
 
-fn lesser(a: Pixels, b: Pixels) -> Pixels
-    ensures { result ≡ lesser a b }
+fn lesser_length(a: Pixels, b: Pixels) -> Pixels
+    ensures { result ≡ lesser_length a b }
 {
     Pixels::of_tenths(a.tenths.min(b.tenths))
 }
 
-fn greater(a: Pixels, b: Pixels) -> Pixels
-    ensures { result ≡ greater a b }
+fn greater_length(a: Pixels, b: Pixels) -> Pixels
+    ensures { result ≡ greater_length a b }
 {
     Pixels::of_tenths(a.tenths.max(b.tenths))
 }

@@ -2,7 +2,7 @@
 
 ghost use Rattle.std.specs.Prelude.{◌≡◌, pos};
 ghost use Rattle.clr_svg.specs.Lengths.{stopped};
-ghost use Rattle.clr_views.specs.Details.{detail_of, has_room, is_coarse, is_fine, pixels_of};
+ghost use Rattle.clr_views.specs.Details.{detail_of, has_pixels_for_rows, is_coarse, is_fine, pixels_of};
 
 use crate::areas::Area;
 
@@ -41,9 +41,9 @@ fn number_of(rows: usize) -> i64
 }
 
 /// Returns whether an area has more pixels than a square of this many for each row.
-#[tactic(auto, unfolding(crate::specs::Details::has_room))]
-fn has_room(area: Area, rows: usize, square: i64) -> bool
-    ensures { result ≡ has_room area rows square }
+#[tactic(auto, unfolding(crate::specs::Details::has_pixels_for_rows))]
+fn has_pixels_for_rows(area: Area, rows: usize, square: i64) -> bool
+    ensures { result ≡ has_pixels_for_rows area rows square }
 {
     number_of(rows).saturating_mul(square) < pixels_of(area)
 }
@@ -53,9 +53,9 @@ impl Detail {
     pub fn of(area: Area, rows: usize) -> Detail
         ensures { result ≡ detail_of area rows }
     {
-        if has_room(area, rows, FINE_SIDE * FINE_SIDE) {
+        if has_pixels_for_rows(area, rows, FINE_SIDE * FINE_SIDE) {
             Detail::Fine
-        } else if has_room(area, rows, MIDDLE_SIDE * MIDDLE_SIDE) {
+        } else if has_pixels_for_rows(area, rows, MIDDLE_SIDE * MIDDLE_SIDE) {
             Detail::Middle
         } else {
             Detail::Coarse

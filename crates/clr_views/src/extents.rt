@@ -2,7 +2,7 @@
 
 ghost use Rattle.std.specs.Prelude.{◌≡◌};
 ghost use Rattle.clr_views.specs.Extents.{box_about, box_with_box, end_about, extent_with, greater_place, height_of_box, lesser_place};
-ghost use Rattle.clr_views.specs.Extents.{longer_side, scaled, scaled_box, span, start_about, width_of_box};
+ghost use Rattle.clr_views.specs.Extents.{length_between, longer_side, scaled, scaled_box, start_about, width_of_box};
 
 use clr_rows::{Place, Shape};
 use clr_segments::{Bounds, box_of_shape};
@@ -48,9 +48,9 @@ fn greater_place(a: Place, b: Place) -> Place
     }
 }
 
-#[tactic(auto, unfolding(crate::specs::Extents::span))]
-pub(crate) fn span(low: i64, high: i64) -> i64
-    ensures { result ≡ span low high }
+#[tactic(auto, unfolding(crate::specs::Extents::length_between))]
+pub(crate) fn length_between(low: i64, high: i64) -> i64
+    ensures { result ≡ length_between low high }
 {
     high.saturating_sub(low)
 }
@@ -60,7 +60,7 @@ pub(crate) fn span(low: i64, high: i64) -> i64
 fn range_about(low: i64, high: i64, length: i64) -> (i64, i64)
     ensures { result ≡ (start_about low high length, end_about low high length) }
 {
-    let middle = low.saturating_add(span(low, high) / 2);
+    let middle = low.saturating_add(length_between(low, high) / 2);
     let start = middle.saturating_sub(length / 2);
     (start, start.saturating_add(length))
 }
@@ -89,13 +89,13 @@ fn scaled(length: i64, percent: i64, least: i64) -> i64
 pub(crate) fn width_of_box(bounds: Bounds) -> i64
     ensures { result ≡ width_of_box bounds }
 {
-    span(bounds.least.x, bounds.most.x)
+    length_between(bounds.least.x, bounds.most.x)
 }
 
 pub(crate) fn height_of_box(bounds: Bounds) -> i64
     ensures { result ≡ height_of_box bounds }
 {
-    span(bounds.least.y, bounds.most.y)
+    length_between(bounds.least.y, bounds.most.y)
 }
 
 /// Returns the box round the middle of another whose sides are a percentage of its sides, and at least this many millimetres.

@@ -2,11 +2,11 @@
 
 ghost use Rattle.std.specs.Prelude.{◌≡◌, ◌↔◌, IsTrue};
 ghost use Rattle.clr_views.specs.Extents.{height_of_box, width_of_box};
-ghost use Rattle.clr_views.specs.Views.{Sees, area_on, fitting_height, fitting_width, high_for, length_on, share, side, spot_on, view_of, view_width};
+ghost use Rattle.clr_views.specs.Views.{Sees, area_on, fitting_height, fitting_width, high_for, length_on, scaled_by_ratio, side, spot_on, view_of, view_width};
 ghost use Rattle.clr_views.specs.Views.{wide_for};
 
 use crate::areas::Area;
-use crate::extents::{box_about, height_of_box, span, width_of_box};
+use crate::extents::{box_about, height_of_box, length_between, width_of_box};
 use clr_rows::{Place, Shape};
 use clr_segments::{Bounds, box_of_shape, boxes_touch};
 use clr_svg::{Pixels, Spot};
@@ -18,10 +18,10 @@ pub struct View {
     pub frame: Area,
 }
 
-/// Returns the share of a number, or 0 where it is a share of nothing.
-#[tactic(auto, unfolding(crate::specs::Views::share))]
-fn share(number: i64, part: i64, of: i64) -> i64
-    ensures { result ≡ share number part of }
+/// Returns a number in the ratio of a part to a whole, or 0 where the whole is nothing.
+#[tactic(auto, unfolding(crate::specs::Views::scaled_by_ratio))]
+fn scaled_by_ratio(number: i64, part: i64, of: i64) -> i64
+    ensures { result ≡ scaled_by_ratio number part of }
 {
     if of <= 0 {
         return 0;
@@ -57,7 +57,7 @@ fn fitting_width(bounds: Bounds, frame: Area) -> i64
     ensures { result ≡ fitting_width bounds frame }
 {
     let (width, height) = (frame.width(), frame.height());
-    share(high_side(bounds), width.tenths, height.tenths)
+    scaled_by_ratio(high_side(bounds), width.tenths, height.tenths)
 }
 
 /// Returns how high a box of this width would be that has the proportions of a frame.
@@ -66,7 +66,7 @@ fn fitting_height(bounds: Bounds, frame: Area) -> i64
     ensures { result ≡ fitting_height bounds frame }
 {
     let (width, height) = (frame.width(), frame.height());
-    share(wide_side(bounds), height.tenths, width.tenths)
+    scaled_by_ratio(wide_side(bounds), height.tenths, width.tenths)
 }
 
 /// Returns how wide a box is made that has the proportions of a frame.
@@ -109,7 +109,7 @@ impl View {
     pub fn length(&self, millimetres: i64) -> Pixels
         ensures { result ≡ length_on self.now millimetres }
     {
-        Pixels::of_tenths(share(millimetres, self.frame.width().tenths, self.width()))
+        Pixels::of_tenths(scaled_by_ratio(millimetres, self.frame.width().tenths, self.width()))
     }
 
     /// Returns where a place stands on the page.
@@ -118,8 +118,8 @@ impl View {
         ensures { result ≡ spot_on self.now place }
     {
         Spot {
-            x: self.frame.left + self.length(span(self.world.least.x, place.x)),
-            y: self.frame.bottom - self.length(span(self.world.least.y, place.y)),
+            x: self.frame.left + self.length(length_between(self.world.least.x, place.x)),
+            y: self.frame.bottom - self.length(length_between(self.world.least.y, place.y)),
         }
     }
 

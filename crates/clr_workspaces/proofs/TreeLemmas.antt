@@ -16,7 +16,8 @@ use Rattle.clr_workspaces.specs.Workspaces.{Workspace, no_workspace, live_worksp
 use Rattle.clr_workspaces.specs.Workspaces.{depth_of}
 use Rattle.clr_workspaces.proofs.FindLemmas.{find_set, find_more, find_named}
 use Rattle.clr_workspaces.proofs.FindLemmas.{not_from}
-use Rattle.clr_workspaces.specs.Operations.{change_at, with_marks, with_mark_of, with_kept, with_current, change_marks, new_leaf, save, roll_to, own_changes}
+use Rattle.clr_workspaces.specs.Operations.{change_workspace, with_marks, with_mark_of, with_kept, with_current, change_marks, new_leaf, save, roll_to}
+use Rattle.clr_workspaces.specs.Operations.{own_changes}
 use Rattle.clr_workspaces.specs.Operations.{at_position, after_create, after_write, after_resolve, after_rebase, after_rebase_under, after_remove_under}
 use Rattle.clr_workspaces.specs.declared.rebases.Keep.{Keep}
 use Rattle.clr_workspaces.specs.declared.rebases.Keep.TheVariants as keeps
@@ -72,35 +73,36 @@ module _ (ws : List Workspace) (at : ℕ) (s : IsSound ws) (lt : at < length ws)
   live_here : at ≡ 0 → IsLive here
   live_here same = subst (λ k. IsLive (workspace_at ws k)) (sym same) (s.base, s.bare, s.held)
 
-  pub sound_current : (content : Content) → IsSound (change_at ws at (with_current content))
+  pub sound_current : (content : Content) → IsSound (change_workspace ws at (with_current content))
   sound_current content = sound_set ws at _ s lt refl refl (λ same. let live = live_here same in (live.0, live.1, live.2)) (s.saved at lt) (λ n. refl)
 
   module _ (some : 0 < at) where
-    pub sound_kept : (kept : Bool) → IsSound (change_at ws at (with_kept kept))
+    pub sound_kept : (kept : Bool) → IsSound (change_workspace ws at (with_kept kept))
     sound_kept kept = sound_set ws at _ s lt refl refl (λ same. absurd (omega (arith, same, some))) (s.saved at lt) (λ n. refl)
 
     pub sound_saved : (name : Name) → are_good_savepoints (saved_names (here.marks ++ Saved name here.current ∷ [])) ≡ true →
-        IsSound (change_at ws at (save name))
+        IsSound (change_workspace ws at (save name))
     sound_saved name good = sound_set ws at _ s lt refl refl (λ same. absurd (omega (arith, same, some))) good
         (λ n. count-append (is_mark_of n) here.marks (Saved name here.current ∷ []) ∙ zero_more (mark_count here.marks n))
       where
         zero_more : (k : ℕ) → k + 0 ≡ k
         zero_more k = omega arith
 
-    pub sound_unmarked : (i : ℕ) → is_saved (mark_at here.marks i) ≡ true → IsSound (change_at ws at (with_marks (λ ms. remove ms i)))
+    pub sound_unmarked : (i : ℕ) → is_saved (mark_at here.marks i) ≡ true → IsSound (change_workspace ws at (with_marks (λ ms. remove ms i)))
     sound_unmarked i saved = sound_set ws at _ s lt refl refl (λ same. absurd (omega (arith, same, some))) (good_removed here.marks i (s.saved at lt))
         (λ n. count-unmarked n here.marks i saved)
 
-    pub sound_rolled_to : (i : ℕ) → IsSound (change_at ws at (roll_to i))
+    pub sound_rolled_to : (i : ℕ) → IsSound (change_workspace ws at (roll_to i))
     sound_rolled_to i = sound_set ws at _ s lt refl refl (λ same. absurd (omega (arith, same, some))) (good_cut here.marks (suc i) (s.saved at lt))
         (λ n. count-cut n here.marks (suc i))
 
     -- any base and current content, without savepoints
-    pub sound_unsaved : (base current : Content) → IsSound (change_at ws at (λ w. record w { base = base; current = current; marks = without_saved w.marks }))
+    pub sound_unsaved : (base current : Content)
+        → IsSound (change_workspace ws at (λ w. record w { base = base; current = current; marks = without_saved w.marks }))
     sound_unsaved base current = sound_set ws at _ s lt refl refl (λ same. absurd (omega (arith, same, some))) (good_none here.marks)
         (λ n. count-without_saved n here.marks)
 
-    pub sound_contents : (base current : Content) → IsSound (change_at ws at (λ w. record w { base = base; current = current }))
+    pub sound_contents : (base current : Content) → IsSound (change_workspace ws at (λ w. record w { base = base; current = current }))
     sound_contents base current = sound_set ws at _ s lt refl refl (λ same. absurd (omega (arith, same, some))) (s.saved at lt) (λ n. refl)
 
 -- the mark of a child moved to the end
@@ -346,7 +348,7 @@ module _ (ws : List Workspace) (at p : ℕ) (s : IsSound ws) (some : 0 < at) (lt
   dropped = with_marks (without_mark_of child) (workspace_at gone p)
 
   abbrev left : List Workspace
-  left = change_at gone p (with_marks (without_mark_of child))
+  left = change_workspace gone p (with_marks (without_mark_of child))
 
   rooted_gone : IsRooted gone
   rooted_gone = rooted_removed ws at s.rooted some lt free

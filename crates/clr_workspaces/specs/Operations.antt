@@ -61,8 +61,8 @@ keep_row cell keeps.Base above w = record w { base = set_cell w.base cell (row_a
 -- what becomes of all ------------------------------------------------------------------------------
 
 -- the workspace at a position changed
-abbrev pub change_at : List Workspace → ℕ → (Workspace → Workspace) → List Workspace
-change_at ws at f = slice_set ws at (f (workspace_at ws at))
+abbrev pub change_workspace : List Workspace → ℕ → (Workspace → Workspace) → List Workspace
+change_workspace ws at f = slice_set ws at (f (workspace_at ws at))
 
 -- the workspace at a position taken out
 abbrev pub without_at : List Workspace → ℕ → List Workspace
@@ -71,7 +71,7 @@ without_at ws at = remove ws at
 -- the marks of a workspace changed, where that isn't LIVE
 abbrev pub change_marks : List Workspace → ℕ → (List Mark → List Mark) → List Workspace
 change_marks ws zero f = ws
-change_marks ws (suc k) f = change_at ws (suc k) (with_marks f)
+change_marks ws (suc k) f = change_workspace ws (suc k) (with_marks f)
 
 -- an operation that names the position of the parent, where there is one
 abbrev pub at_position : List Workspace → Option ℕ → (ℕ → List Workspace) → List Workspace
@@ -87,43 +87,43 @@ after_create ws name at = let above = workspace_at ws at in change_marks ws at (
 
 -- the workspace at a position goes, and its mark; its parent stands earlier, and keeps its position
 abbrev pub after_remove_under : List Workspace → ℕ → ℕ → List Workspace
-after_remove_under ws at above = change_at (without_at ws at) above (with_marks (without_mark_of (workspace_at ws at).name))
+after_remove_under ws at above = change_workspace (without_at ws at) above (with_marks (without_mark_of (workspace_at ws at).name))
 
 abbrev pub after_remove : List Workspace → ℕ → List Workspace
 after_remove ws at = under_parent ws at (after_remove_under ws at)
 
 -- changes taken over by the current content
 abbrev pub after_write : List Workspace → ℕ → Changes → List Workspace
-after_write ws at changed = change_at ws at (λ w. with_current (taken_over w.current changed) w)
+after_write ws at changed = change_workspace ws at (λ w. with_current (taken_over w.current changed) w)
 
 abbrev pub after_mark : List Workspace → ℕ → Name → List Workspace
-after_mark ws at name = change_at ws at (save name)
+after_mark ws at name = change_workspace ws at (save name)
 
 abbrev pub after_unmark : List Workspace → ℕ → ℕ → List Workspace
-after_unmark ws at i = change_at ws at (with_marks (λ ms. remove ms i))
+after_unmark ws at i = change_workspace ws at (with_marks (λ ms. remove ms i))
 
 abbrev pub after_roll_to : List Workspace → ℕ → ℕ → List Workspace
-after_roll_to ws at i = change_at ws at (roll_to i)
+after_roll_to ws at i = change_workspace ws at (roll_to i)
 
 abbrev pub after_roll_all : List Workspace → ℕ → List Workspace
-after_roll_all ws at = change_at ws at roll_all
+after_roll_all ws at = change_workspace ws at roll_all
 
 abbrev pub set_kept : List Workspace → ℕ → Bool → List Workspace
-set_kept ws at kept = change_at ws at (with_kept kept)
+set_kept ws at kept = change_workspace ws at (with_kept kept)
 
 -- the mark of the workspace goes to the end of its parent's
 abbrev pub after_refresh : List Workspace → ℕ → ℕ → List Workspace
 after_refresh ws at above =
     let w = workspace_at ws at in
     let content = (workspace_at ws above).current in
-    change_at (change_marks ws above (mark_last w.name)) at (refresh content)
+    change_workspace (change_marks ws above (mark_last w.name)) at (refresh content)
 
 -- the own changes are taken over by the parent's content
 abbrev pub after_merge : List Workspace → ℕ → ℕ → List Workspace
-after_merge ws at above = let w = workspace_at ws at in change_at (after_write ws above (own_changes w)) at with_base_merged
+after_merge ws at above = let w = workspace_at ws at in change_workspace (after_write ws above (own_changes w)) at with_base_merged
 
 abbrev pub after_resolve : List Workspace → ℕ → ℕ → CellId → Keep → List Workspace
-after_resolve ws at above cell keep = change_at ws at (keep_row cell keep (workspace_at ws above).current)
+after_resolve ws at above cell keep = change_workspace ws at (keep_row cell keep (workspace_at ws above).current)
 
 abbrev pub after_rebase_under : List Workspace → ℕ → Rebase → ℕ → List Workspace
 after_rebase_under ws at Refresh above = after_refresh ws at above

@@ -5,7 +5,7 @@ use Rattle.clr_differences.specs.Differences.{Differences, seen_over}
 use Rattle.clr_deltas.specs.Deltas.{Delta, wholes, delta_at, delta_changed, stored_at, saved_differences}
 use Rattle.clr_workspaces.specs.Workspaces.{Workspace, workspace_at}
 use Rattle.clr_contents.specs.Pinning.{ChildrenPin}
-use Rattle.clr_workspaces.specs.Operations.{change_at}
+use Rattle.clr_workspaces.specs.Operations.{change_workspace}
 use Rattle.clr_workspaces.specs.Roots.{IsRooted}
 use Rattle.clr_contents.proofs.ReadLemmas.{current-wholes}
 use Rattle.clr_contents.proofs.MarkLemmas.{length-marks, saved_within}
@@ -52,7 +52,7 @@ returns-clause-ok c =
     ap (wholes live) c.roll_to.ensures
     ∙ (λ k. wholes live (delta_changed hs at (λ l. record l { current = c.requires.differences k; marks = take (suc i) l.marks })))
     ∙ rolled live hs at rooted c.requires.child (omega (arith, lt, e.extends.long)) d old (suc i) was both.0 both.1
-    ∙ ap (λ (vs : List Workspace). change_at vs at (λ w. record w { current = seen_over w.base d; marks = take (suc i) w.marks })) e.seen
+    ∙ ap (λ (vs : List Workspace). change_workspace vs at (λ w. record w { current = seen_over w.base d; marks = take (suc i) w.marks })) e.seen
     ∙ rolled_is ws at i (delta_at ls at).marks marks c.requires.saved c.requires.free
 
 pub returns-clause-long : goal.returns-clause-long

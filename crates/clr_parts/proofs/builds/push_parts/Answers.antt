@@ -28,7 +28,7 @@ returns-in-Err-clause-refused c =
     let wrong = part_name_fault_at (list_of c.args.live.now parts) in
     let many = length-map parts workspace_of in
     let lt : c.loop-at.at < length (map workspace_of parts) = omega (arith, many) in
-    subst (λ n. IsFirstPartFault (first_part_name_fault c.args.live.now (map workspace_of parts)) (n, c.in-Err.fault)) (sym c.number_of.ensures)
+    subst (λ n. IsFirstPartFault (first_part_name_fault c.args.live.now (map workspace_of parts)) (n, c.in-Err.fault)) (sym c.fault_number.ensures)
     (refused_at wrong c.loop-at.at (length (map workspace_of parts)) c.in-Err.fault lt c.loop-at.invariant.clear c.in-Err.ensures.refused)
 
 pub loop-at-preserved : goal.loop-at-preserved

@@ -2,7 +2,7 @@ use Rattle.std.proofs.Common.{◌≡◌, [], map, ap, sym, ◌∙◌, subst, ari
 use Rattle.std.proofs.lemmas.List.{nil_from_length}
 use Rattle.std.specs.Vec.Iter.{into_iter_items}
 use Rattle.clr_deltas.specs.NamedDeltas.{stored_delta}
-use Rattle.clr_parts.specs.Parts.{spaces_of, first_part_name_fault, number_of, IsFirstPartFault}
+use Rattle.clr_parts.specs.Parts.{spaces_of, first_part_name_fault, fault_number, IsFirstPartFault}
 use Rattle.clr_parts.proofs.DeltaLemmas.{pushed_first, pushed_rooted, pushed_next, pushed_not, pushed_all}
 use Rattle.clr_parts.proofs.delta_builds.push_deltas.Goals as goal
 
@@ -23,8 +23,8 @@ returns-in-Err-clause-refused c =
     let spaces = spaces_of live c.args.parts.items in
     let before = rw c.in-Some.ensures.steps.0 at c.loop-part.invariant in
     let count = c.len-at.ensures in
-    subst (λ n. IsFirstPartFault (first_part_name_fault live spaces) (n, c.in-Err.fault)) (ap (λ n. number_of n c.in-Err.fault) (omega (arith, count))
-    ∙ sym c.number_of.ensures)
+    subst (λ n. IsFirstPartFault (first_part_name_fault live spaces) (n, c.in-Err.fault)) (ap (λ n. fault_number n c.in-Err.fault) (omega (arith, count))
+    ∙ sym c.fault_number.ensures)
     (pushed_not live spaces c.loop-part.map (stored_delta c.in-Some.part) _ before c.in-Err.fault c.in-Err.ensures.refused)
 
 pub loop-part-preserved : goal.loop-part-preserved

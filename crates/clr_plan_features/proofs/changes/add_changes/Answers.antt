@@ -2,7 +2,7 @@ use Rattle.std.proofs.Common.{◌≡◌, ◌++◌, [], ◌<◌, ap, ◌∙◌, s
 use Rattle.std.specs.List.{flat_map, zip}
 use Rattle.std.proofs.lemmas.Grind.{flat_map-append}
 use Rattle.std.proofs.lemmas.List.{get_or-map, length-map}
-use Rattle.clr_geojson.specs.Collections.{next_text}
+use Rattle.clr_geojson.specs.Collections.{line_with_comma}
 use Rattle.clr_plan_features.specs.ChangeFeatures.{member_features}
 use Rattle.clr_plan_features.proofs.Pairs.{all_pairs, flat_map_one_more}
 use Rattle.clr_plan_features.proofs.changes.add_changes.Goals as goal
@@ -20,13 +20,13 @@ loop-at-preserved c =
     let is : name ≡ get_or names at name = sym (get_or-map (λ n. n.now) c.args.names.now at _ name low) in
     let more = flat_map_one_more names sets f at name set (omega (arith, length-map c.args.names.now (λ n. n.now))) (omega (arith, c.min-count.ensures)) is
     c.index-sets-at.is in
-    c.in_ok-add_member.ensures ∙ ap (λ t. t ++ flat_map next_text (f (name, set))) c.loop-at.invariant
-    ∙ append_assoc c.args.text.now.items (flat_map next_text so_far) (flat_map next_text (f (name, set)))
-    ∙ ap (λ t. c.args.text.now.items ++ t) (sym (flat_map-append next_text so_far (f (name, set))) ∙ ap (flat_map next_text) (sym more))
+    c.in_ok-add_member.ensures ∙ ap (λ t. t ++ flat_map line_with_comma (f (name, set))) c.loop-at.invariant
+    ∙ append_assoc c.args.text.now.items (flat_map line_with_comma so_far) (flat_map line_with_comma (f (name, set)))
+    ∙ ap (λ t. c.args.text.now.items ++ t) (sym (flat_map-append line_with_comma so_far (f (name, set))) ∙ ap (flat_map line_with_comma) (sym more))
 
 pub returns : goal.returns
 returns c =
     c.loop-at.invariant
-    ∙ ap (λ l. c.args.text.now.items ++ flat_map next_text (flat_map (member_features c.args.schema.now c.args.causes.now) l))
+    ∙ ap (λ l. c.args.text.now.items ++ flat_map line_with_comma (flat_map (member_features c.args.schema.now c.args.causes.now) l))
     (all_pairs (map (λ name. name.now) c.args.names.now) c.args.sets.now c.loop-at.at
     (omega (arith, c.min-count.ensures, length-map c.args.names.now (λ n. n.now))))

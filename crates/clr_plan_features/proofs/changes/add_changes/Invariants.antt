@@ -1,6 +1,6 @@
 use Rattle.std.proofs.Common.{◌≡◌, ◌++◌, map, take}
 use Rattle.std.specs.List.{flat_map, zip}
-use Rattle.clr_geojson.specs.Collections.{next_text}
+use Rattle.clr_geojson.specs.Collections.{line_with_comma}
 use Rattle.clr_plan_features.specs.ChangeFeatures.{member_features}
 use Rattle.clr_plan_features.proofs.changes.add_changes.Given as goal
 
@@ -8,4 +8,4 @@ use Rattle.clr_plan_features.proofs.changes.add_changes.Given as goal
 abbrev pub invariant-loop-at : goal.invariant-loop-at
 invariant-loop-at l =
     l.text.items ≡ l.initial.text.items
-    ++ flat_map next_text (flat_map (member_features l.schema l.causes) (take l.at (zip (map (λ name. name.now) l.names) l.sets)))
+    ++ flat_map line_with_comma (flat_map (member_features l.schema l.causes) (take l.at (zip (map (λ name. name.now) l.names) l.sets)))

@@ -5,7 +5,7 @@ use Rattle.std.proofs.lemmas.Map.Iter.{rest_more, rest_all}
 use Rattle.clr_rows.specs.declared.cells.CellId.{CellId}
 use Rattle.clr_rows.specs.declared.cells.Change.{Change}
 use Rattle.clr_versions.specs.declared.changers.Changers.{Changers}
-use Rattle.clr_versions.specs.Changers.{are_same_keys, kept_at, key_of, with_member}
+use Rattle.clr_versions.specs.Changers.{are_same_keys, key_of, noted_changers, with_member}
 use Rattle.clr_versions.proofs.ChangedCells.{cells_of}
 use Rattle.clr_versions.proofs.ChangerSteps.{IsNoting, all_noted, found_at, first_noting, is_cell, noting_further}
 use Rattle.clr_versions.proofs.Searches.{set_at, sets_of}
@@ -14,7 +14,7 @@ use Rattle.clr_versions.proofs.changers.note_member.Goals as goal
 pub loop-cell-init : goal.loop-cell-init
 loop-cell-init c =
     let sets = sets_of c.args.sets.now in
-    let found = kept_at c.args.changers.now in
+    let found = noted_changers c.args.changers.now in
     let at = set_at c.args.sets.now c.args.position c.index-sets-position.result c.requires.within c.index-sets-position.is in
     let all = c.into_iter-cell-iterator.ensures.into_iter_gives ∙ c.iter-cell-items.ensures.rest in
     subst (λ (es : List (CellId × Change)). IsNoting sets c.args.position found (cells_of es)) (sym all)
@@ -23,8 +23,8 @@ loop-cell-init c =
 pub loop-cell-preserved : goal.loop-cell-preserved
 loop-cell-preserved c =
     let sets = sets_of c.args.sets.now in
-    let found = kept_at c.loop-cell.changers in
-    let next = kept_at c.insert.new.self in
+    let found = noted_changers c.loop-cell.changers in
+    let next = noted_changers c.insert.new.self in
     let left = c.next.new.self in
     let changes = rest_more deref_pair c.loop-cell.cell-iterator left c.next.result (c.in-Some.cell, c.in-Some.field-0-1) c.in-Some.is c.next.ensures.steps in
     let key = c.key_of-key.ensures in
@@ -39,7 +39,7 @@ loop-cell-preserved c =
 pub returns : goal.returns
 returns c =
     let sets = sets_of c.args.sets.now in
-    let found = kept_at c.loop-cell.changers in
+    let found = noted_changers c.loop-cell.changers in
     let ended = rest_all deref_pair c.loop-cell.cell-iterator c.next.new.self c.next.result c.in-None.is c.next.ensures.steps in
     all_noted sets c.args.position found (subst (λ (es : List (CellId × Change)). IsNoting sets c.args.position found (cells_of es)) ended
     c.loop-cell.invariant)

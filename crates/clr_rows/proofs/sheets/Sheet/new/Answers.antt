@@ -1,5 +1,5 @@
 use Rattle.std.proofs.Common.{◌≡◌, true, [], ap, subst, sym, ◌∙◌}
-use Rattle.clr_rows.specs.Sheets.{IsSoundSheet, content_of}
+use Rattle.clr_rows.specs.Sheets.{IsSoundSheet, sheet_content}
 use Rattle.clr_rows.specs.Ranges.{AreWithin, is_within}
 use Rattle.clr_rows.proofs.CellOrder.{cell_cmp_total, cell_cmp_exact}
 use Rattle.clr_rows.proofs.SortedMaps.{from_sorted-empty}
@@ -16,4 +16,4 @@ pub invariant_of-result : goal.invariant_of-result
 invariant_of-result c = subst IsSoundSheet (sym c.new.ensures.empty) none_sound
 
 pub returns : goal.returns
-returns c = ap content_of c.new.ensures.empty ∙ from_sorted-empty cell_cmp_total cell_cmp_exact
+returns c = ap sheet_content c.new.ensures.empty ∙ from_sorted-empty cell_cmp_total cell_cmp_exact
