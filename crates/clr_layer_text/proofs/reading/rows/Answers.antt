@@ -18,7 +18,7 @@ row_at_record tables table rounded at n line = at_record n (row_of tables table 
 pub loop-i-init : goal.loop-i-init
 loop-i-init c = rw c.new-list.ensures.items
     (begins (λ n fields. at_record n (row_of c.args.schema.now c.args.table c.args.rounded (seen_headings c.args.headings.now) fields)) fields_of 2
-        c.args.records.now)
+    c.args.records.now)
 
 pub returns-in-Err : goal.returns-in-Err
 returns-in-Err c =
