@@ -6,7 +6,8 @@ ghost use Rattle.clr_differences.specs.Differences.{seen_over};
 ghost use Rattle.clr_deltas.specs.NamedDeltas.{delta_of};
 ghost use Rattle.clr_deltas.specs.Deltas.{leaf, whole_mark, whole_of, wholes};
 ghost use Rattle.clr_workspaces.specs.Workspaces.{workspace_at, find};
-ghost use Rattle.clr_parts.specs.Parts.{mark_of, marks_of, workspace_of, list_of, part_name_fault_at, first_part_name_fault, IsPartFault, IsFirstPartFault, fault_number};
+ghost use Rattle.clr_parts.specs.Parts.{mark_of, marks_of, workspace_of, list_of, part_name_fault_at, first_part_name_fault};
+ghost use Rattle.clr_parts.specs.Parts.{IsPartFault, IsFirstPartFault, fault_number};
 ghost use Rattle.clr_parts.specs.declared.parts.PartFault.TheVariants.{OutOfMemory};
 ghost use Rattle.clr_workspaces.specs.Roots.{IsRooted};
 
