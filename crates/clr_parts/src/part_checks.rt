@@ -108,7 +108,9 @@ fn are_savepoints_or_children(
 ) -> bool
     ensures { result ≡ list_all (λ m. is_savepoint_or_child (wholes live.now map.now) parent.now (bare_mark m)) marks.now }
 {
-    marks.iter().all(|mark| is_savepoint_or_child(live, map, parent, mark))
+    marks
+        .iter()
+        .all(|mark| is_savepoint_or_child(live, map, parent, mark))
 }
 
 /// Returns whether the workspace at a position has exactly one mark, if it is a child of the one of

@@ -58,7 +58,12 @@ pub(crate) fn unheld_lines(
 ) -> Result<Vec<u8>, AllocError>
     ensures { IfOk result (λ lines. lines.items ≡ unheld_lines draft.now position need.now) }
 {
-    let mut lines = unheld_line(alloc, draft.schema(), name_under_live(draft, position), need)?;
+    let mut lines = unheld_line(
+        alloc,
+        draft.schema(),
+        name_under_live(draft, position),
+        need,
+    )?;
     let rule = rule_line(alloc, draft.book().rules(), need.rule as usize)?;
     lines.extend_from_slice(rule.as_slice())?;
     Ok(lines)

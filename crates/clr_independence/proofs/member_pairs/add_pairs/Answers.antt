@@ -25,7 +25,7 @@ loop-second-preserved c =
     let other_at = there_at needs_in c.args.lists.now c.loop-second.second c.index-lists-second.result c.loop-second-test.true c.index-lists-second.is in
     let answer = subst (λ ns. IsTestOf c.share_one-independent.result (ShareOne ns c.index-lists-second.result.items)) c.as_slice-needs.ensures.value
     (subst (λ ns. IsTestOf c.share_one-independent.result (ShareOne c.as_slice-needs.result.now ns)) c.as_slice.ensures.value
-      c.share_one-independent.ensures) in
+    c.share_one-independent.ensures) in
     one_pair_with (map needs_in c.args.lists.now) c.args.first c.loop-second.second c.index-lists-first.result.items c.index-lists-second.result.items
     c.share_one-independent.result
     c.args.pairs.now.items c.loop-second.pairs.items c.push.new.self.items c.loop-second.auto.second at other_at answer c.in_ok-push.ensures.items
