@@ -1,32 +1,16 @@
 -- A search for the first workspace that is kept and breaks a rule.
-use Rattle.std.proofs.Common.{◌≡◌, ℕ, suc, ◌+◌, ◌<◌, ◌≤◌, Bool, true, false, cond, List, [], ◌∷◌, length, drop, Option, Some, None, refl, sym, ap, ◌∙◌, arith}
+use Rattle.std.proofs.Common.{◌≡◌, ℕ, suc, ◌+◌, ◌<◌, ◌≤◌, Bool, cond, List, [], ◌∷◌, length, drop, Option, None, ap, ◌∙◌, arith}
 use Rattle.std.specs.Option.{option_map, option_or}
 use Rattle.std.proofs.lemmas.List.{drop_all, drop_more}
-use Rattle.clr_rows.specs.Contents.{Content}
 use Rattle.clr_rows.specs.declared.tables.TableDef.{TableDef}
 use Rattle.clr_rules.specs.declared.needs.Broken.{Broken}
 use Rattle.clr_rules.specs.declared.rules.Rule.{Rule}
 use Rattle.clr_workspaces.specs.Workspaces.{Workspace, no_workspace, workspace_at}
 use Rattle.clr_workspaces.specs.Soundness.{IsSound}
-use Rattle.clr_steps.specs.declared.commands.Reply.{Reply}
-use Rattle.clr_steps.specs.declared.commands.Reply.TheVariants.{RuleBroken}
 use Rattle.clr_steps.specs.Invariants.{first_unheld, unheld_from}
 use Rattle.clr_steps.specs.Offices.{Office, office_of}
-use Rattle.clr_steps.specs.Refusals.{broken_where, first_broken}
+use Rattle.clr_steps.specs.Refusals.{first_broken}
 use Rattle.clr_engine.specs.Drafts.{unheld_in}
-
-abbrev need_of : Option Reply → Option Broken
-need_of (Some (RuleBroken need)) = Some need
-need_of _ = None
-
-back : (need : Option Broken) → need_of (option_map RuleBroken need) ≡ need
-back None = refl
-back (Some need) = refl
-
-pub need_is : (kept : Bool) (book : List Rule) (content : Content) (need : Option Broken) → option_map RuleBroken need ≡ broken_where kept book content
-    → cond kept (first_broken book content) None ≡ need
-need_is true book content need e = sym (back (first_broken book content)) ∙ ap need_of (sym e) ∙ back need
-need_is false book content need e = ap need_of (sym e) ∙ back need
 
 one : (k : ℕ) → suc k ≡ k + 1
 one k = omega arith

@@ -234,7 +234,7 @@ fn resolve(
     }
 }
 
-#[tactic(auto, using(clr_kept_finders::proofs::Fits::fit_current), unfolding(clr_steps::specs::Positions::refusals_at))]
+#[tactic(auto, unfolding(clr_steps::specs::Positions::refusals_at))]
 fn hold(judge: &Judge, tree: &mut Tree, finders: &mut Finders, at: usize) -> Reply
     requires child { 0 < at }
     requires within { at < length tree.old.list }
@@ -243,14 +243,11 @@ fn hold(judge: &Judge, tree: &mut Tree, finders: &mut Finders, at: usize) -> Rep
         IsPerformedAt judge.now (command.Hold (name_of list at)) at list (set_kept list at true) result tree.new.list }
     ensures finders { AreFinders judge.now (kept_contents tree.new.list) finders.new }
 {
-    match judge.first_broken_if_kept(tree, at, !tree.kept(at)) {
-        Ok(None) => match judge.serve(tree, finders, at) {
-            Ok(()) => {
-                tree.hold(at);
-                Reply::Done
-            }
-            Err(_) => Reply::OutOfMemory,
-        },
+    match judge.prepare_hold(tree, finders, at) {
+        Ok(None) => {
+            tree.hold(at);
+            Reply::Done
+        }
         Ok(Some(need)) => Reply::RuleBroken(need),
         Err(_) => Reply::OutOfMemory,
     }

@@ -130,16 +130,13 @@ impl Draft {
         ensures draft { IfErr result (λ refused. refused.0 ≡ self) }
         ensures fault { IfErr result (λ refused. IsUnheld (unheld_in self) refused.1) }
     {
-        match self.judge.first_unheld(&self.tree) {
-            Ok(None) => match self.judge.finders(&self.tree) {
-                Ok(finders) => {
-                    let mut tree = self.tree;
-                    tree.sweep();
-                    Ok(Office::of_parts(self.schema, self.judge, tree, finders))
-                }
-                Err(_) => Err((self, AdmitFault::OutOfMemory)),
-            },
-            Ok(Some((position, need))) => Err((self, AdmitFault::Broken { position, need })),
+        match self.judge.finders(&self.tree) {
+            Ok(Ok(finders)) => {
+                let mut tree = self.tree;
+                tree.sweep();
+                Ok(Office::of_parts(self.schema, self.judge, tree, finders))
+            }
+            Ok(Err((position, need))) => Err((self, AdmitFault::Broken { position, need })),
             Err(_) => Err((self, AdmitFault::OutOfMemory)),
         }
     }

@@ -1,7 +1,8 @@
 //! Judging, by the rules, what commands would leave.
 
-ghost use Rattle.std.specs.Prelude.{◌≡◌, ◌<◌, true, length, None, Some, IfOk, OnOk, OnErr, MatchOption};
+ghost use Rattle.std.specs.Prelude.{◌≡◌, ◌<◌, true, not, length, None, Some, IfOk, OnErr, MatchOption, if◌then◌else◌};
 ghost use Rattle.std.specs.Option.{option_copied, option_map};
+ghost use Rattle.std.specs.Result.{result_err};
 ghost use Rattle.clr_rows.specs.Contents.{Content, row_at, set_cell, taken_over};
 ghost use Rattle.clr_rules.specs.Books.{FitsContent};
 ghost use Rattle.clr_rules.specs.Needs.{Holds};
@@ -97,35 +98,35 @@ impl Judge {
         first_broken(self.alloc, &self.book, rows)
     }
 
-    /// Returns the least broken need of what a workspace has. LIVE isn't copied for it.
-    fn first_broken_now(&self, tree: &Tree, at: usize) -> Result<Option<Broken>, AllocError>
-        requires within { at < length tree.now.list }
-        requires fit { FitsContent self.now (workspace_at tree.now.list at).current }
-        ensures { IfOk result (λ need. need ≡ first_broken self.now (workspace_at tree.now.list at).current) }
+    /// Returns the finder of a content, or the least need that it breaks.
+    fn finder_or_need(&self, rows: &Sheet) -> Result<Result<SpotIndex, Broken>, AllocError>
+        requires { FitsContent self.now rows.now }
+        ensures need { IfOk result (λ found. result_err found ≡ first_broken self.now rows.now) }
+        ensures finder { IfOk result (λ found. IfOk found (IsFinderOf self.now rows.now)) }
     {
-        if at == 0 {
-            return self.first_broken_in(tree.live());
+        match self.first_broken_in(rows)? {
+            Some(need) => Ok(Err(need)),
+            None => Ok(Ok(finder_of(self.alloc, &self.book, rows)?)),
         }
-        let rows = tree.rows(at)?;
-        self.first_broken_in(&rows)
     }
 
-    /// Returns the least broken need of the content that a workspace has, where the rules are to
-    /// hold in it from now on.
-    pub fn first_broken_if_kept(
+    /// Returns the finder of what a workspace has, or the least need that it breaks. LIVE isn't copied for it; what
+    /// another workspace has is copied once.
+    fn finder_or_need_now(
         &self,
         tree: &Tree,
         at: usize,
-        kept: bool,
-    ) -> Result<Option<Broken>, AllocError>
+    ) -> Result<Result<SpotIndex, Broken>, AllocError>
         requires within { at < length tree.now.list }
         requires fit { FitsContent self.now (workspace_at tree.now.list at).current }
-        ensures { IfOk result (λ need. option_map RuleBroken need ≡ broken_where kept self.now (workspace_at tree.now.list at).current) }
+        ensures need { IfOk result (λ found. result_err found ≡ first_broken self.now (workspace_at tree.now.list at).current) }
+        ensures finder { IfOk result (λ found. IfOk found (IsFinderOf self.now (workspace_at tree.now.list at).current)) }
     {
-        if !kept {
-            return Ok(None);
+        if at == 0 {
+            return self.finder_or_need(tree.live());
         }
-        self.first_broken_now(tree, at)
+        let rows = tree.rows(at)?;
+        self.finder_or_need(&rows)
     }
 
     /// Prepares changes of a workspace: where the rules are to hold in it they are judged, and its
@@ -262,63 +263,70 @@ impl Judge {
         self.prepare(tree, finders, at, &changed)
     }
 
-    /// Makes a finder of a workspace in which the rules are to hold from now on, if it has none.
-    pub fn serve(&self, tree: &Tree, finders: &mut Finders, at: usize) -> Result<(), AllocError>
+    /// Prepares a workspace in which the rules are to hold from now on: where they weren't to hold in it before, it is
+    /// judged and gets a finder, or the least need that it breaks is answered.
+    pub fn prepare_hold(
+        &self,
+        tree: &Tree,
+        finders: &mut Finders,
+        at: usize,
+    ) -> Result<Option<Broken>, AllocError>
         requires within { at < length tree.now.list }
         requires served { IsServed self.now tree.now.list finders.old }
-        ensures ok { OnOk result (AreFinders self.now (kept_contents (set_kept tree.now.list at true)) finders.new) }
+        ensures judged { IfOk result (λ need. let w = workspace_at tree.now.list at in
+            option_map RuleBroken need ≡ broken_where (not w.kept) self.now w.current) }
+        ensures prepared { IfOk result (λ need. MatchOption need
+            (AreFinders self.now (kept_contents (set_kept tree.now.list at true)) finders.new) (λ _. finders.new ≡ finders.old)) }
         ensures err { OnErr result (finders.new ≡ finders.old) }
     {
         if tree.kept(at) {
-            return Ok(());
-        }
-        let rows = tree.rows(at)?;
-        let finder = finder_of(self.alloc, &self.book, &rows)?;
-        finders.put(at, Some(finder));
-        Ok(())
-    }
-
-    /// Returns the position of the first workspace in which the rules are to hold, and one doesn't,
-    /// LIVE having position 0, and its least broken need.
-    #[tactic(auto, using(clr_kept_finders::proofs::Fits::fit_current))]
-    pub fn first_unheld(&self, tree: &Tree) -> Result<Option<(usize, Broken)>, AllocError>
-        requires fit { FitSome self.now tree.now.list }
-        ensures first { IfOk result (λ first. first ≡ first_unheld self.now tree.now.list) }
-        ensures sound { IsSound tree.now.list }
-    {
-        for at in 0..tree.len() {
-            if let Some(need) = self.first_broken_if_kept(tree, at, tree.kept(at))? {
-                return Ok(Some((at, need)));
-            }
-        }
-        Ok(None)
-    }
-
-    /// Returns the finder of a workspace, if the rules are to hold in it.
-    fn finder_at(&self, tree: &Tree, at: usize) -> Result<Option<SpotIndex>, AllocError>
-        requires within { at < length tree.now.list }
-        requires fit { FitsContent self.now (workspace_at tree.now.list at).current }
-        ensures { IfOk result (IsFinderAt self.now (kept_content (workspace_at tree.now.list at))) }
-    {
-        if !tree.kept(at) {
             return Ok(None);
         }
-        if at == 0 {
-            return Ok(Some(finder_of(self.alloc, &self.book, tree.live())?));
+        match self.finder_or_need_now(tree, at)? {
+            Ok(finder) => {
+                finders.put(at, Some(finder));
+                Ok(None)
+            }
+            Err(need) => Ok(Some(need)),
         }
-        let rows = tree.rows(at)?;
-        Ok(Some(finder_of(self.alloc, &self.book, &rows)?))
     }
 
-    /// Returns the finders of the workspaces of a tree.
-    pub fn finders(&self, tree: &Tree) -> Result<Finders, AllocError>
+    /// Returns the finder of a workspace, if the rules are to hold in it, or the least need that it then breaks.
+    fn finder_at(
+        &self,
+        tree: &Tree,
+        at: usize,
+    ) -> Result<Result<Option<SpotIndex>, Broken>, AllocError>
+        requires within { at < length tree.now.list }
+        requires fit { FitsContent self.now (workspace_at tree.now.list at).current }
+        ensures need { IfOk result (λ found. let w = workspace_at tree.now.list at in
+            result_err found ≡ (if w.kept then first_broken self.now w.current else None)) }
+        ensures finder { IfOk result (λ found. IfOk found (IsFinderAt self.now (kept_content (workspace_at tree.now.list at)))) }
+    {
+        if !tree.kept(at) {
+            return Ok(Ok(None));
+        }
+        match self.finder_or_need_now(tree, at)? {
+            Ok(finder) => Ok(Ok(Some(finder))),
+            Err(need) => Ok(Err(need)),
+        }
+    }
+
+    /// Returns the finders of the workspaces of a tree. Where a workspace breaks a rule that is to hold in it, it
+    /// returns the position of the first such, LIVE having position 0, and its least broken need.
+    pub fn finders(&self, tree: &Tree) -> Result<Result<Finders, (usize, Broken)>, AllocError>
         requires { FitSome self.now tree.now.list }
-        ensures { IfOk result (AreFinders self.now (kept_contents tree.now.list)) }
+        ensures first { IfOk result (λ found. result_err found ≡ first_unheld self.now tree.now.list) }
+        ensures finders { IfOk result (λ found. IfOk found (AreFinders self.now (kept_contents tree.now.list))) }
+        ensures sound { IsSound tree.now.list }
     {
         let mut finders = Finders::new(self.alloc);
         for at in 0..tree.len() {
-            finders.push(self.finder_at(tree, at)?)?;
+            match self.finder_at(tree, at)? {
+                Ok(finder) => finders.push(finder)?,
+                Err(need) => return Ok(Err((at, need))),
+            }
         }
-        Ok(finders)
+        Ok(Ok(finders))
     }
 }

@@ -1,4 +1,4 @@
-use Rattle.std.proofs.Common.{◌≡◌, ◌<◌, ◌∙◌, length, subst, sym}
+use Rattle.std.proofs.Common.{◌≡◌, subst}
 use Rattle.clr_rows.specs.Contents.{Changes, taken_over}
 use Rattle.clr_workspaces.specs.Workspaces.{workspace_at}
 use Rattle.clr_kept_finders.specs.Finders.{IsPrepared}

@@ -1,5 +1,4 @@
-use Rattle.std.proofs.Common.{ap, sym, subst, ◌∙◌, List, Option}
-use Rattle.clr_row_maps.specs.RowMaps.{FiledRows}
+use Rattle.std.proofs.Common.{ap, sym, subst, ◌∙◌, List}
 use Rattle.clr_workspaces.specs.Workspaces.{Workspace, children_of, workspace_at}
 use Rattle.clr_kept_finders.specs.Finders.{AreFinders, kept_contents}
 use Rattle.clr_kept_finders.proofs.Kept.{after_merging}

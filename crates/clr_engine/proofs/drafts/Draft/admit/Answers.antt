@@ -1,4 +1,5 @@
 use Rattle.std.proofs.Common.{List, ap, subst, sym, ◌∙◌}
+use Rattle.std.specs.Result.{result_err}
 use Rattle.clr_steps.proofs.UnheldLemmas.{unheld_law}
 use Rattle.clr_workspaces.specs.Workspaces.{Workspace}
 use Rattle.clr_steps.specs.Offices.{office_of}
@@ -13,28 +14,29 @@ of_parts-requires c =
     let same = sym c.sweep.ensures.contents in
     let admitted : IsAdmitted (office_of inside.schema inside.judge inside.tree.list) = record {
       fit = c.self.invariant;
-      holds = (unheld_law inside.schema inside.judge inside.tree.list c.first_unheld.ensures.sound).0 (sym c.in-Ok-None.ensures.first
-          ∙ c.in-Ok-None.field-0-is);
+      holds = (unheld_law inside.schema inside.judge inside.tree.list c.finders.ensures.sound).0 (sym c.in-Ok-Ok.ensures.first
+          ∙ ap result_err c.in-Ok-Ok.field-0-is);
     } in
+    let are : AreFinders inside.judge (kept_contents inside.tree.list) c.in-Ok-Ok.finders = rw c.in-Ok-Ok.field-0-is at c.in-Ok-Ok.ensures.finders in
     record {
       admitted = subst (λ (ws : List Workspace). IsAdmitted (office_of inside.schema inside.judge ws)) same admitted;
-      are = subst (λ (ws : List Workspace). AreFinders inside.judge (kept_contents ws) c.in-Ok.finders) same c.in-Ok.ensures;
+      are = subst (λ (ws : List Workspace). AreFinders inside.judge (kept_contents ws) c.in-Ok-Ok.finders) same are;
       swept = record { deltas = c.sweep.ensures.deltas; counts = c.sweep.ensures.counts };
     }
 
-pub returns-in-Ok-clause-office : goal.returns-in-Ok-clause-office
-returns-in-Ok-clause-office c =
+pub returns-in-Ok-Ok-clause-office : goal.returns-in-Ok-Ok-clause-office
+returns-in-Ok-Ok-clause-office c =
     let inside = c.self.inside in
     c.of_parts.ensures ∙ ap (office_of inside.schema inside.judge) c.sweep.ensures.contents ∙ c.self.view_is
 
-pub returns-in-Ok-clause-held : goal.returns-in-Ok-clause-held
-returns-in-Ok-clause-held c =
+pub returns-in-Ok-Ok-clause-held : goal.returns-in-Ok-Ok-clause-held
+returns-in-Ok-Ok-clause-held c =
     let inside = c.self.inside in
-    sym (unheld_is inside.schema inside.judge inside.tree.list c.args.self c.first_unheld.ensures.sound c.self.view_is) ∙ sym c.in-Ok-None.ensures.first
-    ∙ c.in-Ok-None.field-0-is
+    sym (unheld_is inside.schema inside.judge inside.tree.list c.args.self c.finders.ensures.sound c.self.view_is) ∙ sym c.in-Ok-Ok.ensures.first
+    ∙ ap result_err c.in-Ok-Ok.field-0-is
 
-pub returns-in-Ok-Some-clause-fault : goal.returns-in-Ok-Some-clause-fault
-returns-in-Ok-Some-clause-fault c =
+pub returns-in-Ok-Err-clause-fault : goal.returns-in-Ok-Err-clause-fault
+returns-in-Ok-Err-clause-fault c =
     let inside = c.self.inside in
-    sym (unheld_is inside.schema inside.judge inside.tree.list c.args.self c.first_unheld.ensures.sound c.self.view_is) ∙ sym c.in-Ok-Some.ensures.first
-    ∙ c.in-Ok-Some.field-0-is
+    sym (unheld_is inside.schema inside.judge inside.tree.list c.args.self c.finders.ensures.sound c.self.view_is) ∙ sym c.in-Ok-Err.ensures.first
+    ∙ ap result_err c.in-Ok-Err.field-0-is
