@@ -1,14 +1,15 @@
 -- Members in conflict, what members changed, and the scene that a merge set makes.
-use Rattle.std.proofs.Common.{◌≡◌, ℕ, zero, suc, ◌+◌, ◌≤◌, Bool, true, false, cond, List, [], ◌∷◌, ◌++◌, Option, Some, None, Result, Ok, Err, IfOk, MatchResult}
-use Rattle.std.proofs.Common.{drop, length, map, take, unwrap_or, refl, sym, ap, ◌∙◌, arith}
-use Rattle.std.specs.Prelude.{slice_get}
+use Rattle.std.proofs.Common.{◌≡◌, ℕ, zero, suc, ◌+◌, ◌≤◌, Bool, true, false, not, cond, List, [], ◌∷◌, ◌++◌, Option, Some, None, Result, Ok, Err}
+use Rattle.std.proofs.Common.{IfOk, MatchResult, drop, length, map, take, unwrap_or, refl, sym, ap, ◌∙◌, arith}
+use Rattle.std.specs.Prelude.{position, slice_get}
 use Rattle.std.specs.FinMap as finite
 use Rattle.std.specs.Option.{option_map, option_map_or, option_or}
+use Rattle.std.proofs.lemmas.Bool.{not-false}
 use Rattle.std.proofs.lemmas.List.{drop_all}
 use Rattle.clr_rows.specs.declared.cells.CellId.{CellId}
 use Rattle.clr_rows.specs.declared.cells.Change.{Change}
 use Rattle.clr_rows.specs.declared.rows.Row.{Row}
-use Rattle.clr_rows.specs.Contents.{Changes, change_of, conflicts, is_changed, least_and_count, no_changes, row_at}
+use Rattle.clr_rows.specs.Contents.{Changes, Content, change_of, conflicts, is_changed, least_and_count, no_changes, row_at}
 use Rattle.clr_rows.proofs.ChangeLemmas.{get-changes}
 use Rattle.clr_rules.specs.Books.{FitsCell}
 use Rattle.clr_workspaces.specs.Marks.{Name}
@@ -19,7 +20,7 @@ use Rattle.clr_needs.specs.Members.{after_in, after_of, positions}
 use Rattle.clr_needs.specs.Settings.{Lived, first_changer, held_row, new_version, old_version, version}
 use Rattle.clr_versions.specs.Versions.{FitsSetting}
 use Rattle.clr_needs.proofs.Lives.{new_is, old_is}
-use Rattle.clr_steps.specs.Names.{is_live}
+use Rattle.clr_steps.specs.Names.{has, is_live}
 use Rattle.clr_steps.specs.Offices.{Office, content_of, current_of, find_name, is_kept, stands, workspace}
 use Rattle.clr_steps.specs.Quiet.{MergeSet, root_content}
 use Rattle.clr_steps.specs.Readings.{changes_in, conflicts_in, if_stands}
@@ -27,9 +28,12 @@ use Rattle.clr_steps.proofs.FitLemmas.{fits_content_of}
 use Rattle.clr_kept_finders.specs.Fitting.{IsAdmitted}
 use Rattle.clr_clearance.specs.declared.verdicts.Verdict.{Verdict}
 use Rattle.clr_clearance.specs.declared.verdicts.Verdict.TheVariants as verdict
-use Rattle.clr_clearance.specs.MergeSets.{RootHolds, change_sets, setting_by_position}
-use Rattle.clr_clearance.specs.Verdicts.{first_conflict, member_fault, names_fault}
-use Rattle.clr_merge_sets.specs.Faults.{IsMergeSetFault, of_member, without_memory}
+use Rattle.clr_clearance.specs.MergeSets.{RootHolds, change_sets, is_child, setting_by_position}
+use Rattle.clr_clearance.specs.Verdicts.{first_conflict, member_fault, missing_member, names_fault, repeated_member, root_fault, stray_member}
+use Rattle.clr_clearance.proofs.ClearLemmas.{each_fails, has_at, neither, position_of}
+use Rattle.clr_clearance.proofs.MergeSetLemmas.{content_above}
+use Rattle.clr_clearance.proofs.StaticLemmas.{child_under}
+use Rattle.clr_merge_sets.specs.MergeSets.{AreRowsAbove}
 use Rattle.clr_merge_sets.proofs.NameLemmas.{nowhere, shown, unshown}
 
 -- lists --------------------------------------------------------------------------------------------
@@ -54,6 +58,11 @@ pub cells_are : (o : Office) (name : Name) (cells : Option (List CellId)) → ce
 cells_are o name None e = sym (ap (λ r. option_map_or (λ (w : Workspace). conflicts (content_of o w.parent) (own_changes w)) r [])
     (nowhere o name (unshown o name (conflicts_in o name) e)))
 cells_are o name (Some cells) e = shown o name (conflicts_in o name) cells e
+
+-- what a member changed is in conflict with the rows above it where the member is
+pub conflicts_are : (o : Office) (names : List Name) (rows : Content) (at : ℕ) (name : Name) (set : Changes) → AreRowsAbove o names rows
+    → slice_get names at ≡ Some name → set ≡ changes_in o name → conflicts rows set ≡ conflicts_in o name
+conflicts_are o names rows at name set above e is = ap (conflicts rows) is ∙ sym (above name (has_at names at name e))
 
 module _ (o : Office) (names : List Name) where
   -- the first conflict from a position on is that of all
@@ -154,20 +163,44 @@ module _ (o : Office) (admitted : IsAdmitted o) where
     unfolding root_content
     root_holds kept = admitted.holds s.root kept
 
+-- where no test of names fails ---------------------------------------------------------------------------
+
+module _ (o : Office) (s : MergeSet) (free : None ≡ names_fault o s) where
+  both_pass : (root_fault o s ≡ None) × (option_or (repeated_member s) (option_or (missing_member o s) (stray_member o s)) ≡ None)
+  unfolding names_fault
+  both_pass = neither (root_fault o s) (option_or (repeated_member s) (option_or (missing_member o s) (stray_member o s))) (sym free)
+
+  pub kept_root : is_kept o s.root ≡ true
+  kept_root = by (is_kept o s.root) both_pass.0
+    where
+      by : (b : Bool) → cond b None (Some verdict.NotKept) ≡ None → b ≡ true
+      by true e = refl
+      by false e = absurd (cc)
+
+  no_stray : (r : Option ℕ) → option_map verdict.NotUnderRoot r ≡ None → r ≡ None
+  no_stray None e = refl
+  no_stray (Some at) e = absurd (cc)
+
+  all_children : (name : Name) → has s.members name ≡ true → is_child o s name ≡ true
+  all_children name h =
+      let others = neither (repeated_member s) (option_or (missing_member o s) (stray_member o s)) both_pass.1 in
+      let stray = neither (missing_member o s) (stray_member o s) others.1 in
+      let (k, e) = position_of s.members name h in
+      not-false _ (each_fails (λ n. not (is_child o s n)) s.members (no_stray (position (λ n. not (is_child o s n)) s.members) stray.1) k name e)
+
+  pub rows_above : (rows : Content) → rows ≡ content_of o s.root → AreRowsAbove o s.members rows
+  unfolding root_content
+  rows_above rows is name h =
+      let child = child_under o s name (all_children name h) in
+      ap (λ r. option_map_or (λ (w : Workspace). conflicts (content_of o w.parent) (own_changes w)) r []) child.is
+      ∙ ap (λ content. conflicts content (own_changes child.at)) (content_above o s child.at child.under ∙ sym is)
+      ∙ ap (λ r. conflicts rows (option_map_or own_changes r no_changes)) (sym child.is)
+
 -- answers ------------------------------------------------------------------------------------------------
 
 module _ (o : Office) (s : MergeSet) where
-  pub name_fails : (v : Verdict) → Some v ≡ names_fault o s → IsMergeSetFault o s v
-  name_fails v e = of_member (ap (λ r. option_or r (first_conflict o 0 s.members)) (sym e))
-
-  pub conflict_fails : (v : Verdict) → None ≡ names_fault o s → Some v ≡ first_conflict o 0 s.members → IsMergeSetFault o s v
-  conflict_fails v e f = of_member (λ i. option_or (sym e i) (sym f i))
-
   pub no_fault : None ≡ names_fault o s → None ≡ first_conflict o 0 s.members → member_fault o s ≡ None
   no_fault e f = λ i. option_or (sym e i) (sym f i)
-
-  pub memory_fails : None ≡ names_fault o s → IsMergeSetFault o s verdict.OutOfMemory
-  memory_fails e = without_memory (sym e) refl
 
   pub names_free : member_fault o s ≡ None → names_fault o s ≡ None
   names_free e = by (names_fault o s) e

@@ -1,13 +1,21 @@
 -- What is read of a merge set in an office, and the scene that it makes.
-use Rattle.std.specs.Prelude.{◌≡◌, None}
+use Rattle.std.specs.Prelude.{◌≡◌, true, List, None}
+use Rattle.clr_rows.specs.Contents.{Content, conflicts}
 use Rattle.clr_finders.specs.Sharing.{IsSettledFor, Settled}
+use Rattle.clr_workspaces.specs.Marks.{Name}
 use Rattle.clr_needs.specs.Members.{AreApart}
 use Rattle.clr_foot.specs.Scenes.{IsReady, SceneModel, setting_of}
+use Rattle.clr_steps.specs.Names.{has}
 use Rattle.clr_steps.specs.Offices.{Office}
 use Rattle.clr_steps.specs.Quiet.{MergeSet, root_content}
+use Rattle.clr_steps.specs.Readings.{changes_in, conflicts_in}
 use Rattle.clr_clearance.specs.MergeSets.{change_sets, setting_by_position}
 use Rattle.clr_clearance.specs.Verdicts.{member_fault}
 use Rattle.clr_merge_sets.specs.declared.merge_set_parts.MergeSetParts.{MergeSetParts}
+
+-- what each of some workspaces has in conflict with its parent is what its changes have in conflict with these rows
+abbrev pub AreRowsAbove : Office → List Name → Content → Type 0
+AreRowsAbove o names rows = (name : Name) → has names name ≡ true → conflicts_in o name ≡ conflicts rows (changes_in o name)
 
 -- no test of members fails, and these are the root's rows, filed by their spots, and what each member changed
 pub record AreParts (o : Office) (s : MergeSet) (parts : MergeSetParts) : Type 0 where

@@ -1,9 +1,8 @@
 //! What is read of a merge set in an office: the rows of its root, which aren't copied, and what each member
 //! changed.
 
-ghost use Rattle.std.specs.Prelude.{◌≡◌, [], None, true, map, option_map, unwrap_or, IfErr, IfOk};
+ghost use Rattle.std.specs.Prelude.{◌≡◌, ◌⊎◌, None, Some, true, map, IfErr, IfOk, OnOk};
 ghost use Rattle.clr_finders.specs.Sharing.{IsSettledFor};
-ghost use Rattle.clr_rows.specs.Contents.{least_and_count};
 ghost use Rattle.clr_needs.specs.Members.{IsSceneFault};
 ghost use Rattle.clr_foot.specs.Scenes.{model_of};
 ghost use Rattle.clr_steps.specs.Offices.{content_of, is_kept};
@@ -11,34 +10,23 @@ ghost use Rattle.clr_steps.specs.Quiet.{MergeSet};
 ghost use Rattle.clr_steps.specs.Readings.{changes_in};
 ghost use Rattle.clr_kept_finders.specs.Fitting.{IsAdmitted};
 ghost use Rattle.clr_clearance.specs.MergeSets.{change_sets};
-ghost use Rattle.clr_clearance.specs.Verdicts.{first_conflict, member_fault};
+ghost use Rattle.clr_clearance.specs.Verdicts.{first_conflict};
+ghost use Rattle.clr_clearance.specs.declared.verdicts.Verdict.TheVariants as verdict;
 ghost use Rattle.clr_merge_sets.specs.Faults.{IsMergeSetFault};
 ghost use Rattle.clr_merge_sets.specs.MergeSetNames.{merge_set};
-ghost use Rattle.clr_merge_sets.specs.MergeSets.{AreOfMergeSet, AreParts, IsSceneOf};
+ghost use Rattle.clr_merge_sets.specs.MergeSets.{AreOfMergeSet, AreParts, AreRowsAbove, IsSceneOf};
 
 use crate::merge_set_parts::MergeSetParts;
 use crate::name_lists::NameList;
 use crate::name_tests::name_fault;
-use clr_change::ChangeSet;
+use clr_change::{ChangeSet, first_conflict};
 use clr_clearance::Verdict;
 use clr_engine::Office;
 use clr_foot::Scene;
 use clr_grid::SpotIndex;
 use clr_needs::SceneFault;
-use clr_rows::CellId;
 use clr_tree::View;
 use std::alloc::{AllocError, Global};
-
-/// Returns the least of some cells, if there are any, and how many they are.
-fn least_and_count(cells: Option<Vec<CellId>>) -> Option<(CellId, usize)>
-    ensures { result ≡ least_and_count (unwrap_or (option_map (λ list. list.items) cells) []) }
-{
-    let cells = cells?;
-    match cells.as_slice().first() {
-        Some(least) => Some((*least, cells.len())),
-        None => None,
-    }
-}
 
 /// Returns what a workspace changed, and nothing where there is none.
 fn changes(alloc: Global, office: &Office, name: &str) -> Result<ChangeSet, AllocError>
@@ -63,53 +51,37 @@ fn root_rows<'a>(office: &'a Office, root: &str) -> (View<'a>, &'a SpotIndex)
     (rows, finder)
 }
 
-/// Returns the first member in conflict with the root, its least cell in conflict and how many
-/// there are.
-fn first_conflict<N: NameList>(office: &Office, members: &N) -> Result<Option<Verdict>, AllocError>
-    ensures { IfOk result (λ fault. fault ≡ first_conflict office.now 0 (N.names members.now)) }
-{
-    for member in 0..members.len() {
-        let cells = office.conflicts(members.name_at(member))?;
-        if let Some((cell, count)) = least_and_count(cells) {
-            return Ok(Some(Verdict::Conflict {
-                member,
-                cell,
-                count,
-            }));
-        }
-    }
-    Ok(None)
-}
-
-/// Returns what each member changed, in their order.
+/// Returns what each member changed, in their order. Fails with the first member in conflict with
+/// these rows of the root, its least cell in conflict and how many there are, or with `OutOfMemory`
+/// if memory runs out.
 fn change_sets<N: NameList>(
     alloc: Global,
     office: &Office,
+    rows: &View,
     members: &N,
-) -> Result<Vec<ChangeSet>, AllocError>
-    ensures { IfOk result (λ sets. sets.items ≡ map (changes_in office.now) (N.names members.now)) }
+) -> Result<Vec<ChangeSet>, Verdict>
+    requires { AreRowsAbove office.now (N.names members.now) rows.now }
+    ensures sets { IfOk result (λ sets. sets.items ≡ map (changes_in office.now) (N.names members.now)) }
+    ensures free { OnOk result (first_conflict office.now 0 (N.names members.now) ≡ None) }
+    ensures fault { IfErr result (λ v. (Some v ≡ first_conflict office.now 0 (N.names members.now)) ⊎ (v ≡ verdict.OutOfMemory)) }
 {
     let mut sets = Vec::new(alloc);
     for member in 0..members.len() {
-        sets.push(changes(alloc, office, members.name_at(member))?)?;
+        let Ok(set) = changes(alloc, office, members.name_at(member)) else {
+            return Err(Verdict::OutOfMemory);
+        };
+        if let Some((cell, count)) = first_conflict(&set, rows) {
+            return Err(Verdict::Conflict {
+                member,
+                cell,
+                count,
+            });
+        }
+        if sets.push(set).is_err() {
+            return Err(Verdict::OutOfMemory);
+        }
     }
     Ok(sets)
-}
-
-/// Returns the root's rows and what each member changed.
-fn read_parts<'a, N: NameList>(
-    alloc: Global,
-    office: &'a Office,
-    root: &str,
-    members: &N,
-) -> Result<MergeSetParts<'a>, AllocError>
-    requires { member_fault office.now (merge_set root.now (N.names members.now)) ≡ None }
-    ensures { IfOk result (AreParts office.entry.now (merge_set root.now (N.names members.now))) }
-{
-    let _sound = office.len();
-    let (rows, finder) = root_rows(office, root);
-    let sets = change_sets(alloc, office, members)?;
-    Ok(MergeSetParts { rows, finder, sets })
 }
 
 /// References to change sets, in their order.
@@ -139,15 +111,10 @@ pub fn read_merge_set<'a, N: NameList>(
     if let Some(fault) = name_fault(alloc, office, root, members) {
         return Err(fault);
     }
-    match first_conflict(office, members) {
-        Ok(None) => {}
-        Ok(Some(fault)) => return Err(fault),
-        Err(_) => return Err(Verdict::OutOfMemory),
-    }
-    match read_parts(alloc, office, root, members) {
-        Ok(parts) => Ok(parts),
-        Err(_) => Err(Verdict::OutOfMemory),
-    }
+    let _sound = office.len();
+    let (rows, finder) = root_rows(office, root);
+    let sets = change_sets(alloc, office, &rows, members)?;
+    Ok(MergeSetParts { rows, finder, sets })
 }
 
 impl<'a> MergeSetParts<'a> {
