@@ -1,5 +1,6 @@
 pub mod CellData
 pub mod Laws
+pub mod Lists
 pub mod OfficeData
 pub mod RuleData
 pub mod TableData

@@ -7,6 +7,7 @@ ghost use Rattle.clr_office_json.specs.Tokens.{tokens_of};
 ghost use Rattle.clr_office_json.specs.Values.{list_data, number_data, value_data};
 
 use crate::json_texts::JsonText;
+use crate::lists::write_each;
 use crate::names::write_value;
 use clr_rows::{CellId, Place, Row, Schema, Shape, Sheet, Value};
 use std::alloc::AllocError;
@@ -14,11 +15,7 @@ use std::alloc::AllocError;
 fn write_values(text: &mut JsonText, values: &[Value]) -> Result<(), AllocError>
     ensures { OnOk result (text.new ≡ text.old ++ tokens_of (list_data value_data values.now)) }
 {
-    text.begin_array()?;
-    for value in values {
-        write_value(text, value)?;
-    }
-    text.end_array()
+    write_each::<Value, _, _>(text, values, write_value)
 }
 
 /// Writes the coordinates of places, two numbers for each.

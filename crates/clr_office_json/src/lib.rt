@@ -13,6 +13,7 @@
 mod cells;
 mod json_texts;
 mod laws;
+mod lists;
 mod names;
 mod rules;
 mod tables;

@@ -8,8 +8,10 @@ ghost use Rattle.clr_office_json.specs.Tokens.{tokens_of};
 ghost use Rattle.clr_office_json.specs.Values.{list_data};
 
 use crate::json_texts::JsonText;
+use crate::lists::write_each;
 use crate::names::{column_name, numbered_name, write_value};
-use clr_rows::{Schema, Value};
+use clr_rows::{Schema, Value, Words};
+use clr_rule_text::named_rules::NamedRule;
 use clr_rules::{Col, Rule, RuleBook, Side, Tip};
 use std::alloc::AllocError;
 
@@ -36,11 +38,9 @@ fn write_filter(
 ) -> Result<(), AllocError>
     ensures { OnOk result (text.new ≡ text.old ++ tokens_of (list_data literal_data (map (named_literal schema.now table) filter.now))) }
 {
-    text.begin_array()?;
-    for (column, value) in filter {
-        write_literal(text, schema, table, *column, value)?;
-    }
-    text.end_array()
+    write_each::<(Words, Value), _, _>(text, filter, |text, (column, value)| {
+        write_literal(text, schema, table, *column, value)
+    })
 }
 
 fn write_side(text: &mut JsonText, schema: &Schema, side: &Side) -> Result<(), AllocError>
@@ -62,11 +62,9 @@ fn write_columns(
 ) -> Result<(), AllocError>
     ensures { OnOk result (text.new ≡ text.old ++ tokens_of (names_data (named_columns schema.now side.now columns.now))) }
 {
-    text.begin_array()?;
-    for column in columns {
-        text.string(column_name(schema, side.table, *column))?;
-    }
-    text.end_array()
+    write_each::<Words, _, _>(text, columns, |text, column| {
+        text.string(column_name(schema, side.table, *column))
+    })
 }
 
 fn tip_text(tip: Tip) -> &'static str
@@ -217,11 +215,7 @@ fn write_rule(text: &mut JsonText, schema: &Schema, rule: &Rule) -> Result<(), A
 fn write_rules(text: &mut JsonText, schema: &Schema, rules: &[Rule]) -> Result<(), AllocError>
     ensures { OnOk result (text.new ≡ text.old ++ tokens_of (rules_data schema.now rules.now)) }
 {
-    text.begin_array()?;
-    for rule in rules {
-        write_rule(text, schema, rule)?;
-    }
-    text.end_array()
+    write_each::<NamedRule, _, _>(text, rules, |text, rule| write_rule(text, schema, rule))
 }
 
 /// Returns a text with the rules of a book written at its end, in their order, with the names that

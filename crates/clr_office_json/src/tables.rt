@@ -6,6 +6,7 @@ ghost use Rattle.clr_office_json.specs.Tokens.{tokens_of};
 ghost use Rattle.clr_office_json.specs.Values.{list_data};
 
 use crate::json_texts::JsonText;
+use crate::lists::write_each;
 use clr_rows::{Form, Kind, Schema, TableDef, Words};
 use std::alloc::AllocError;
 
@@ -41,11 +42,7 @@ fn write_column(text: &mut JsonText, column: &(Words, Kind)) -> Result<(), Alloc
 fn write_columns(text: &mut JsonText, columns: &[(Words, Kind)]) -> Result<(), AllocError>
     ensures { OnOk result (text.new ≡ text.old ++ tokens_of (list_data column_data columns.now)) }
 {
-    text.begin_array()?;
-    for column in columns {
-        write_column(text, column)?;
-    }
-    text.end_array()
+    write_each::<(Words, Kind), _, _>(text, columns, write_column)
 }
 
 fn write_table(text: &mut JsonText, table: &TableDef) -> Result<(), AllocError>
@@ -64,11 +61,7 @@ fn write_table(text: &mut JsonText, table: &TableDef) -> Result<(), AllocError>
 fn write_tables(text: &mut JsonText, tables: &[TableDef]) -> Result<(), AllocError>
     ensures { OnOk result (text.new ≡ text.old ++ tokens_of (list_data table_data tables.now)) }
 {
-    text.begin_array()?;
-    for table in tables {
-        write_table(text, table)?;
-    }
-    text.end_array()
+    write_each::<TableDef, _, _>(text, tables, write_table)
 }
 
 /// Returns a text with the tables of a schema written at its end, in their order. If memory runs

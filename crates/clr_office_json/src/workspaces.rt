@@ -9,8 +9,10 @@ ghost use Rattle.clr_office_json.specs.WorkspaceData.{delta_data, marks_data, na
 
 use crate::cells::{write_gone, write_row};
 use crate::json_texts::JsonText;
+use crate::lists::write_each;
 use clr_deltas::{DeltaView, StoredMark};
 use clr_differences::Differences;
+use clr_office_text::named_marks::NamedMark;
 use clr_rows::{CellId, Row, Schema};
 use std::alloc::AllocError;
 
@@ -82,11 +84,7 @@ fn write_mark(text: &mut JsonText, schema: &Schema, mark: &StoredMark) -> Result
 fn write_marks(text: &mut JsonText, schema: &Schema, marks: &[StoredMark]) -> Result<(), AllocError>
     ensures { OnOk result (text.new ≡ text.old ++ tokens_of (marks_data schema.now marks.now)) }
 {
-    text.begin_array()?;
-    for mark in marks {
-        write_mark(text, schema, mark)?;
-    }
-    text.end_array()
+    write_each::<NamedMark, _, _>(text, marks, |text, mark| write_mark(text, schema, mark))
 }
 
 fn write_workspace(
