@@ -24,8 +24,9 @@ loop-member-preserved g c =
     let at = c.loop-member.member in
     let name = c.name_at.result.now in
     record {
-      changed = c.push.ensures.items ∙ ap (λ b. cond b (c.loop-member.sets.items ++ c.in-Ok.set ∷ []) c.loop-member.sets.items) c.if-is_err.ensures.negation ∙ (λ i. c.loop-member.invariant.changed i ++ c.in-Ok.ensures i ∷ []) ∙ sym (map_more (changes_in o) names at name
-          c.name_at.ensures);
+      changed = c.push.ensures.items
+          ∙ ap (λ b. cond b (c.loop-member.sets.items ++ c.in-Ok.set ∷ []) c.loop-member.sets.items) c.if-is_err.ensures.negation
+          ∙ (λ i. c.loop-member.invariant.changed i ++ c.in-Ok.ensures i ∷ []) ∙ sym (map_more (changes_in o) names at name c.name_at.ensures);
       free = conflict_later o names at name c.name_at.ensures (c.in_default-first_conflict.ensures
           ∙ ap least_and_count (conflicts_are o names c.args.rows.now at name c.in-Ok.set c.requires c.name_at.ensures c.in-Ok.ensures))
           c.loop-member.invariant.free;
