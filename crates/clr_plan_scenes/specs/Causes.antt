@@ -20,11 +20,11 @@ owner_of (standing.TakenOver at) = Some at
 owner_of standing.Now = None
 
 -- a row of a design at a cell
-abbrev pub row_of_design : CellId → ℕ → Row → CauseRow
-row_of_design cell design row = record { cell = cell; owner = Some design; row = row }
+abbrev pub owned_row : CellId → ℕ → Row → CauseRow
+owned_row cell design row = record { cell = cell; owner = Some design; row = row }
 
 abbrev pub rows_by : CellId → ℕ → Option Row → List CauseRow
-rows_by cell design row = option_to_list (option_map (row_of_design cell design) row)
+rows_by cell design row = option_to_list (option_map (owned_row cell design) row)
 
 -- the row that a change takes away, if it takes one away
 abbrev pub goer_of : List Changes → ServerChange → List CauseRow
