@@ -32,28 +32,28 @@ impl Hasher for QuickHasher {
 pub type QuickMap<K, V> = HashMap<K, V, BuildHasherDefault<QuickHasher>>;
 
 #[derive(Clone)]
-pub struct Entry {
+pub struct FiledRow {
     pub cell: Cell,
     pub row: Shared,
 }
 
-impl Entry {
+impl FiledRow {
     pub fn held(&self) -> Held<'_> {
         Held { cell: self.cell, row: &self.row }
     }
 }
 
 /// Rows at one spot, ascending by cell; most spots have one.
-enum Entries {
-    One([Entry; 1]),
-    Many(Vec<Entry>),
+enum FiledRows {
+    One([FiledRow; 1]),
+    Many(Vec<FiledRow>),
 }
 
-impl Entries {
-    fn list(&self) -> &[Entry] {
+impl FiledRows {
+    fn list(&self) -> &[FiledRow] {
         match self {
-            Entries::One(one) => one,
-            Entries::Many(list) => list,
+            FiledRows::One(one) => one,
+            FiledRows::Many(list) => list,
         }
     }
 }
@@ -61,9 +61,9 @@ impl Entries {
 /// The rows of one rule by their spots.
 #[derive(Default)]
 pub struct RuleIndex {
-    subjects: QuickMap<u64, Entries>,
-    servers: QuickMap<u64, Entries>,
-    wide: Vec<Entry>,
+    subjects: QuickMap<u64, FiledRows>,
+    servers: QuickMap<u64, FiledRows>,
+    wide: Vec<FiledRow>,
 }
 
 /// The spots by which a row is filed as a subject, or looked for.
@@ -144,57 +144,57 @@ fn server_spot(rule: &Rule, held: Held) -> u64 {
     }
 }
 
-fn insert(list: &mut Vec<Entry>, entry: Entry) {
+fn insert(list: &mut Vec<FiledRow>, filed: FiledRow) {
     match list.last() {
-        Some(last) if last.cell >= entry.cell => {
-            let at = list.partition_point(|it| it.cell < entry.cell);
-            list.insert(at, entry);
+        Some(last) if last.cell >= filed.cell => {
+            let at = list.partition_point(|it| it.cell < filed.cell);
+            list.insert(at, filed);
         }
-        _ => list.push(entry),
+        _ => list.push(filed),
     }
 }
 
-fn file(map: &mut QuickMap<u64, Entries>, spot: u64, entry: Entry) {
+fn file(map: &mut QuickMap<u64, FiledRows>, spot: u64, filed: FiledRow) {
     match map.get_mut(&spot) {
         None => {
-            map.insert(spot, Entries::One([entry]));
+            map.insert(spot, FiledRows::One([filed]));
         }
-        Some(Entries::Many(list)) => insert(list, entry),
-        Some(entries) => {
-            let mut list = entries.list().to_vec();
-            insert(&mut list, entry);
-            *entries = Entries::Many(list);
+        Some(FiledRows::Many(list)) => insert(list, filed),
+        Some(filed_rows) => {
+            let mut list = filed_rows.list().to_vec();
+            insert(&mut list, filed);
+            *filed_rows = FiledRows::Many(list);
         }
     }
 }
 
-fn take_out(map: &mut QuickMap<u64, Entries>, spot: u64, cell: Cell) {
+fn take_out(map: &mut QuickMap<u64, FiledRows>, spot: u64, cell: Cell) {
     match map.get_mut(&spot) {
-        Some(Entries::Many(list)) => list.retain(|entry| entry.cell != cell),
+        Some(FiledRows::Many(list)) => list.retain(|filed| filed.cell != cell),
         _ => {
             map.remove(&spot);
         }
     }
 }
 
-fn list_at(map: &QuickMap<u64, Entries>, spot: u64) -> &[Entry] {
-    map.get(&spot).map_or(&[], Entries::list)
+fn list_at(map: &QuickMap<u64, FiledRows>, spot: u64) -> &[FiledRow] {
+    map.get(&spot).map_or(&[], FiledRows::list)
 }
 
 impl RuleIndex {
     pub fn add(&mut self, rule: &Rule, cell: Cell, row: &Shared) {
-        let (held, entry) = (Held { cell, row }, || Entry { cell, row: row.clone() });
+        let (held, filed) = (Held { cell, row }, || FiledRow { cell, row: row.clone() });
         if rule.is_subject(held) {
             let spots = subject_spots(rule, held);
             if matches!(spots, Spots::Wide) {
-                insert(&mut self.wide, entry());
+                insert(&mut self.wide, filed());
             }
             for spot in spots.list() {
-                file(&mut self.subjects, *spot, entry());
+                file(&mut self.subjects, *spot, filed());
             }
         }
         if rule.server().is_some_and(|side| side.has(held)) {
-            file(&mut self.servers, server_spot(rule, held), entry());
+            file(&mut self.servers, server_spot(rule, held), filed());
         }
     }
 
@@ -202,7 +202,7 @@ impl RuleIndex {
         let held = Held { cell, row };
         if rule.is_subject(held) {
             let spots = subject_spots(rule, held);
-            self.wide.retain(|entry| entry.cell != cell);
+            self.wide.retain(|filed| filed.cell != cell);
             for spot in spots.list() {
                 take_out(&mut self.subjects, *spot, cell);
             }
@@ -213,24 +213,24 @@ impl RuleIndex {
     }
 
     /// Gives each other row that may call together with a row, once, and maybe more.
-    pub fn each_beside<'a>(&'a self, rule: &Rule, held: Held, mut give: impl FnMut(&'a Entry)) {
+    pub fn each_beside<'a>(&'a self, rule: &Rule, held: Held, mut give: impl FnMut(&'a FiledRow)) {
         let spots = spots_beside(rule, held);
-        let mut found: Vec<&Entry> = match &spots {
+        let mut found: Vec<&FiledRow> = match &spots {
             Spots::One([spot]) => {
                 list_at(&self.subjects, *spot).iter().for_each(&mut give);
                 Vec::new()
             }
             Spots::Many(list) => list.iter().flat_map(|spot| list_at(&self.subjects, *spot)).collect(),
-            Spots::Wide => self.subjects.values().flat_map(Entries::list).collect(),
+            Spots::Wide => self.subjects.values().flat_map(FiledRows::list).collect(),
         };
-        found.sort_unstable_by_key(|entry| entry.cell);
-        found.dedup_by_key(|entry| entry.cell);
+        found.sort_unstable_by_key(|filed| filed.cell);
+        found.dedup_by_key(|filed| filed.cell);
         found.into_iter().for_each(&mut give);
         self.wide.iter().for_each(give);
     }
 
     /// The rows of a rule of one subject, or of a crossing, on which a server may lie or whose values it may have.
-    pub fn subjects_of(&self, rule: &Rule, server: Held) -> impl Iterator<Item = &Entry> {
+    pub fn subjects_of(&self, rule: &Rule, server: Held) -> impl Iterator<Item = &FiledRow> {
         let spot = match rule {
             Rule::Crossing { .. } => square(server.row.places[0].x.div_euclid(SQUARE), server.row.places[0].y.div_euclid(SQUARE)),
             _ => server_spot(rule, server),
@@ -239,7 +239,7 @@ impl RuleIndex {
     }
 
     /// The rows that may serve subjects, ascending by cell.
-    pub fn servers_of(&self, rule: &Rule, one: Held, other: Option<Held>, parts: (u8, u8)) -> &[Entry] {
+    pub fn servers_of(&self, rule: &Rule, one: Held, other: Option<Held>, parts: (u8, u8)) -> &[FiledRow] {
         let spot = match (rule, other) {
             (Rule::Partner { columns, .. }, _) => Some(spot_of_values(columns, one)),
             (Rule::EndNode { is_first, .. }, _) => Some(spot_of_place(end_of(one, *is_first))),
@@ -252,7 +252,7 @@ impl RuleIndex {
     }
 
     fn is_met(&self, rule: &Rule, one: Held, other: Option<Held>, parts: (u8, u8)) -> bool {
-        self.servers_of(rule, one, other, parts).iter().any(|entry| rule.serves(one, other, parts, entry.held()))
+        self.servers_of(rule, one, other, parts).iter().any(|filed| rule.serves(one, other, parts, filed.held()))
     }
 
     /// Gives each broken need of which this row is the first subject.
@@ -263,34 +263,34 @@ impl RuleIndex {
             }
             return;
         }
-        self.each_beside(rule, held, |entry| {
-            if entry.cell > held.cell {
-                rule.each_call(held, entry.held(), |parts| {
-                    if !self.is_met(rule, held, Some(entry.held()), parts) {
-                        give(Need { rule: number, first: held.cell, second: Some(entry.cell), parts });
+        self.each_beside(rule, held, |filed| {
+            if filed.cell > held.cell {
+                rule.each_call(held, filed.held(), |parts| {
+                    if !self.is_met(rule, held, Some(filed.held()), parts) {
+                        give(Need { rule: number, first: held.cell, second: Some(filed.cell), parts });
                     }
                 });
             }
         });
     }
 
-    pub fn of(rule: &Rule, rows: &[Entry]) -> Self {
+    pub fn of(rule: &Rule, rows: &[FiledRow]) -> Self {
         let mut index = RuleIndex::default();
-        for entry in rows {
-            index.add(rule, entry.cell, &entry.row);
+        for filed in rows {
+            index.add(rule, filed.cell, &filed.row);
         }
         index
     }
 
-    pub fn each_broken(&self, number: u16, rule: &Rule, rows: &[Entry], give: &mut impl FnMut(Broken)) {
-        for entry in rows.iter().filter(|entry| rule.is_subject(entry.held())) {
-            self.each_broken_of(number, rule, entry.held(), give);
+    pub fn each_broken(&self, number: u16, rule: &Rule, rows: &[FiledRow], give: &mut impl FnMut(Broken)) {
+        for filed in rows.iter().filter(|filed| rule.is_subject(filed.held())) {
+            self.each_broken_of(number, rule, filed.held(), give);
         }
     }
 }
 
 /// All broken needs of some rows, ascending.
-pub fn audit(rules: &[Rule], rows: &[Entry]) -> Vec<Broken> {
+pub fn audit(rules: &[Rule], rows: &[FiledRow]) -> Vec<Broken> {
     let mut list = Vec::new();
     for (number, rule) in rules.iter().enumerate() {
         RuleIndex::of(rule, rows).each_broken(number as u16, rule, rows, &mut |broken| list.push(broken));
@@ -301,7 +301,7 @@ pub fn audit(rules: &[Rule], rows: &[Entry]) -> Vec<Broken> {
 }
 
 /// The rows of a content by their spots, for each rule; or the least broken need.
-pub fn index_or_broken(rules: &[Rule], rows: &[Entry]) -> Result<Vec<RuleIndex>, Broken> {
+pub fn index_or_broken(rules: &[Rule], rows: &[FiledRow]) -> Result<Vec<RuleIndex>, Broken> {
     let mut indexes = Vec::new();
     for (number, rule) in rules.iter().enumerate() {
         let index = RuleIndex::of(rule, rows);

@@ -1,5 +1,5 @@
 // What changes touch, what covers it, and what breaks: docs/THEORY.md, and docs/MODEL.md, Versions, needs and covers.
-use crate::index::{Entry, QuickMap, RuleIndex};
+use crate::index::{FiledRow, QuickMap, RuleIndex};
 use crate::rows::{Cell, Held, Shared};
 use crate::rules::{Broken, Need, Rule};
 use crate::tree::{Change, Office};
@@ -27,7 +27,7 @@ pub struct Scene<'a> {
     indexes: &'a [RuleIndex],
     sets: &'a [Vec<Change>],
     changer: QuickMap<Cell, usize>,
-    new_rows: Vec<Entry>,
+    new_rows: Vec<FiledRow>,
     new_row_at: QuickMap<Cell, Shared>,
     new_indexes: Vec<RuleIndex>,
 }
@@ -59,11 +59,11 @@ impl<'a> Scene<'a> {
                 changer.insert(change.cell, member);
                 if let Some(row) = &change.after {
                     new_row_at.insert(change.cell, row.clone());
-                    new_rows.push(Entry { cell: change.cell, row: row.clone() });
+                    new_rows.push(FiledRow { cell: change.cell, row: row.clone() });
                 }
             }
         }
-        new_rows.sort_unstable_by_key(|entry| entry.cell);
+        new_rows.sort_unstable_by_key(|filed| filed.cell);
         let new_indexes = office.rules.iter().map(|rule| RuleIndex::of(rule, &new_rows)).collect();
         Scene { office, root, indexes, sets, changer, new_rows, new_row_at, new_indexes }
     }
@@ -87,8 +87,8 @@ impl<'a> Scene<'a> {
     }
 
     /// Gives each need of which this new row is a subject; of two new ones, where it is the lesser.
-    fn each_with_subject(&self, number: u16, rule: &Rule, entry: &Entry, give: &mut impl FnMut(Asked)) {
-        let (version, held) = (Version { cell: entry.cell, is_new: true }, entry.held());
+    fn each_with_subject(&self, number: u16, rule: &Rule, filed: &FiledRow, give: &mut impl FnMut(Asked)) {
+        let (version, held) = (Version { cell: filed.cell, is_new: true }, filed.held());
         if !rule.is_subject(held) {
             return;
         }
@@ -98,12 +98,12 @@ impl<'a> Scene<'a> {
         let Life::With(member) = self.life(version) else { return };
         self.indexes[usize::from(number)].each_beside(rule, held, |other| {
             let old = Version { cell: other.cell, is_new: false };
-            if other.cell != entry.cell && self.life(old) != Life::Without(member) {
+            if other.cell != filed.cell && self.life(old) != Life::Without(member) {
                 Self::each_pair(number, rule, (version, held), (old, other.held()), give);
             }
         });
         self.new_indexes[usize::from(number)].each_beside(rule, held, |other| {
-            if other.cell > entry.cell {
+            if other.cell > filed.cell {
                 Self::each_pair(number, rule, (version, held), (Version { cell: other.cell, is_new: true }, other.held()), give);
             }
         });
@@ -114,17 +114,17 @@ impl<'a> Scene<'a> {
         if !rule.server().is_some_and(|side| side.has(server)) {
             return;
         }
-        let old = |entry: &Entry| Version { cell: entry.cell, is_new: false };
+        let old = |filed: &FiledRow| Version { cell: filed.cell, is_new: false };
         let near = self.indexes[usize::from(number)].subjects_of(rule, server);
         if rule.single().is_some() {
-            for entry in near.filter(|entry| rule.serves(entry.held(), None, (1, 1), server)) {
-                give(Need { rule: number, first: old(entry), second: None, parts: (1, 1) });
+            for filed in near.filter(|filed| rule.serves(filed.held(), None, (1, 1), server)) {
+                give(Need { rule: number, first: old(filed), second: None, parts: (1, 1) });
             }
             return;
         }
         let place = server.row.places[0];
-        let mut through: Vec<&Entry> = near.filter(|it| (1..=it.row.parts() as u8).any(|n| crate::geometry::lies_on(place, it.row.part(n)))).collect();
-        through.sort_unstable_by_key(|entry| entry.cell);
+        let mut through: Vec<&FiledRow> = near.filter(|it| (1..=it.row.parts() as u8).any(|n| crate::geometry::lies_on(place, it.row.part(n)))).collect();
+        through.sort_unstable_by_key(|filed| filed.cell);
         for (at, one) in through.iter().enumerate() {
             for other in &through[at + 1..] {
                 rule.each_call(one.held(), other.held(), |parts| {
@@ -139,8 +139,8 @@ impl<'a> Scene<'a> {
     /// Gives each touched need, once or more.
     pub fn each_touched(&self, give: &mut impl FnMut(Asked)) {
         for (number, rule) in self.office.rules.iter().enumerate() {
-            for entry in &self.new_rows {
-                self.each_with_subject(number as u16, rule, entry, give);
+            for filed in &self.new_rows {
+                self.each_with_subject(number as u16, rule, filed, give);
             }
             for change in self.sets.iter().flatten() {
                 if let Some(row) = &change.before {
@@ -170,10 +170,10 @@ impl<'a> Scene<'a> {
                 (Some(old), Some(new)) => new.cell < old.cell,
                 (old, _) => old.is_none(),
             };
-            let entry = if is_new { new.next()? } else { old.next()? };
-            Some((Version { cell: entry.cell, is_new }, entry))
+            let filed = if is_new { new.next()? } else { old.next()? };
+            Some((Version { cell: filed.cell, is_new }, filed))
         })
-        .filter(move |(_, entry)| rule.serves(one, other, need.parts, entry.held()))
+        .filter(move |(_, filed)| rule.serves(one, other, need.parts, filed.held()))
         .map(|(version, _)| version)
     }
 
@@ -210,7 +210,7 @@ impl<'a> Scene<'a> {
         subjects.chain(servers).collect::<BTreeSet<_>>().into_iter().collect()
     }
 
-    /// Whether the witnesses of an entry cover its need.
+    /// Whether the witnesses of an filed cover its need.
     pub fn covers(&self, need: Asked, witnesses: Witnesses) -> bool {
         let stands = |it: Version| if it.is_new { self.new_row_at.contains_key(&it.cell) } else { self.office.row(self.root, it.cell).is_some() };
         let (one, other) = (self.held(need.first), need.second.map(|second| self.held(second)));

@@ -291,8 +291,8 @@ pub fn push_reply(to: &mut String, reply: Done) -> bool {
 fn push_rows(to: &mut String, office: &Office, at: usize) {
     let rows = office.rows(at);
     to.push_str(&format!("rows {}\n", rows.len()));
-    for entry in rows {
-        let Held { cell, row } = entry.held();
+    for filed in rows {
+        let Held { cell, row } = filed.held();
         let value = |value: &Value| match value {
             Value::Int(number) => number.to_string(),
             Value::Text(text) => text.to_string(),

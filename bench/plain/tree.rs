@@ -1,5 +1,5 @@
 // LIVE and the workspaces over it, stored by their differences: docs/MODEL.md, Workspaces.
-use crate::index::{Entry, RuleIndex};
+use crate::index::{FiledRow, RuleIndex};
 use crate::rows::{Cell, Schema, Shared};
 use crate::rules::Rule;
 use std::collections::BTreeMap;
@@ -120,11 +120,11 @@ impl Office {
     }
 
     /// The rows of a current content, ascending by cell.
-    pub fn rows(&self, at: usize) -> Vec<Entry> {
+    pub fn rows(&self, at: usize) -> Vec<FiledRow> {
         if at == LIVE {
-            return self.live.iter().map(|(cell, row)| Entry { cell: *cell, row: row.clone() }).collect();
+            return self.live.iter().map(|(cell, row)| FiledRow { cell: *cell, row: row.clone() }).collect();
         }
-        self.whole(at).into_iter().map(|(cell, row)| Entry { cell, row }).collect()
+        self.whole(at).into_iter().map(|(cell, row)| FiledRow { cell, row }).collect()
     }
 
     pub fn changes(&self, at: usize) -> Vec<Change> {
