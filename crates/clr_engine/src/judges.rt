@@ -21,6 +21,7 @@ use clr_change::ChangeSet;
 use clr_foot::Scene;
 use clr_grid::SpotIndex;
 use clr_kept_finders::{Finders, finder_of};
+use clr_quick_audit::is_seen_to_hold;
 use clr_rows::{CellId, Row, Sheet};
 use clr_rules::{Broken, RuleBook};
 use clr_tree::Tree;
@@ -104,9 +105,13 @@ impl Judge {
         ensures need { IfOk result (λ found. result_err found ≡ first_broken self.now rows.now) }
         ensures finder { IfOk result (λ found. IfOk found (IsFinderOf self.now rows.now)) }
     {
+        let finder = finder_of(self.alloc, &self.book, rows)?;
+        if is_seen_to_hold(&self.book, rows, &finder)? {
+            return Ok(Ok(finder));
+        }
         match self.first_broken_in(rows)? {
             Some(need) => Ok(Err(need)),
-            None => Ok(Ok(finder_of(self.alloc, &self.book, rows)?)),
+            None => Ok(Ok(finder)),
         }
     }
 
