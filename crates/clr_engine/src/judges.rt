@@ -99,7 +99,8 @@ impl Judge {
         first_broken(self.alloc, &self.book, rows)
     }
 
-    /// Returns the finder of a content, or the least need that it breaks.
+    /// Returns the finder of a content, or the least need that it breaks. A quick audit over the finder comes first, and a
+    /// whole one only where that doesn't see that every rule holds.
     fn finder_or_need(&self, rows: &Sheet) -> Result<Result<SpotIndex, Broken>, AllocError>
         requires { FitsContent self.now rows.now }
         ensures need { IfOk result (λ found. result_err found ≡ first_broken self.now rows.now) }

@@ -7,6 +7,8 @@ use crate::networks::NETWORK;
 use crate::rule_texts::rules;
 use crate::texts::{RowAt, row_at};
 use clr_audit::audit;
+use clr_kept_finders::finder_of;
+use clr_quick_audit::is_seen_to_hold;
 use clr_row_test_kit::schema;
 use clr_rows::{CellId, Schema, Sheet};
 use clr_rules::{Broken, RuleBook};
@@ -46,6 +48,12 @@ impl Content {
     fn audit(&self, alloc: Global) -> Option<Vec<Broken>> {
         audit(alloc, &self.book, &self.sheet).ok()
     }
+
+    /// Returns whether a quick audit over a finder of the rows sees that every rule holds.
+    fn is_seen_to_hold(&self, alloc: Global) -> Option<bool> {
+        let finder = finder_of(alloc, &self.book, &self.sheet).ok()?;
+        is_seen_to_hold(&self.book, &self.sheet, &finder).ok()
+    }
 }
 
 fn cell_text(alloc: Global, cell: CellId) -> Option<String> {
@@ -76,8 +84,11 @@ fn needs_text(alloc: Global, needs: &[Broken]) -> Option<String> {
     Some(text)
 }
 
-/// Returns whether the audit lists just these needs, or none.
-fn has_broken(alloc: Global, content: &Content, wanted: &str) -> Option<bool> {
+/// Returns whether the audit lists just these needs, or none, and whether the quick audit sees that all holds exactly where it is to.
+fn has_broken(alloc: Global, content: &Content, wanted: &str, is_seen: bool) -> Option<bool> {
+    if content.is_seen_to_hold(alloc)? != is_seen {
+        return Some(false);
+    }
     let needs = content.audit(alloc)?;
     if needs.len() == 0 {
         return Some(wanted == "none");
@@ -86,10 +97,13 @@ fn has_broken(alloc: Global, content: &Content, wanted: &str) -> Option<bool> {
     Some(text.as_str() == wanted)
 }
 
-/// Puts the row of a line in, or sees whether the audit is as the line says.
+/// Puts the row of a line in, or sees whether the audit is as the line says. After `unseen`, nothing is broken, and the quick audit doesn't see it.
 fn is_right(alloc: Global, content: &mut Content, line: &str) -> Result<bool, Fail> {
+    if line == "unseen" {
+        return Ok(has_broken(alloc, content, "none", false) == Some(true));
+    }
     match line.strip_prefix("broken ") {
-        Some(wanted) => Ok(has_broken(alloc, content, wanted) == Some(true)),
+        Some(wanted) => Ok(has_broken(alloc, content, wanted, wanted == "none") == Some(true)),
         None => {
             content.put(row_at(alloc, line).ok_or("no row")?)?;
             Ok(true)

@@ -111,7 +111,8 @@ partner 1 0 1:0='new 0
 broken 0 1.2 alone 1,1; 0 1.4 alone 1,1";
 
 /// A pipe through two parts of another. A vertex which two parts of each share. An overlap and a crossing; a pipe never
-/// calls with itself. Pipes of too many squares as a whole, and in one part. A node at the last vertex, not the second.
+/// calls with itself. Pipes of too many squares as a whole, and in one part. A node at the last vertex, not the second. A
+/// pipe of eight parts, and one of nine, which a quick audit leaves to a whole one.
 pub(crate) const PATHS: &str = "crossing 4 4 0
 0.30 'tee at 105,0
 4.20 'D path 100,0 110,0 110,10 100,10
@@ -149,4 +150,18 @@ second 4 0
 0.1 'tee at 10,0
 broken 0 4.1 alone 1,1
 0.2 'tee at 20,10
-broken none";
+broken none
+
+crossing 4 4 0
+4.1 'A path 0,0 10,0 20,0 30,0 40,0 50,0 60,0 70,0 80,0
+4.2 'B path 75,-5 75,5
+broken 0 4.1 4.2 8,1
+0.1 'tee at 75,0
+broken none
+
+crossing 4 4 0
+4.1 'A path 0,0 10,0 20,0 30,0 40,0 50,0 60,0 70,0 80,0 90,0
+4.2 'B path 85,-5 85,5
+broken 0 4.1 4.2 9,1
+0.1 'tee at 85,0
+unseen";
