@@ -75,16 +75,22 @@ prove_stage() {
     for way in "${runs[@]}"; do wait "$way" || return 1; done
 }
 
-# Proves the crates stage by stage, and all beside the last stage, for whose ways there has to be memory. What one run has proved the others take.
+# Proves the crates stage by stage. The library that the program stands on has a run of its own beside the last stage, and the program one behind
+# this stage, which takes what the others have proved. Where there is no memory for several runs, the last one proves all that is left.
 prove() {
-    local stage whole
+    local stage library= whole
     local earlier=("${stages[@]:0:${#stages[@]}-1}")
     trap 'kill $(jobs -p) 2>/dev/null' EXIT
     trap 'exit 143' TERM
     for stage in "${earlier[@]}"; do prove_stage "$stage" || return 1; done
+    if has_room_for_ways; then
+        copy_crates "$room/library" $(crates_up_to $library_of_program) && begin_in "$room/library" || return 1
+        library=$!
+        prove_stage "${stages[-1]}" || return 1
+    fi
     copy_crates "$room/whole" "${crates[@]}" && begin_in "$room/whole" || return 1
     whole=$!
-    if has_room_for_ways; then prove_stage "${stages[-1]}" || return 1; fi
+    if [ -n "$library" ]; then wait "$library" || return 1; fi
     wait "$whole"
 }
 
@@ -161,4 +167,6 @@ if ! is_current; then
     clean_up
     exec 9>&-
 fi
+# Where the system has large pages, the C library takes the program's memory in these, 16 MB at a time, and gives none back before the end.
+export GLIBC_TUNABLES=${GLIBC_TUNABLES-glibc.malloc.hugetlb=1:glibc.malloc.top_pad=16777216:glibc.malloc.trim_threshold=1073741824}
 exec "$out/$program" "$@"

@@ -25,14 +25,17 @@ add_crate() {
     crates+=("$1")
 }
 
-# In which order crates are proved: stage by stage, what a stage names and what this stands on, and beside the last stage all that is left. Where a stage has
-# bars, what stands between them is proved by runs of the toolchain of their own, side by side, so that no way waits for another one's turn. A
-# stage ends where everything waits for what it names: the rows, what the engine stands on, and what the program's own library stands on.
+# In which order crates are proved: stage by stage, what a stage names and what this stands on. Where a stage has bars, what stands between
+# them is proved by runs of the toolchain of their own, side by side, so that no way waits for another one's turn, and a crate that alone
+# can be proved in its run has two processors. A stage ends where everything waits for what it names: the rows, what the engine stands
+# on, and what the program's own library stands on.
 stages=(
     clr_rows
-    'clr_tree | clr_foot | clr_audit clr_kept_finders clr_clearance | clr_command_line clr_records clr_devices clr_rule_text'
-    'clr_plan_lines | clr_check_texts clr_reports | clr_office_json'
+    'clr_tree | clr_foot clr_cert | clr_audit clr_kept_finders clr_clearance | clr_command_line clr_rule_text clr_devices'
+    'clr_merge_sets | clr_check_texts | clr_plan_lines clr_reports | clr_office_json'
 )
+# The library that the programs stand on.
+library_of_program=clr_office
 
 # Sets `program` to a name, `crates` to the crates that it stands on, each behind those that it uses, and then its own, and `sources` to
 # all its sources.
