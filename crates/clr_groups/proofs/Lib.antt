@@ -1,6 +1,7 @@
 mod Chains
 pub mod GroupLaws
 pub mod GroupParts
+mod JoinedPairs
 mod LabelSteps
 pub mod LabelledGroups
-mod NotedNeeds
+mod MemberNeedLists

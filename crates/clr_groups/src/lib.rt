@@ -14,6 +14,7 @@
 mod labels;
 mod laws;
 mod member_groups;
+mod member_needs;
 mod scenes;
 
 pub use laws::groups_split_needs;
