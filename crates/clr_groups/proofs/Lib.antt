@@ -4,4 +4,7 @@ pub mod GroupParts
 mod JoinedPairs
 mod LabelSteps
 pub mod LabelledGroups
+pub mod MarkedNeeds
 mod MemberNeedLists
+pub mod Places
+mod Searches

@@ -4,11 +4,13 @@
 
 ghost use Rattle.std.specs.Prelude.{◌≡◌, ◌≤◌, ◌<◌, ℕ, length, Contains, IfOk};
 ghost use Rattle.clr_needs.specs.declared.limits.TheConstants.{MOST_MEMBERS};
-ghost use Rattle.clr_foot.specs.Scenes.{IsReady, model_of, setting_of};
+ghost use Rattle.clr_needs.specs.Needs.{Lists};
+ghost use Rattle.clr_foot.specs.Scenes.{model_of, setting_of};
 ghost use Rattle.clr_groups.specs.Labels.{AreLabels, AreMoved, IsJoinedAt, label, moved_label};
+ghost use Rattle.clr_groups.specs.MemberNeeds.{IsOfMember, member_need_cmp};
 ghost use Rattle.clr_groups.specs.declared.member_needs.MemberNeed.{MemberNeed as Pair};
 
-use crate::member_needs::{MemberNeed, member_needs};
+use crate::member_needs::MemberNeed;
 use clr_finders::RowFinder;
 use clr_foot::Scene;
 use clr_rows::RowView;
@@ -70,19 +72,19 @@ fn own_labels(alloc: Global, count: usize) -> Result<Vec<u16>, AllocError>
     Ok(labels)
 }
 
-/// Returns a label for each member.
+/// Returns a label for each member, where the needs that involve members are given.
 pub(crate) fn labels_of<V: RowView, F: RowFinder>(
     alloc: Global,
     scene: &Scene<'_, V, F>,
+    list: &[MemberNeed],
 ) -> Result<Vec<u16>, AllocError>
-    requires ready { IsReady F.settled (model_of V.content scene.now) }
+    requires list { Lists member_need_cmp (IsOfMember (setting_of (model_of V.content scene.now)) (length (model_of V.content scene.now).sets)) list.now }
     ensures few { IfOk result (λ labels. length labels.items ≤ MOST_MEMBERS) }
     ensures exact { IfOk result (λ labels. AreLabels (setting_of (model_of V.content scene.now)) (length (model_of V.content scene.now).sets) labels.items) }
 {
-    let list = member_needs(alloc, scene)?;
     let mut labels = own_labels(alloc, scene.len())?;
     for at in 1..list.len() {
-        join_at(&mut labels, list.as_slice(), at);
+        join_at(&mut labels, list, at);
     }
     Ok(labels)
 }
