@@ -1,3 +1,4 @@
+pub mod ChangedNeeds
 pub mod FirstServerLaws
 pub mod InvolvedLaws
 pub mod LeastBroken

@@ -86,7 +86,7 @@ module _ (rules : List Rule) (root : Content) (sets : List Changes) where
 
   -- ---- cell after cell
 
-  its_name : (v : VersionId) (fresh : Bool) → v.fresh ≡ fresh → v ≡ version_of fresh v.cell
+  pub its_name : (v : VersionId) (fresh : Bool) → v.fresh ≡ fresh → v ≡ version_of fresh v.cell
   its_name v fresh e = λ i. record { cell = v.cell; fresh = e i }
 
   -- a touched need is that of a changed cell, or of two new versions
@@ -314,7 +314,7 @@ module _ (rules : List Rule) (root : Content) (sets : List Changes) where
   abbrev IsPlacedAmong : ℕ → List Version → List Version → Need → Type 0
   IsPlacedAmong number fresh old n = OfSome (IsNeedOfNew s number) fresh n ⊎ OfSome (IsNeedOfChanged s number) old n
 
-  changed_is_gone : (l : Lifetime ℕ) → IsChanged l → is_living l ≡ false
+  pub changed_is_gone : (l : Lifetime ℕ) → IsChanged l → is_living l ≡ false
   changed_is_gone Always h = absurd h
   changed_is_gone (With n) h = absurd h
   changed_is_gone (Without n) h = refl

@@ -214,6 +214,13 @@ module _ (rules : List Rule) (root : Content) (sets : List Changes) (groups : Li
       let (y, in_h, names_y) = who_in j h at_h n second in
       (are.joined i j g h x y at_g at_h in_g in_h).1 (joined_by c x y (both_depend c n x y names_x names_y))
 
+  -- a touched need is touched in the group of each member that it involves
+  pub touched_with : (n : Need) (x : ℕ) → IsInvolving c x n → IsTouched c n → (i : ℕ) (g : List ℕ) → IsAt i g → Contains g x → IsTouched (d g) n
+  touched_with n x (a, b, possible, names) (e, f, is, touched) i g at there =
+      let once = subjects_once c n e a f b is possible in
+      touched_in c (d g) g (rises i g at) (part_of i g at) (closed_of i g at) n e f x is touched
+      (subst (λ k. Involves c n k f x) once.0 (subst (λ k. Involves c n a k x) once.1 names)) there
+
   split_needs : SplitNeeds rules root sets groups
   split_needs = record { some = some_in; one = one_in; same = λ i g n at touched. same_in i g at n touched }
 

@@ -1,6 +1,10 @@
 mod Chains
 pub mod GroupLaws
 pub mod GroupParts
+mod JoinedPairs
 mod LabelSteps
 pub mod LabelledGroups
-mod NotedNeeds
+pub mod MarkedNeeds
+mod MemberNeedLists
+pub mod Places
+mod Searches

@@ -1,12 +1,9 @@
 -- Labels of members: two have the same one exactly where they stand in one group.
-use Rattle.std.specs.Prelude.{◌≡◌, ◌↔◌, ◌<◌, ◌==◌, ℕ, List, Option, Some, None, Contains, get_or, length, slice_get, if◌then◌else◌}
-use Rattle.std.specs.BTreeMap.{BTreeMap, get, is_at}
+use Rattle.std.specs.Prelude.{◌≡◌, ◌≢◌, ◌↔◌, ◌⊎◌, ◌<◌, ◌-◌, ◌==◌, ℕ, List, Some, Contains, get_or, length, slice_get, if◌then◌else◌}
 use Rattle.std.specs.Ordering.{nat_cmp}
-use Rattle.clr_needs.specs.declared.needs.Need.{Need}
-use Rattle.clr_foot.specs.Involvement.{IsInvolving}
 use Rattle.clr_needs.specs.Needs.{Lists}
-use Rattle.clr_needs.specs.Orders.{need_cmp}
 use Rattle.clr_needs.specs.Settings.{Setting}
+use Rattle.clr_groups.specs.declared.member_needs.MemberNeed.{MemberNeed}
 use Rattle.clr_groups.specs.Groups.{AreJoined}
 
 -- the label of a member
@@ -29,29 +26,10 @@ pub record AreMoved (from to : ℕ) (old new : List ℕ) : Type 0 where
   pub long : length new ≡ length old
   pub each : (k : ℕ) → k < length old → label new k ≡ moved_label from to (label old k)
 
--- one more need of a member: where a member had it before, the two get one label; else this is the first member that has it
-abbrev pub IsNotedBy : BTreeMap Need ℕ → BTreeMap Need ℕ → List ℕ → List ℕ → Need → ℕ → Option ℕ → Type 0
-IsNotedBy old new labels after n x None = (after ≡ labels) × ((m : Need) → get need_cmp new m ≡ (if is_at (need_cmp n) m then Some x else get need_cmp old m))
-IsNotedBy old new labels after n x (Some w) = (new ≡ old) × AreMoved (label labels x) (label labels w) labels after
-
-abbrev pub IsNoted : BTreeMap Need ℕ → BTreeMap Need ℕ → List ℕ → List ℕ → Need → ℕ → Type 0
-IsNoted old new labels after n x = IsNotedBy old new labels after n x (get need_cmp old n)
-
--- the first members of needs are members
-abbrev pub AreBelow : ℕ → BTreeMap Need ℕ → Type 0
-AreBelow count first = (n : Need) (w : ℕ) → get need_cmp first n ≡ Some w → w < count
-
--- the needs of some members are noted: two members of one label are joined, and all that have a noted need have the label of its first member
-pub record AreLabelled (c : Setting ℕ) (count : ℕ) (seen : ℕ → Need → Type 0) (first : Need → Option ℕ) (labels : List ℕ) : Type 0 where
-  pub long : length labels ≡ count
-  pub below : (x : ℕ) → x < count → label labels x < count
-  pub sound : (x y : ℕ) → x < count → y < count → label labels x ≡ label labels y → AreJoined c x y
-  pub involved : (n : Need) (w : ℕ) → first n ≡ Some w → (w < count) × IsInvolving c w n
-  pub noted : (z : ℕ) (n : Need) → z < count → seen z n → (w : ℕ) × (first n ≡ Some w) × (label labels w ≡ label labels z)
-
--- the needs of the members below a number are noted
-abbrev pub AreNotedBelow : Setting ℕ → ℕ → ℕ → BTreeMap Need ℕ → List ℕ → Type 0
-AreNotedBelow c count end first labels = AreLabelled c count (λ z n. (z < end) × IsInvolving c z n) (get need_cmp first) labels
+-- where the pair at a position has the need of the one before it, the member of the latter gives its label to all that have that of the former
+abbrev pub IsJoinedAt : List MemberNeed → ℕ → List ℕ → List ℕ → Type 0
+IsJoinedAt list at old new = (x y : MemberNeed) → slice_get list (at - 1) ≡ Some x → slice_get list at ≡ Some y
+    → ((x.need ≢ y.need) × (new ≡ old)) ⊎ ((x.need ≡ y.need) × AreMoved (label old y.member) (label old x.member) old new)
 
 -- groups by labels ---------------------------------------------------------------------------
 

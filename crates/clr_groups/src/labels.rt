@@ -1,18 +1,20 @@
 //! Labels of members: two have the same one exactly where a chain of dependent pairs joins them. No
-//! pair is tried: the needs that involve each member are gone over once, and a member gets the label
-//! of the first one that has the same need.
+//! pair is tried: the needs that involve each member are listed once, and members that stand beside
+//! one another in the list of all these with the same need get one label.
 
-ghost use Rattle.std.specs.Prelude.{◌≡◌, ◌≤◌, ◌<◌, ◌+◌, ℕ, length, IfOk, OnOk};
+ghost use Rattle.std.specs.Prelude.{◌≡◌, ◌≤◌, ◌<◌, ℕ, length, Contains, IfOk};
 ghost use Rattle.clr_needs.specs.declared.limits.TheConstants.{MOST_MEMBERS};
-ghost use Rattle.clr_foot.specs.Scenes.{IsReady, model_of, setting_of};
-ghost use Rattle.clr_groups.specs.Labels.{AreBelow, AreLabels, AreMoved, AreNotedBelow, IsNoted, label, moved_label};
+ghost use Rattle.clr_needs.specs.Needs.{Lists};
+ghost use Rattle.clr_foot.specs.Scenes.{model_of, setting_of};
+ghost use Rattle.clr_groups.specs.Labels.{AreLabels, AreMoved, IsJoinedAt, label, moved_label};
+ghost use Rattle.clr_groups.specs.MemberNeeds.{IsOfMember, member_need_cmp};
+ghost use Rattle.clr_groups.specs.declared.member_needs.MemberNeed.{MemberNeed as Pair};
 
+use crate::member_needs::MemberNeed;
 use clr_finders::RowFinder;
 use clr_foot::Scene;
-use clr_needs::Need;
 use clr_rows::RowView;
 use std::alloc::{AllocError, Global};
-use std::collections::BTreeMap;
 
 /// Returns a label, or the one that is put in its place.
 fn moved_label(label: u16, from: u16, to: u16) -> u16
@@ -43,44 +45,18 @@ fn join(labels: &mut Vec<u16>, member: u16, other: u16)
     }
 }
 
-/// Notes a need of a member, which is joined with the first member that has the need, if one has.
-fn note_need(
-    first: &mut BTreeMap<Need, u16>,
-    labels: &mut Vec<u16>,
-    need: Need,
-    member: u16,
-) -> Result<(), AllocError>
-    requires member { member < length labels.old.items }
-    requires below { AreBelow (length labels.old.items) first.old }
-    ensures { OnOk result (IsNoted first.old first.new labels.old.items labels.new.items need member) }
+/// Joins the member of a pair with that of the pair before it, if both have the same need.
+fn join_at(labels: &mut Vec<u16>, list: &[MemberNeed], at: usize)
+    requires after { 0 < at }
+    requires within { at < length list.now }
+    requires below { (p : Pair) → Contains list.now p → p.member < length labels.old.items }
+    ensures { IsJoinedAt list.now at labels.old.items labels.new.items }
 {
-    match first.get(&need).copied() {
-        None => {
-            first.insert(need, member)?;
-        }
-        Some(other) => join(labels, member, other),
+    let last = list[at - 1];
+    let next = list[at];
+    if last.need.cmp(&next.need).is_eq() {
+        join(labels, next.member, last.member);
     }
-    Ok(())
-}
-
-/// Notes the needs of a member, those of the members before it being noted.
-fn note_member<V: RowView, F: RowFinder>(
-    scene: &Scene<'_, V, F>,
-    member: u16,
-    first: &mut BTreeMap<Need, u16>,
-    labels: &mut Vec<u16>,
-) -> Result<(), AllocError>
-    requires ready { IsReady F.settled (model_of V.content scene.now) }
-    requires member { member < length (model_of V.content scene.now).sets }
-    requires noted { AreNotedBelow (setting_of (model_of V.content scene.now)) (length (model_of V.content scene.now).sets) member first.old labels.old.items }
-    ensures { OnOk result (AreNotedBelow (setting_of (model_of V.content scene.now)) (length (model_of V.content scene.now).sets) (member + 1)
-        first.new labels.new.items) }
-{
-    let needs = scene.needs_involving(member)?;
-    for need in &needs {
-        note_need(first, labels, *need, member)?;
-    }
-    Ok(())
 }
 
 /// Returns each member's own position.
@@ -96,19 +72,19 @@ fn own_labels(alloc: Global, count: usize) -> Result<Vec<u16>, AllocError>
     Ok(labels)
 }
 
-/// Returns a label for each member.
+/// Returns a label for each member, where the needs that involve members are given.
 pub(crate) fn labels_of<V: RowView, F: RowFinder>(
     alloc: Global,
     scene: &Scene<'_, V, F>,
+    list: &[MemberNeed],
 ) -> Result<Vec<u16>, AllocError>
-    requires ready { IsReady F.settled (model_of V.content scene.now) }
+    requires list { Lists member_need_cmp (IsOfMember (setting_of (model_of V.content scene.now)) (length (model_of V.content scene.now).sets)) list.now }
     ensures few { IfOk result (λ labels. length labels.items ≤ MOST_MEMBERS) }
     ensures exact { IfOk result (λ labels. AreLabels (setting_of (model_of V.content scene.now)) (length (model_of V.content scene.now).sets) labels.items) }
 {
     let mut labels = own_labels(alloc, scene.len())?;
-    let mut first = BTreeMap::new(alloc);
-    for member in 0..scene.len() {
-        note_member(scene, member as u16, &mut first, &mut labels)?;
+    for at in 1..list.len() {
+        join_at(&mut labels, list, at);
     }
     Ok(labels)
 }

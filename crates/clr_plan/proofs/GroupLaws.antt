@@ -1,15 +1,13 @@
 -- What is picked in the scenes of groups is what is picked in that of all members.
-use Rattle.std.proofs.Common.{◌≡◌, ◌∙◌, ◌<◌, ◌≤◌, ℕ, List, [], ◌∷◌, ◌⊎◌, inl, inr, Contains, Option, Some, None, get_or, length, map, refl, sym, ap, subst}
-use Rattle.std.proofs.Common.{arith}
+use Rattle.std.proofs.Common.{◌≡◌, ◌∙◌, ◌<◌, ℕ, List, [], ◌∷◌, ◌⊎◌, inl, inr, Contains, Option, Some, None, get_or, length, map, refl, sym, ap, subst}
 use Rattle.std.specs.Prelude.{option_map, slice_get}
-use Rattle.std.specs.Cmp.{IsTotalOrder}
 use Rattle.std.specs.List.Sorted.{IsStrictlySortedBy}
 use Rattle.std.specs.Ordering.{nat_cmp, ordering_then}
 use Rattle.std.specs.declared.cmp.Ordering.{Ordering}
 use Rattle.std.specs.declared.cmp.Ordering.TheVariants.{Less, Equal, Greater}
 use Rattle.std.proofs.lemmas.Cmp.{nat_cmp_total}
 use Rattle.std.proofs.lemmas.List.{length-map}
-use Rattle.std.proofs.lemmas.Option.{get_or_from_slice_get, slice_get-map, slice_get_read, slice_get_within}
+use Rattle.std.proofs.lemmas.Option.{get_or_from_slice_get, slice_get-map, slice_get_within}
 use Rattle.clr_finders.specs.Sharing.{Settled}
 use Rattle.clr_rules.proofs.Elements.{Among, all_by, among, among_mapped, contained, each_of, mapped_among, not_itself}
 use Rattle.clr_needs.specs.declared.needs.Need.{Need}
@@ -25,8 +23,9 @@ use Rattle.clr_groups.specs.Groups.{AreGroups}
 use Rattle.clr_groups.specs.Laws.{SplitNeeds}
 use Rattle.clr_groups.proofs.GroupLaws.{groups_split}
 use Rattle.clr_groups.proofs.GroupParts.{group_ready}
-use Rattle.clr_plan.specs.declared.group_needs.GroupNeed.{GroupNeed}
-use Rattle.clr_plan.specs.GroupNeeds.{AreReady, IsTouchedIn, group_need_cmp, models_at}
+use Rattle.clr_groups.specs.declared.group_needs.GroupNeed.{GroupNeed}
+use Rattle.clr_groups.specs.GroupNeeds.{IsTouchedAt, group_need_cmp}
+use Rattle.clr_plan.specs.GroupNeeds.{AreReady, IsTouchedIn, models_at}
 use Rattle.clr_plan.proofs.GroupNeedLaws.{mapped_at}
 
 -- rising elements that are mapped to rising ones
@@ -79,6 +78,14 @@ module _ {F : Type 0} (model : SceneModel F) (apart : AreApart model.sets) (grou
   touched_there : (x : GroupNeed) (g : List ℕ) → slice_get groups x.group ≡ Some g → IsTouched (setting_of (model_at model g)) x.need
       → IsTouchedIn (models_at model groups) x
   touched_there x g at touched = (model_at model g, slice_get-map (model_at model) groups x.group ∙ ap (option_map (model_at model)) at, touched)
+
+  -- the needs that are touched in groups are those of their scenes
+  pub in_scenes : (list : List GroupNeed) → Lists group_need_cmp (IsTouchedAt model.rules model.root model.sets groups) list
+      → Lists group_need_cmp (IsTouchedIn (models_at model groups)) list
+  in_scenes list lists = record {
+    ascending = lists.ascending;
+    exactly = λ x. (λ h. (let (g, at, touched) = (lists.exactly x).0 h in touched_there x g at touched), λ t. (lists.exactly x).1 (touched_at x t));
+  }
 
   -- each touched need of all members is that of one group
   pub are_touched : (list : List GroupNeed) → Lists group_need_cmp (IsTouchedIn (models_at model groups)) list
@@ -180,19 +187,16 @@ pub part_at : {X F : Type 0} (h : X → SceneModel F) (parts : List X) (k : ℕ)
     → slice_get (map h parts) k ≡ Some (h part)
 part_at h parts k part less is = mapped_at h parts k part (subst (λ n. k < n) (length-map parts h) less) is
 
--- the scenes that were made, and their needs as they are read
-pub grouped_by : {X F : Type 0} (h : X → SceneModel F) (model : SceneModel F) (groups : List (List ℕ)) (parts seen : List X) (needs read : List GroupNeed)
+-- the scenes that were made, and the needs that are given
+pub grouped_by : {X F : Type 0} (h : X → SceneModel F) (model : SceneModel F) (groups : List (List ℕ)) (parts : List X) (needs : List GroupNeed)
     → AreApart model.sets
     → AreGroups (setting_of model) groups
     → map h parts ≡ models_at model groups
-    → seen ≡ parts
-    → Lists group_need_cmp (IsTouchedIn (map h seen)) needs
-    → read ≡ needs
-    → AreGrouped model groups (map h parts) read
-grouped_by h model groups parts seen needs read apart grouped scenes same lists alike = record {
+    → Lists group_need_cmp (IsTouchedAt model.rules model.root model.sets groups) needs
+    → AreGrouped model groups (map h parts) needs
+grouped_by h model groups parts needs apart grouped scenes lists = record {
   apart = apart;
   grouped = grouped;
   scenes = scenes;
-  needs = subst (λ xs. Lists group_need_cmp (IsTouchedIn (map h parts)) xs) (sym alike) (subst (λ ps. Lists group_need_cmp (IsTouchedIn (map h ps)) needs) same
-      lists);
+  needs = subst (λ ms. Lists group_need_cmp (IsTouchedIn ms) needs) (sym scenes) (in_scenes model apart groups grouped needs lists);
 }

@@ -1,17 +1,9 @@
 -- The scenes of groups, and the needs that are touched in them.
 use Rattle.std.specs.Prelude.{◌≡◌, ℕ, List, Some, map, slice_get}
-use Rattle.std.specs.Ordering.{nat_cmp, ordering_then}
-use Rattle.std.specs.declared.cmp.Ordering.{Ordering}
 use Rattle.clr_finders.specs.Sharing.{Settled}
 use Rattle.clr_needs.specs.Needs.{IsTouched}
-use Rattle.clr_needs.specs.Orders.{need_cmp}
 use Rattle.clr_foot.specs.Scenes.{model_at, IsReady, SceneModel, setting_of}
-use Rattle.clr_needs.specs.Settings.{Setting}
-use Rattle.clr_plan.specs.declared.group_needs.GroupNeed.{GroupNeed}
-
--- pairs of a need and a group are ordered by need, then by group
-abbrev pub group_need_cmp : GroupNeed → GroupNeed → Ordering
-group_need_cmp x y = ordering_then (need_cmp x.need y.need) (nat_cmp x.group y.group)
+use Rattle.clr_groups.specs.declared.group_needs.GroupNeed.{GroupNeed}
 
 -- the scene of each group
 abbrev pub models_at : {F : Type 0} → SceneModel F → List (List ℕ) → List (SceneModel F)
@@ -19,10 +11,6 @@ models_at m groups = map (model_at m) groups
 
 abbrev pub AreReady : {F : Type 0} → (F → Settled) → List (SceneModel F) → Type 0
 AreReady {F} settled models = (k : ℕ) (m : SceneModel F) → slice_get models k ≡ Some m → IsReady settled m
-
--- a need that is touched in a setting, with the position of a group
-abbrev pub IsOf : Setting ℕ → ℕ → GroupNeed → Type 0
-IsOf c group x = (x.group ≡ group) × IsTouched c x.need
 
 -- a need that is touched in the scene of the group at its position
 abbrev pub IsTouchedIn : {F : Type 0} → List (SceneModel F) → GroupNeed → Type 0

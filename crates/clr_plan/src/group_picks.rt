@@ -2,16 +2,18 @@
 
 ghost use Rattle.std.specs.Prelude.{map, IfOk};
 ghost use Rattle.clr_needs.specs.Members.{AreApart};
+ghost use Rattle.clr_needs.specs.Needs.{Lists};
 ghost use Rattle.clr_foot.specs.Scenes.{IsReady, model_of, setting_of};
+ghost use Rattle.clr_groups.specs.GroupNeeds.{IsTouchedAt, group_need_cmp};
 ghost use Rattle.clr_groups.specs.Groups.{AreGroups};
 ghost use Rattle.clr_plan.specs.Picked.{ArePickedFor};
 
-use crate::group_needs::group_needs;
 use crate::group_scenes::group_scenes;
 use crate::picked::Picked;
 use clr_cert::{Entries, Entry};
 use clr_finders::RowFinder;
 use clr_foot::Scene;
+use clr_groups::GroupNeed;
 use clr_rows::RowView;
 use std::alloc::{AllocError, Global};
 
@@ -21,16 +23,18 @@ pub(crate) fn pick_by_group<V: RowView, F: RowFinder>(
     alloc: Global,
     scene: &Scene<'_, V, F>,
     groups: &[Vec<u16>],
+    needs: &[GroupNeed],
 ) -> Result<Picked, AllocError>
     requires ready { IsReady F.settled (model_of V.content scene.now) }
     requires apart { AreApart (model_of V.content scene.now).sets }
     requires groups { AreGroups (setting_of (model_of V.content scene.now)) (map (λ g. g.items) groups.now) }
+    requires needs { Lists group_need_cmp (IsTouchedAt (model_of V.content scene.now).rules (model_of V.content scene.now).root
+        (model_of V.content scene.now).sets (map (λ g. g.items) groups.now)) needs.now }
     ensures { IfOk result (ArePickedFor (setting_of (model_of V.content scene.now))) }
 {
     let parts = group_scenes(alloc, scene, groups)?;
-    let needs = group_needs(alloc, parts.as_slice())?;
     let mut list = Vec::with_capacity(alloc, needs.len())?;
-    for touched in &needs {
+    for touched in needs {
         match parts[touched.group].pick(&touched.need)? {
             None => return Ok(Picked::Unpicked(touched.need)),
             Some((one, two)) => list.push(Entry {

@@ -20,7 +20,6 @@
 
 mod certificates;
 mod faults;
-mod group_needs;
 mod group_picks;
 mod group_scenes;
 mod laws;

@@ -6,10 +6,10 @@ ghost use Rattle.clr_foot.specs.Scenes.{IsReady, model_of, setting_of};
 ghost use Rattle.clr_plan.specs.Picked.{ArePickedFor};
 
 use crate::group_picks::pick_by_group;
-use clr_cert::{Entries, Entry};
+use clr_cert::Entries;
 use clr_finders::RowFinder;
 use clr_foot::Scene;
-use clr_groups::groups;
+use clr_groups::groups_and_needs;
 use clr_needs::Need;
 use clr_rows::RowView;
 use std::alloc::{AllocError, Global};
@@ -21,32 +21,8 @@ pub(crate) enum Picked {
     Unpicked(Need),
 }
 
-/// Returns the touched needs of a scene with the witnesses that are picked for them, all in this
-/// scene.
-fn pick_in_scene<V: RowView, F: RowFinder>(
-    alloc: Global,
-    scene: &Scene<'_, V, F>,
-) -> Result<Picked, AllocError>
-    requires ready { IsReady F.settled (model_of V.content scene.now) }
-    ensures { IfOk result (ArePickedFor (setting_of (model_of V.content scene.now))) }
-{
-    let needs = scene.touched_needs()?;
-    let mut list = Vec::with_capacity(alloc, needs.len())?;
-    for need in &needs {
-        match scene.pick(need)? {
-            None => return Ok(Picked::Unpicked(*need)),
-            Some((one, two)) => list.push(Entry {
-                need: *need,
-                one,
-                two,
-            })?,
-        }
-    }
-    Ok(Picked::Entries(Entries::new(list)))
-}
-
 /// Returns the touched needs of a scene with the witnesses that are picked for them, each in the
-/// scene of its group where there are several groups.
+/// scene of its group.
 pub(crate) fn pick_all<V: RowView, F: RowFinder>(
     alloc: Global,
     scene: &Scene<'_, V, F>,
@@ -55,10 +31,6 @@ pub(crate) fn pick_all<V: RowView, F: RowFinder>(
     requires apart { AreApart (model_of V.content scene.now).sets }
     ensures { IfOk result (ArePickedFor (setting_of (model_of V.content scene.now))) }
 {
-    let groups = groups(alloc, scene)?;
-    if groups.len() > 1 {
-        pick_by_group(alloc, scene, groups.as_slice())
-    } else {
-        pick_in_scene(alloc, scene)
-    }
+    let (groups, needs) = groups_and_needs(alloc, scene)?;
+    pick_by_group(alloc, scene, groups.as_slice(), needs.as_slice())
 }

@@ -1,13 +1,12 @@
-use Rattle.std.proofs.Common.{◌∙◌, ◌<◌, ℕ, Global, List, Vec, Some, None, ap, arith, get_or, map, subst, sym}
+use Rattle.std.proofs.Common.{◌<◌, ℕ, Global, List, Vec, Some, None, arith, get_or, map, subst, sym}
 use Rattle.std.proofs.lemmas.List.{length-map}
 use Rattle.std.proofs.Math.ListN.{get_or-map}
 use Rattle.clr_needs.specs.Picks.{Picks}
 use Rattle.clr_foot.specs.Scenes.{model_of, setting_of}
 use Rattle.clr_clearance.specs.Plans.{ArePicked, IsFirstUnpicked}
 use Rattle.clr_merge_sets.specs.Certificates.{entries_in}
-use Rattle.clr_plan.specs.GroupNeeds.{AreReady}
 use Rattle.clr_plan.proofs.EntryLaws.{all_entries, first_unpicked, no_entries, one_entry}
-use Rattle.clr_plan.proofs.GroupLaws.{all_touched, are_ready, grouped_by, need_in, part_at, picked_at, possible_at, ready_at, unread, within}
+use Rattle.clr_plan.proofs.GroupLaws.{all_touched, grouped_by, need_in, part_at, picked_at, possible_at, ready_at, unread, within}
 use Rattle.clr_plan.proofs.GroupNeedLaws.{past_mapped}
 use Rattle.clr_plan.proofs.group_picks.pick_by_group.Goals as goal
 
@@ -15,16 +14,8 @@ use Rattle.clr_plan.proofs.group_picks.pick_by_group.Goals as goal
 abbrev positions : Vec ℕ Global → List ℕ
 positions v = v.items
 
-pub group_needs-requires : goal.group_needs-requires
-group_needs-requires g c =
-    let model = model_of g.V.RowView.content c.args.scene.now in
-    record {
-      ready = subst (AreReady g.F.RowFinder.settled) (sym (ap (map (model_of g.V.RowView.content)) c.as_slice.ensures.value ∙ c.in_ok-parts.ensures))
-          (are_ready model c.requires.apart (map positions c.args.groups.now) c.requires.groups g.F.RowFinder.settled c.requires.ready);
-    }
-
 pub loop-touched-init : goal.loop-touched-init
-loop-touched-init g c = no_entries (setting_of (model_of g.V.RowView.content c.args.scene.now)) (map need_in c.deref-touched-items.result.now)
+loop-touched-init g c = no_entries (setting_of (model_of g.V.RowView.content c.args.scene.now)) (map need_in c.args.needs.now)
     c.in_ok-list.list.items c.in_ok-list.ensures.items
 
 pub index-requires : goal.index-requires
@@ -32,9 +23,8 @@ index-requires g c =
     let model = model_of g.V.RowView.content c.args.scene.now in
     let groups = map positions c.args.groups.now in
     let parts = c.in_ok-parts.parts.items in
-    let read = c.deref-touched-items.result.now in
-    let are = grouped_by (model_of g.V.RowView.content) model groups parts c.as_slice.result.now c.in_ok-needs.needs.items read c.requires.apart
-    c.requires.groups c.in_ok-parts.ensures c.as_slice.ensures.value c.in_ok-needs.ensures c.deref-touched-items.ensures.value in
+    let read = c.args.needs.now in
+    let are = grouped_by (model_of g.V.RowView.content) model groups parts read c.requires.apart c.requires.groups c.in_ok-parts.ensures c.requires.needs in
     let models = map (model_of g.V.RowView.content) parts in
     let k = c.loop-touched.touched-index in
     let inside = within model groups models read are k c.loop-touched-test.true in
@@ -46,9 +36,8 @@ pick-requires-clause-ready g c =
     let model = model_of g.V.RowView.content c.args.scene.now in
     let groups = map positions c.args.groups.now in
     let parts = c.in_ok-parts.parts.items in
-    let read = c.deref-touched-items.result.now in
-    let are = grouped_by (model_of g.V.RowView.content) model groups parts c.as_slice.result.now c.in_ok-needs.needs.items read c.requires.apart
-    c.requires.groups c.in_ok-parts.ensures c.as_slice.ensures.value c.in_ok-needs.ensures c.deref-touched-items.ensures.value in
+    let read = c.args.needs.now in
+    let are = grouped_by (model_of g.V.RowView.content) model groups parts read c.requires.apart c.requires.groups c.in_ok-parts.ensures c.requires.needs in
     let models = map (model_of g.V.RowView.content) parts in
     let k = c.loop-touched.touched-index in
     let less = c.loop-touched-test.true in
@@ -62,9 +51,8 @@ pick-requires-clause-possible g c =
     let model = model_of g.V.RowView.content c.args.scene.now in
     let groups = map positions c.args.groups.now in
     let parts = c.in_ok-parts.parts.items in
-    let read = c.deref-touched-items.result.now in
-    let are = grouped_by (model_of g.V.RowView.content) model groups parts c.as_slice.result.now c.in_ok-needs.needs.items read c.requires.apart
-    c.requires.groups c.in_ok-parts.ensures c.as_slice.ensures.value c.in_ok-needs.ensures c.deref-touched-items.ensures.value in
+    let read = c.args.needs.now in
+    let are = grouped_by (model_of g.V.RowView.content) model groups parts read c.requires.apart c.requires.groups c.in_ok-parts.ensures c.requires.needs in
     let models = map (model_of g.V.RowView.content) parts in
     let k = c.loop-touched.touched-index in
     let less = c.loop-touched-test.true in
@@ -78,9 +66,8 @@ returns-in-None g c =
     let model = model_of g.V.RowView.content c.args.scene.now in
     let groups = map positions c.args.groups.now in
     let parts = c.in_ok-parts.parts.items in
-    let read = c.deref-touched-items.result.now in
-    let are = grouped_by (model_of g.V.RowView.content) model groups parts c.as_slice.result.now c.in_ok-needs.needs.items read c.requires.apart
-    c.requires.groups c.in_ok-parts.ensures c.as_slice.ensures.value c.in_ok-needs.ensures c.deref-touched-items.ensures.value in
+    let read = c.args.needs.now in
+    let are = grouped_by (model_of g.V.RowView.content) model groups parts read c.requires.apart c.requires.groups c.in_ok-parts.ensures c.requires.needs in
     let models = map (model_of g.V.RowView.content) parts in
     let k = c.loop-touched.touched-index in
     let less = c.loop-touched-test.true in
@@ -101,9 +88,8 @@ loop-touched-preserved g c =
     let model = model_of g.V.RowView.content c.args.scene.now in
     let groups = map positions c.args.groups.now in
     let parts = c.in_ok-parts.parts.items in
-    let read = c.deref-touched-items.result.now in
-    let are = grouped_by (model_of g.V.RowView.content) model groups parts c.as_slice.result.now c.in_ok-needs.needs.items read c.requires.apart
-    c.requires.groups c.in_ok-parts.ensures c.as_slice.ensures.value c.in_ok-needs.ensures c.deref-touched-items.ensures.value in
+    let read = c.args.needs.now in
+    let are = grouped_by (model_of g.V.RowView.content) model groups parts read c.requires.apart c.requires.groups c.in_ok-parts.ensures c.requires.needs in
     let models = map (model_of g.V.RowView.content) parts in
     let k = c.loop-touched.touched-index in
     let less = c.loop-touched-test.true in
@@ -124,9 +110,8 @@ returns g c =
     let model = model_of g.V.RowView.content c.args.scene.now in
     let groups = map positions c.args.groups.now in
     let parts = c.in_ok-parts.parts.items in
-    let read = c.deref-touched-items.result.now in
-    let are = grouped_by (model_of g.V.RowView.content) model groups parts c.as_slice.result.now c.in_ok-needs.needs.items read c.requires.apart
-    c.requires.groups c.in_ok-parts.ensures c.as_slice.ensures.value c.in_ok-needs.ensures c.deref-touched-items.ensures.value in
+    let read = c.args.needs.now in
+    let are = grouped_by (model_of g.V.RowView.content) model groups parts read c.requires.apart c.requires.groups c.in_ok-parts.ensures c.requires.needs in
     let models = map (model_of g.V.RowView.content) parts in
     let k = c.loop-touched.touched-index in
     let s = setting_of model in

@@ -9,7 +9,7 @@ use Rattle.clr_foot.specs.Scenes.{model_of}
 use Rattle.clr_groups.specs.Groups.{AreGroups}
 use Rattle.clr_groups.specs.Labels.{AreGroupsBy, AreLabels}
 use Rattle.clr_groups.proofs.LabelledGroups.{are_groups}
-use Rattle.clr_groups.proofs.member_groups.groups.Goals as goal
+use Rattle.clr_groups.proofs.member_groups.groups_of_pairs.Goals as goal
 
 -- the groups as lists
 abbrev lists : Vec (Vec ℕ Global) Global → List (List ℕ)

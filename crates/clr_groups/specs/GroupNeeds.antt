@@ -1,0 +1,37 @@
+-- The touched needs of a scene, each with the group in whose scene it is touched.
+use Rattle.std.specs.Prelude.{◌≡◌, ◌||◌, ◌⊎◌, ℕ, Bool, true, false, List, Some, Contains, get_or, slice_get}
+use Rattle.std.specs.Ordering.{nat_cmp, ordering_then}
+use Rattle.std.specs.declared.cmp.Ordering.{Ordering}
+use Rattle.clr_rows.specs.Contents.{Changes, Content}
+use Rattle.clr_rules.specs.declared.rules.Rule.{Rule}
+use Rattle.clr_needs.specs.declared.needs.Need.{Need}
+use Rattle.clr_needs.specs.Needs.{IsTouched, is_fresh}
+use Rattle.clr_needs.specs.Orders.{need_cmp}
+use Rattle.clr_needs.specs.Parts.{setting_at}
+use Rattle.clr_groups.specs.declared.group_needs.GroupNeed.{GroupNeed}
+use Rattle.clr_groups.specs.declared.member_needs.MemberNeed.{MemberNeed}
+
+-- pairs of a need and a group are ordered by need, then by group
+abbrev pub group_need_cmp : GroupNeed → GroupNeed → Ordering
+group_need_cmp x y = ordering_then (need_cmp x.need y.need) (nat_cmp x.group y.group)
+
+-- a need that is touched in the setting of the group at its position
+abbrev pub IsTouchedAt : List Rule → Content → List Changes → List (List ℕ) → GroupNeed → Type 0
+IsTouchedAt rules root sets groups x = (g : List ℕ) × (slice_get groups x.group ≡ Some g) × IsTouched (setting_at rules root sets g) x.need
+
+-- the group at the position has the member
+abbrev pub IsPlaceOf : List (List ℕ) → ℕ → ℕ → Type 0
+IsPlaceOf groups x k = (g : List ℕ) × (slice_get groups k ≡ Some g) × Contains g x
+
+-- the need has a new subject, or is among those that changed versions serve
+abbrev pub IsMarked : List Need → Need → Type 0
+IsMarked changed n = (n.first.fresh || is_fresh n.second ≡ true) ⊎ Contains changed n
+
+-- the marked need of a pair, with the place of its member
+abbrev pub IsOfPlace : List Need → List ℕ → MemberNeed → GroupNeed → Type 0
+IsOfPlace changed places p x = IsMarked changed p.need × (x.need ≡ p.need) × (x.group ≡ get_or places p.member 0)
+
+-- the answer is true exactly where the statement holds
+abbrev pub IsAnswerTo : Bool → Type 0 → Type 0
+IsAnswerTo true P = P
+IsAnswerTo false P = ¬ P
