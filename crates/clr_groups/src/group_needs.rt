@@ -1,9 +1,10 @@
 //! The touched needs of a scene, each with the group in whose scene it is touched.
 
-ghost use Rattle.std.specs.Prelude.{◌≡◌, ◌<◌, ◌||◌, ℕ, List, map, length, get_or, slice_get, Contains, IfOk, OnOk};
+ghost use Rattle.std.specs.Prelude.{◌≡◌, ◌<◌, ◌≤◌, ◌||◌, ℕ, List, map, length, get_or, slice_get, Contains, IfOk, OnOk};
 ghost use Rattle.std.specs.List.Sorted.{IsStrictlySortedBy};
 ghost use Rattle.std.specs.Ordering.{nat_cmp};
 ghost use Rattle.clr_versions.specs.Gains.{Gains, OfSome};
+ghost use Rattle.clr_needs.specs.declared.limits.TheConstants.{MOST_MEMBERS};
 ghost use Rattle.clr_needs.specs.Members.{AreApart};
 ghost use Rattle.clr_needs.specs.Needs.{Lists, is_fresh};
 ghost use Rattle.clr_needs.specs.Orders.{need_cmp};
@@ -127,7 +128,7 @@ fn place_of(groups: &[Vec<u16>], member: u16) -> usize
 fn places_of(alloc: Global, groups: &[Vec<u16>], count: usize) -> Result<Vec<usize>, AllocError>
     requires ascending { (g : List ℕ) → Contains (map (λ g. g.items) groups.now) g → IsStrictlySortedBy nat_cmp g }
     requires some { (x : ℕ) → x < count → (g : List ℕ) × Contains (map (λ g. g.items) groups.now) g × Contains g x }
-    requires few { count < 65536 }
+    requires few { count ≤ MOST_MEMBERS }
     ensures long { IfOk result (λ places. length places.items ≡ count) }
     ensures placed { IfOk result (λ places. (x : ℕ) → x < count → IsPlaceOf (map (λ g. g.items) groups.now) x (get_or places.items x 0)) }
 {
