@@ -7,7 +7,7 @@ use Rattle.clr_rows.specs.declared.cells.CellId.{CellId}
 use Rattle.clr_rows.specs.Cells.{cell_cmp}
 use Rattle.clr_rows.specs.Contents.{Content, row_at}
 use Rattle.std.specs.declared.cmp.Ordering.TheVariants.{Less}
-use Rattle.clr_needs.proofs.Reading.{all_taken, none_taken, one_more}
+use Rattle.clr_needs.proofs.Reading.{all_taken, one_more}
 use Rattle.clr_rows.specs.Held.{Held}
 use Rattle.clr_rules.specs.declared.needs.Ask.{Ask}
 use Rattle.clr_rules.specs.declared.rules.Rule.{Rule}
@@ -85,12 +85,6 @@ module _ (rules : List Rule) (view : View) (number : ℕ) (s t : Held) where
   abbrev pub AreSecondMet : ℕ → ℕ → Type 0
   AreSecondMet part n = (k : ℕ) → k < n → IsMetIfCalled rules view (ask_of_parts number part (k + 1)) s (Some t)
 
-  pub one_second : (part n : ℕ) → AreSecondMet part n → IsMetIfCalled rules view (ask_of_parts number part (n + 1)) s (Some t) → AreSecondMet part (n + 1)
-  one_second part n before one k less = elim (cases_lt k n) [
-    | inl l ↦ before k l
-    | inr l ↦ (let same : n ≡ k = omega (arith, less, l) in subst (λ m. IsMetIfCalled rules view (ask_of_parts number part (m + 1)) s (Some t)) same one)
-  ]
-
   pub all_second : (part n : ℕ) → part_count rules number t ≤ n → AreSecondMet part n → IsPartMet rules view number part s t
   all_second part n count met ask is first called =
       let w = second_part_there rules ask s t called in
@@ -102,12 +96,6 @@ module _ (rules : List Rule) (view : View) (number : ℕ) (s t : Held) where
   -- the first parts of the first row
   abbrev pub AreFirstMet : ℕ → Type 0
   AreFirstMet n = (k : ℕ) → k < n → IsPartMet rules view number (k + 1) s t
-
-  pub one_first : (n : ℕ) → AreFirstMet n → IsPartMet rules view number (n + 1) s t → AreFirstMet (n + 1)
-  one_first n before one k less = elim (cases_lt k n) [
-    | inl l ↦ before k l
-    | inr l ↦ (let same : n ≡ k = omega (arith, less, l) in subst (λ m. IsPartMet rules view number (m + 1) s t) same one)
-  ]
 
   pub all_first : (n : ℕ) → part_count rules number s ≤ n → AreFirstMet n → IsPairMet rules view number s t
   all_first n count met ask is called =
@@ -122,9 +110,6 @@ module _ (rules : List Rule) (view : View) (number : ℕ) (s : Held) (cells : Li
   -- the first cells
   abbrev pub AreMetAt : ℕ → Type 0
   AreMetAt n = (q : CellId) → Contains (take n cells) q → IsMetBeside rules view number s q
-
-  pub none_met : AreMetAt 0
-  none_met q h = absurd (none_taken cells q h)
 
   pub one_met : (n : ℕ) (d : CellId) → n < length cells → AreMetAt n → IsMetBeside rules view number s (get_or cells n d) → AreMetAt (n + 1)
   one_met n d less before one q h = by (one_more cells n d q less h)
