@@ -59,7 +59,7 @@ crates_up_to() {
 begin_in() { (cd "$1" && exec setpriv --pdeathsig TERM rt ci 2>&1 </dev/null) & }
 
 # Whether there is memory for several runs side by side, each of which reckons with all that is free when it begins: 16 GB.
-has_room_for_ways() { [ "$(sed -n 's/^MemAvailable: *\([0-9]*\) kB$/\1/p' /proc/meminfo 2>/dev/null || echo 0)" -ge 16000000 ]; }
+has_room_for_ways() { [ "${CLR_OFFICE_FREE_MEMORY-$(sed -n 's/^MemAvailable: *\([0-9]*\) kB$/\1/p' /proc/meminfo 2>/dev/null || echo 0)}" -ge 16000000 ]; }
 
 # Proves the crates of a stage and what they stand on, each way by a run of its own, in a folder of its own.
 prove_stage() {
@@ -75,17 +75,20 @@ prove_stage() {
     for way in "${runs[@]}"; do wait "$way" || return 1; done
 }
 
-# Proves the crates stage by stage. The library that the program stands on has a run of its own beside the last stage, and the program one behind
+# Proves the crates stage by stage. The library that the program stands on has a run of its own beside the last stage, and all has one behind
 # this stage, which takes what the others have proved. Where there is no memory for several runs, the last one proves all that is left.
 prove() {
-    local stage library= whole
+    local stage whole library=
     local earlier=("${stages[@]:0:${#stages[@]}-1}")
+    local of_library=$(crates_up_to "$library_of_program")
     trap 'kill $(jobs -p) 2>/dev/null' EXIT
     trap 'exit 143' TERM
     for stage in "${earlier[@]}"; do prove_stage "$stage" || return 1; done
     if has_room_for_ways; then
-        copy_crates "$room/library" $(crates_up_to $library_of_program) && begin_in "$room/library" || return 1
-        library=$!
+        if [ -n "$of_library" ]; then
+            copy_crates "$room/library" $of_library && begin_in "$room/library" || return 1
+            library=$!
+        fi
         prove_stage "${stages[-1]}" || return 1
     fi
     copy_crates "$room/whole" "${crates[@]}" && begin_in "$room/whole" || return 1
