@@ -21,7 +21,6 @@ use clr_lines::audit_lines;
 use clr_reports::{MOST_INPUT_BYTES, Output, RunFault, draft_of, open_office};
 use clr_rows::{LIVE, Words};
 use std::alloc::{AllocError, Global};
-use std::mem::forget;
 
 /// Returns the lines of an audit of LIVE, where rules may be broken.
 fn audit_draft(alloc: Global, draft: &Draft) -> Result<Output, AllocError>
@@ -52,11 +51,7 @@ pub fn answer_run(alloc: Global, office: &[u8], script: &[u8]) -> Result<Output,
     ensures { IsOutput (IsAnswerWithin ask.Run office.now script.now) result }
 {
     match open_office(alloc, office) {
-        Ok(mut office) => {
-            let output = run_text(alloc, &mut office, script);
-            forget(office);
-            output
-        }
+        Ok(mut office) => run_text(alloc, &mut office, script),
         Err(answer) => answer,
     }
 }
@@ -71,11 +66,7 @@ fn answer_plan(
     ensures { IsOutput (IsPrintIn (IsPlanPrint (merge_set root.now names.now)) (draft_in office.now)) result }
 {
     match open_office(alloc, office) {
-        Ok(office) => {
-            let output = plan_members(alloc, &office, root, names);
-            forget(office);
-            Ok(output?)
-        }
+        Ok(office) => Ok(plan_members(alloc, &office, root, names)?),
         Err(answer) => answer,
     }
 }
@@ -91,9 +82,7 @@ fn answer_merge(
 {
     match read_case(alloc, office, certificate) {
         Ok((mut office, certificate)) => {
-            let output = merge_members(alloc, &mut office, &certificate, names);
-            forget(office);
-            Ok(output?)
+            Ok(merge_members(alloc, &mut office, &certificate, names)?)
         }
         Err(fault) => fault_output(alloc, fault),
     }
@@ -129,9 +118,6 @@ fn answer_texts(alloc: Global, ask: &Ask, office: &[u8], second: &[u8]) -> Resul
 /// text is no office, with `BadScript` or `BadCertificate` where the second is no script or no
 /// certificate, and with `WriteFailed` where the writer fails; how much went out is then not known.
 /// Fails with `OutOfMemory` if memory runs out, which may come in place of any other answer.
-///
-/// A program that has its answer ends. So the memory of an office in which it was found isn't given back, which would take
-/// a tenth of the time of opening the office.
 pub fn answer<W: Sink>(
     alloc: Global,
     ask: &Ask,

@@ -29,7 +29,7 @@ use std::alloc::Global;
 /// `\r`, with `BadOffice` where the text before that line is no office, with `BadScript` where the
 /// text after it is no script, and with `WriteFailed` where the writer fails; how much went out is
 /// then not known. Fails with `OutOfMemory` if memory runs out, which may come in place of any
-/// other answer. The memory of the office isn't given back, as by `answer`.
+/// other answer.
 pub fn run_office<R: Source, W: Sink>(
     alloc: Global,
     reader: &mut R,
