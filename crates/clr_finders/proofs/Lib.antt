@@ -3,3 +3,4 @@ pub mod CountedLists
 pub mod NextLemmas
 pub mod PassingCells
 pub mod SharingLemmas
+pub mod WithoutRole

@@ -1,6 +1,6 @@
 //! What a finder keeps of a row.
 
-ghost use Rattle.std.specs.Prelude.{◌≡◌, ◌<◌, ◌∷◌, [], length, slice_get, IfOk};
+ghost use Rattle.std.specs.Prelude.{◌≡◌, ◌<◌, ◌∷◌, [], false, length, slice_get, IfOk};
 ghost use Rattle.std.specs.Option.{option_copied, option_map};
 ghost use Rattle.clr_rows.specs.Held.{held_of};
 ghost use Rattle.clr_rules.specs.Books.{FitTogether};
@@ -9,7 +9,7 @@ ghost use Rattle.clr_finders.specs.Sharing.{row_spots, rows_at, rule_spots};
 use crate::sides::{has_role, may_serve};
 use clr_rows::{CellId, Held, Row};
 use clr_rules::RuleBook;
-use clr_spots::{Spots, spots_of};
+use clr_spots::{SpotList, Spots, spots_of};
 use std::alloc::{AllocError, Global};
 use std::marker::Model;
 
@@ -23,8 +23,27 @@ pub struct RuleSpots {
 }
 
 impl RuleSpots {
+    /// Returns what is kept of a row under a rule in which it has no role: it has no spots, and
+    /// isn't of the side that serves.
+    fn without_role(alloc: Global) -> RuleSpots
+        ensures list { result.spots.list ≡ [] }
+        ensures wide { result.spots.wide ≡ false }
+        ensures has_role { result.has_role ≡ false }
+        ensures may_serve { result.may_serve ≡ false }
+    {
+        RuleSpots {
+            spots: Spots {
+                list: SpotList::new(Vec::new(alloc)),
+                wide: false,
+            },
+            has_role: false,
+            may_serve: false,
+        }
+    }
+
     /// Returns the spots of a row under the rule of a number, which is below the book's `len`. The
-    /// book and the row fit one schema.
+    /// book and the row fit one schema. Where the row has no role in the rule, its spots aren't
+    /// looked for, and no memory is taken.
     #[tactic(auto, unfolding(crate::specs::Sharing::rule_spots, clr_rules::specs::Sides::has_role, crate::specs::Sharing::may_serve_under))]
     pub fn new(
         alloc: Global,
@@ -36,9 +55,12 @@ impl RuleSpots {
         requires fit { FitTogether book.now (held_of held ∷ []) }
         ensures { IfOk result (λ spots. spots ≡ rule_spots book.now rule (held_of held.entry)) }
     {
+        if !has_role(book.rule(rule), held) {
+            return Ok(RuleSpots::without_role(alloc));
+        }
         Ok(RuleSpots {
             spots: spots_of(alloc, book, rule, held)?,
-            has_role: has_role(book.rule(rule), held),
+            has_role: true,
             may_serve: may_serve(book.rule(rule), held),
         })
     }
