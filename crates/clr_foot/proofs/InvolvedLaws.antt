@@ -1,31 +1,27 @@
 -- The needs that are added involve the member, and each that does is added.
-use Rattle.std.proofs.Common.{◌≡◌, ◌∙◌, ◌<◌, ◌≤◌, ◌+◌, ℕ, Bool, true, false, List, [], ◌⊎◌, inl, inr, Option, Some, None, Contains, get_or, is_some, length}
-use Rattle.std.proofs.Common.{take, refl, sym, ap, subst, arith}
-use Rattle.std.specs.Prelude.{◌↔◌, slice_get}
+use Rattle.std.proofs.Common.{◌≡◌, ◌∙◌, ◌<◌, ◌≤◌, ◌+◌, ℕ, Bool, true, false, List, ◌⊎◌, inl, inr, Option, Some, None, Contains, get_or, is_some, length}
+use Rattle.std.proofs.Common.{take, refl, sym, ap, subst}
+use Rattle.std.specs.Prelude.{slice_get}
 use Rattle.std.specs.FinMap as finite
-use Rattle.std.proofs.lemmas.Bool.{cases_lt, false≢true, or_cases, or_left, or_right}
+use Rattle.std.proofs.lemmas.Bool.{false≢true, or_cases, or_left, or_right}
 use Rattle.std.proofs.lemmas.Bool.Decides.{Decides-eqb}
-use Rattle.clr_rows.specs.declared.cells.CellId.{CellId}
 use Rattle.clr_rows.specs.Contents.{Changes, Content}
 use Rattle.clr_rules.specs.declared.rules.Rule.{Rule}
-use Rattle.clr_rules.proofs.AskLemmas.{rule_there}
-use Rattle.clr_rules.proofs.Elements.{among, contained}
+use Rattle.clr_rules.proofs.Elements.{contained}
 use Rattle.clr_needs.specs.declared.needs.Need.{Need}
 use Rattle.clr_needs.specs.declared.needs.VersionId.{VersionId}
 use Rattle.clr_versions.specs.declared.versions.Version.{Version}
-use Rattle.clr_versions.specs.Candidates.{IsNeedServedBy, IsNeedWith, IsSubject}
-use Rattle.clr_versions.specs.Gains.{Gains, OfSome}
+use Rattle.clr_versions.specs.Candidates.{IsNeedServedBy, IsNeedWith}
 use Rattle.clr_needs.specs.Independence.{AreDependent, Involves, Names, NamesIfAny}
-use Rattle.clr_foot.specs.Involvement.{IsInvolvedAt, IsInvolvedBy, IsInvolvedWith, IsInvolving, IsToldInvolving}
+use Rattle.clr_foot.specs.Involvement.{IsInvolving, IsToldInvolving}
 use Rattle.clr_versions.specs.Naming.{names, names_at, names_by}
 use Rattle.clr_needs.specs.Members.{after_at, setting}
-use Rattle.clr_needs.specs.Needs.{AreServers, IsBesideIfAny, IsPossible, IsPossibleNeed, Lists, Serves, ask_of, held_if_any}
+use Rattle.clr_needs.specs.Needs.{AreServers, IsBesideIfAny, IsPossible, IsPossibleNeed, Lists}
 use Rattle.clr_needs.specs.Orders.{need_cmp}
-use Rattle.clr_needs.specs.Settings.{Setting, Lifetime, Always, With, Without, Lived, changer, held_row, version}
-use Rattle.clr_versions.specs.Versions.{IsAt, row_and_life, version_of}
+use Rattle.clr_needs.specs.Settings.{Setting, Lifetime, Always, With, Without, Lived, changer, version}
+use Rattle.clr_versions.specs.Versions.{IsAt, row_and_life}
 use Rattle.clr_needs.proofs.NeedSubjects.{subjects_once}
 use Rattle.clr_needs.proofs.Reading.{all_taken, one_more, read_of}
-use Rattle.clr_versions.proofs.Gaining.{gains_as, gains_both, gains_none}
 use Rattle.clr_needs.proofs.Lives.{named_by_old, new_is, old_is, version_by, version_by_changer}
 use Rattle.clr_needs.proofs.Merges.{IsChanger, changer_is}
 use Rattle.clr_versions.proofs.SharedCells.{key_among}
@@ -47,7 +43,7 @@ module _ (c : Setting ℕ) where
   -- ---- one version
 
   module _ (number x : ℕ) (v : Version) (at : IsAt c v) (names : Names (row_and_life v).life x) where
-    with_involves : (n : Need) → IsNeedWith c number v.id n → IsInvolving c x n
+    pub with_involves : (n : Need) → IsNeedWith c number v.id n → IsInvolving c x n
     with_involves n (rule, inl e, a, b, p) =
         let row = lived_is c v n.first a (sym e) at p.first_is in (a, b, p, inl (subst (λ l. Names l.life x) row names))
     with_involves n (rule, inr e, a, b, p) = (a, b, p, inr (inl (by n.second b refl p.second_is)))
@@ -60,81 +56,9 @@ module _ (c : Setting ℕ) where
             let same : v.id ≡ w = let both : Some v.id ≡ Some w = sym e ∙ second in cc in
             subst (λ l. Names l.life x) (lived_is c v w m same at beside.is) names
 
-    served_involves : (n : Need) → IsNeedServedBy c number v.id n → IsInvolving c x n
+    pub served_involves : (n : Need) → IsNeedServedBy c number v.id n → IsInvolving c x n
     served_involves n (rule, a, b, l, p, serve) =
         (a, b, p, inr (inr (v.id, l, serve, subst (λ m. Names m.life x) (lived_is c v v.id l refl at serve.is) names)))
-
-    pub involved_gains : (old middle new : List Need)
-        → Gains (IsNeedWith c number v.id) (IsNeedWith c number v.id) old middle
-        → Gains (IsNeedServedBy c number v.id) (IsNeedServedBy c number v.id) middle new
-        → Gains (IsInvolving c x) (IsInvolvedBy c number x v.id) old new
-    involved_gains old middle new g h =
-        gains_both (IsInvolving c x) (IsNeedWith c number v.id) (IsNeedServedBy c number v.id) (IsInvolvedBy c number x v.id) old middle new split
-        (gains_as (IsNeedWith c number v.id) (IsNeedWith c number v.id) (IsInvolving c x) (IsNeedWith c number v.id) old middle with_involves (λ n w. w) g)
-        (gains_as (IsNeedServedBy c number v.id) (IsNeedServedBy c number v.id) (IsInvolving c x) (IsNeedServedBy c number v.id) middle new served_involves
-        (λ n w. w) h)
-      where
-        split : (n : Need) → IsInvolvedBy c number x v.id n → IsNeedWith c number v.id n ⊎ IsNeedServedBy c number v.id n
-        split n w = by w.role
-          where
-            by : IsSubject n v.id ⊎ Serves c n w.first w.second v.id w.lived → IsNeedWith c number v.id n ⊎ IsNeedServedBy c number v.id n
-            by (inl subject) = inl (w.rule, subject, w.first, w.second, w.possible)
-            by (inr serve) = inr (w.rule, w.first, w.second, w.lived, w.possible, serve)
-
-  -- ---- rule after rule
-
-  -- a need that involves a version, under a rule below a number
-  pub record IsInvolvedBelow (x number : ℕ) (v : VersionId) (n : Need) : Type 0 where
-    pub involved : IsInvolvedWith c x v n
-    pub below : n.rule < number
-
-  pub no_rule_involved : (x : ℕ) (v : VersionId) (needs : List Need) → Gains (IsInvolving c x) (IsInvolvedBelow x 0 v) needs needs
-  no_rule_involved x v needs = gains_none (IsInvolving c x) (IsInvolvedBelow x 0 v) needs (λ n w. let less = w.below in omega (arith, less))
-
-  pub one_rule_involved : (x number : ℕ) (v : VersionId) (old middle new : List Need) → Gains (IsInvolving c x) (IsInvolvedBelow x number v) old middle
-      → Gains (IsInvolving c x) (IsInvolvedBy c number x v) middle new
-      → Gains (IsInvolving c x) (IsInvolvedBelow x (number + 1) v) old new
-  one_rule_involved x number v old middle new g h =
-      gains_both (IsInvolving c x) (IsInvolvedBelow x number v) (IsInvolvedBy c number x v) (IsInvolvedBelow x (number + 1) v) old middle new split g h
-    where
-      split : (n : Need) → IsInvolvedBelow x (number + 1) v n → IsInvolvedBelow x number v n ⊎ IsInvolvedBy c number x v n
-      split n w = elim (cases_lt n.rule number) [
-        | inl less ↦ inl (record { involved = w.involved; below = less })
-        | inr last ↦ (let rule : n.rule ≡ number = let less = w.below in omega (arith, less, last) in
-            inr (subst (λ k. IsInvolvedBy c k x v n) rule w.involved))
-      ]
-
-  pub all_rules_involved : (x number : ℕ) (v : VersionId) (old new : List Need) → length c.rules ≤ number
-      → Gains (IsInvolving c x) (IsInvolvedBelow x number v) old new
-      → Gains (IsInvolving c x) (IsInvolvedWith c x v) old new
-  all_rules_involved x number v old new past g =
-      gains_as (IsInvolving c x) (IsInvolvedBelow x number v) (IsInvolving c x) (IsInvolvedWith c x v) old new (λ n w. w)
-      (λ n w. record { involved = w; below = below n w }) g
-    where
-      below : (n : Need) → IsInvolvedWith c x v n → n.rule < number
-      below n w = let less = rule_there c.rules (ask_of n) (held_row n.first w.first) (held_if_any n.second w.second) w.possible.they_call in
-          omega (arith, less, past)
-
-  -- ---- the version of a name
-
-  pub no_version : (x : ℕ) (id : VersionId) (needs : List Need) → version c id ≡ None → Gains (IsInvolving c x) (IsInvolvedWith c x id) needs needs
-  no_version x id needs none = gains_none (IsInvolving c x) (IsInvolvedWith c x id) needs (λ n w. let clash : None ≡ Some w.lived = sym none ∙ w.is in cc)
-
-  pub not_named : (x : ℕ) (id : VersionId) (l : Lived ℕ) (told : Bool) (needs : List Need) → version c id ≡ Some l → told ≡ names l.life x → told ≡ false
-      → Gains (IsInvolving c x) (IsInvolvedWith c x id) needs needs
-  not_named x id l told needs is tells fails = gains_none (IsInvolving c x) (IsInvolvedWith c x id) needs by
-    where
-      by : (n : Need) → IsInvolvedWith c x id n → ⊥
-      by n w =
-          let same : w.lived ≡ l = let e : Some w.lived ≡ Some l = sym w.is ∙ is in cc in
-          false≢true (sym fails ∙ tells ∙ names_told l.life x (subst (λ m. Names m.life x) same w.names))
-
-  pub at_cell : (x : ℕ) (q : CellId) (old middle new : List Need) → Gains (IsInvolving c x) (IsInvolvedWith c x (version_of true q)) old middle
-      → Gains (IsInvolving c x) (IsInvolvedWith c x (version_of false q)) middle new
-      → Gains (IsInvolving c x) (IsInvolvedAt c x q) old new
-  at_cell x q old middle new g h =
-      gains_both (IsInvolving c x) (IsInvolvedWith c x (version_of true q)) (IsInvolvedWith c x (version_of false q)) (IsInvolvedAt c x q) old middle new
-      (λ n w. w) g h
 
   -- ---- whether a need involves a member
 
@@ -235,39 +159,6 @@ module _ (rules : List Rule) (root : Content) (sets : List Changes) where
       by true (Some m) h is = changes (Some m) h (ap Some (subst (λ k. Names k x) ((new_is c m (c.after m v.cell) l is).1) names))
 
   module _ (x : ℕ) (set : Changes) (at : slice_get sets x ≡ Some set) where
-    key_of : (v : VersionId) (l : Lived ℕ) → version c v ≡ Some l → Names l.life x → Contains (finite.keys set) v.cell
+    pub key_of : (v : VersionId) (l : Lived ℕ) → version c v ≡ Some l → Names l.life x → Contains (finite.keys set) v.cell
     key_of v l is names = contained v.cell (finite.keys set) (key_among set v.cell (ap (λ s. is_some (after_at s v.cell)) (sym at)
         ∙ named_changes v l x is names))
-
-    by_version : (v : VersionId) (n : Need) → IsInvolvedWith c x v n → OfSome (IsInvolvedAt c x) (finite.keys set) n
-    by_version v n w = (v.cell, key_of v w.lived w.is w.names, by v.fresh refl)
-      where
-        by : (b : Bool) → v.fresh ≡ b → IsInvolvedAt c x v.cell n
-        by true e = let same : v ≡ version_of true v.cell = λ i. record { cell = v.cell; fresh = e i } in inl (subst (λ u. IsInvolvedWith c x u n) same w)
-        by false e = let same : v ≡ version_of false v.cell = λ i. record { cell = v.cell; fresh = e i } in inr (subst (λ u. IsInvolvedWith c x u n) same w)
-
-    -- a need that involves the member is found at a cell that it changes
-    at_key : (n : Need) → IsInvolving c x n → OfSome (IsInvolvedAt c x) (finite.keys set) n
-    at_key n (a, b, p, inl names) =
-        by_version n.first n (record { first = a; second = b; lived = a; rule = refl; possible = p; is = p.first_is; names = names; role = inl (inl refl) })
-    at_key n (a, b, p, inr (inl names)) = by n.second b refl p.second_is names
-      where
-        by : (w : Option VersionId) (m : Option (Lived ℕ)) → n.second ≡ w → IsBesideIfAny c n.first a w m → NamesIfAny m x
-            → OfSome (IsInvolvedAt c x) (finite.keys set) n
-        by None None e is h = absurd h
-        by None (Some m) e is h = absurd is
-        by (Some w) None e is h = absurd is
-        by (Some w) (Some m) e is h =
-            by_version w n (record { first = a; second = b; lived = m; rule = refl; possible = p; is = is.is; names = h; role = inl (inr e) })
-    at_key n (a, b, p, inr (inr (v, l, serve, names))) =
-        by_version v n (record { first = a; second = b; lived = l; rule = refl; possible = p; is = serve.is; names = names; role = inr serve })
-
-    -- all of them, added to an empty list
-    pub all_involved : (cells : List CellId) (empty new : List Need) → cells ≡ finite.keys set → empty ≡ []
-        → Gains (IsInvolving c x) (OfSome (IsInvolvedAt c x) cells) empty new
-        → (n : Need) → Contains new n ↔ IsInvolving c x n
-    all_involved cells empty new all none g n = (λ h. only (g.only n h), λ t. g.every n (subst (λ qs. OfSome (IsInvolvedAt c x) qs n) (sym all) (at_key n t)))
-      where
-        only : Contains empty n ⊎ IsInvolving c x n → IsInvolving c x n
-        only (inl h) = absurd (among n [] (subst (λ ns. Contains ns n) none h))
-        only (inr t) = t

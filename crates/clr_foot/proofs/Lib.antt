@@ -1,4 +1,3 @@
-pub mod ChangedNeeds
 pub mod FirstServerLaws
 pub mod InvolvedLaws
 pub mod LeastBroken
@@ -7,6 +6,7 @@ pub mod ServedNeeds
 pub mod ServerLaws
 pub mod ServingLaws
 pub mod SharingLaws
+pub mod TieLaws
 pub mod TouchLaws
 pub mod TouchSteps
 pub mod VersionLists

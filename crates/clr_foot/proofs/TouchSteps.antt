@@ -168,7 +168,7 @@ module _ (c : Setting ℕ) (number : ℕ) where
       (λ n w. among_with c number v at near n found.are w) (λ n w. w) pairs)
 
   -- a new version's needs, but for those beside a new one
-  old_sought : (near : List Version) (P : Held → Type 0) → Finds c false P near → (id : VersionId) (l : Lived ℕ) → id.fresh ≡ false → version c id ≡ Some l
+  pub old_sought : (near : List Version) (P : Held → Type 0) → Finds c false P near → (id : VersionId) (l : Lived ℕ) → id.fresh ≡ false → version c id ≡ Some l
       → P (held_row id l) → HasVersion near id
   old_sought near P found id l old is near_it =
       let same : version_of false id.cell ≡ id = λ i. record { cell = id.cell; fresh = sym old i } in
@@ -252,11 +252,11 @@ module _ (c : Setting ℕ) (number : ℕ) where
       (not_served c number r at told is fails)
 
   -- needs with a new version are touched, and so are needs that a changed version serves
-  with_touched : (v : VersionId) → v.fresh ≡ true → (n : Need) → IsNeedWith c number v n → IsTouched c n
+  pub with_touched : (v : VersionId) → v.fresh ≡ true → (n : Need) → IsNeedWith c number v n → IsTouched c n
   with_touched v fresh n (rule, inl e, a, b, p) = (a, b, p, inl (or_left n.first.fresh (is_fresh n.second) (ap (λ u. u.fresh) e ∙ fresh)))
   with_touched v fresh n (rule, inr e, a, b, p) = (a, b, p, inl (or_right n.first.fresh (is_fresh n.second) (ap is_fresh e ∙ fresh)))
 
-  served_touched : (v : VersionId) → ((l : Lived ℕ) → version c v ≡ Some l → IsChanged l.life) → (n : Need) → IsNeedServedBy c number v n → IsTouched c n
+  pub served_touched : (v : VersionId) → ((l : Lived ℕ) → version c v ≡ Some l → IsChanged l.life) → (n : Need) → IsNeedServedBy c number v n → IsTouched c n
   served_touched v changed n (rule, a, b, l, p, serve) = (a, b, p, inr (v, l, serve, changed l serve.is))
 
   -- ---- each of some new versions, and each of some changed ones

@@ -3,4 +3,5 @@ pub mod Involvement
 pub mod NewRows
 pub mod Scenes
 pub mod Serving
+pub mod Ties
 pub mod Touches

@@ -18,7 +18,7 @@ use Rattle.clr_versions.specs.Candidates.{IsNeedAmong, IsNeedBesideOld, IsNeedOf
 use Rattle.clr_versions.specs.Gains.{IsListedOrPassed}
 use Rattle.clr_new_pairs.specs.NewPairs.{Passes}
 use Rattle.clr_needs.specs.Broken.{is_living}
-use Rattle.clr_needs.specs.Needs.{IsTouched, is_fresh}
+use Rattle.clr_needs.specs.Needs.{IsTouched}
 use Rattle.clr_needs.specs.Orders.{need_cmp}
 use Rattle.clr_needs.specs.Settings.{Setting, Lived, held_row, version}
 use Rattle.clr_versions.specs.Versions.{row_and_life, row_of}
@@ -77,9 +77,3 @@ pub record ListsTouched (c : Setting ℕ) (leaves_out : Bool) (needs : List Need
   pub ascending : IsStrictlySortedBy need_cmp needs
   pub only : (n : Need) → Contains needs n → IsTouched c n
   pub every : (n : Need) → IsTouched c n → IsListedOrPassed (Passes c.rules leaves_out) needs n
-
--- touched needs, ascending, among them all of old subjects
-pub record AreOfChanged (c : Setting ℕ) (needs : List Need) : Type 0 where
-  pub ascending : IsStrictlySortedBy need_cmp needs
-  pub only : (n : Need) → Contains needs n → IsTouched c n
-  pub every : (n : Need) → IsTouched c n → n.first.fresh || is_fresh n.second ≡ false → Contains needs n

@@ -24,6 +24,8 @@
 //!   life of a subject or of a version that serves; exact both ways, memory aside.
 //!   `needs_involving`, of one member: just the possible needs that involve it, ascending, each
 //!   once.
+//!   `ties`, of one member: needs that involve it, among them all by which it touches something.
+//!   `changer`: the first member that changes a cell.
 //! - `part`: the scene of the members at some positions, over the same rules, rows and finder,
 //!   memory aside. `len`: how many members there are, at most `MOST_MEMBERS`.
 //! - `first_broken`, for one member over rows where every rule holds: none exactly where every rule
@@ -37,7 +39,6 @@ mod blockers;
 mod breaks;
 mod first_servers;
 mod independence;
-mod involvement;
 mod near;
 mod new_rows;
 mod parts;
@@ -46,6 +47,7 @@ mod scene_versions;
 mod scenes;
 mod servers;
 mod serving;
+mod ties;
 mod touches;
 
 pub use clr_needs::{
@@ -53,3 +55,4 @@ pub use clr_needs::{
     first_broken_is_listed_first, positions_stand_for_names, uncovered_needs_are_broken,
 };
 pub use scenes::Scene;
+pub use ties::Ties;

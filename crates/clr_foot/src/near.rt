@@ -73,7 +73,7 @@ impl<V: RowView, F: RowFinder> Scene<'_, V, F> {
     }
 
     /// Returns the old versions of those of some cells that are looked up, or the new ones.
-    fn versions_near(
+    pub(crate) fn versions_near(
         &self,
         servers: bool,
         rule: u16,

@@ -7,7 +7,7 @@ ghost use Rattle.clr_versions.specs.Gains.{Gains, GainsSome, OfSome, Reaches};
 ghost use Rattle.clr_new_pairs.specs.NewPairs.{Passes};
 ghost use Rattle.clr_needs.specs.Needs.{AreTouchedNeeds, IsTouched};
 ghost use Rattle.clr_foot.specs.Scenes.{IsReady, model_of, setting_in, setting_of};
-ghost use Rattle.clr_foot.specs.Touches.{AreOfChanged, IsInCells, IsNeedOfChanged, IsNeedOfNew, IsNeedServedAmong, IsTouchedOf, ListsTouched};
+ghost use Rattle.clr_foot.specs.Touches.{IsInCells, IsNeedOfChanged, IsNeedOfNew, IsNeedServedAmong, IsTouchedOf, ListsTouched};
 ghost use Rattle.clr_versions.specs.Versions.{AreAt, Finds, FitsSetting, IsAt};
 
 use crate::scenes::Scene;
@@ -232,21 +232,6 @@ impl<V: RowView, F: RowFinder> Scene<'_, V, F> {
                 old.as_slice(),
                 &mut needs,
             )?;
-        }
-        put_in_order(&mut needs);
-        Ok(needs)
-    }
-
-    /// Returns the touched needs that an old version serves which a member changes, ascending, each once.
-    /// All touched needs of old subjects are among them.
-    pub fn needs_of_changed(&self) -> Result<Vec<Need>, AllocError>
-        requires ready { IsReady F.settled (model_of V.content self.now) }
-        ensures { IfOk result (λ needs. AreOfChanged (setting_of (model_of V.content self.now)) needs.items) }
-    {
-        let old = self.versions_at(false, self.members.cells.as_slice())?;
-        let mut needs = Vec::new(self.alloc);
-        for rule in 0..self.book.len() {
-            self.add_of_changed(rule as u16, old.as_slice(), &mut needs)?;
         }
         put_in_order(&mut needs);
         Ok(needs)

@@ -1,6 +1,4 @@
-use Rattle.std.proofs.Common.{◌≡◌, ◌∙◌, Some, ap, slice_get}
-use Rattle.std.specs.Option.{option_copied}
-use Rattle.clr_finders.specs.Sharing.{rule_spots}
+use Rattle.std.proofs.Common.{◌∙◌, ap, slice_get}
 use Rattle.clr_finders.proofs.SharingLemmas.{row_spots_under}
 use Rattle.clr_versions.specs.Versions.{row_of}
 use Rattle.clr_foot.proofs.VersionLists.{copied_is, copied_some}
