@@ -7,14 +7,13 @@ use Rattle.std.specs.Ordering.{nat_cmp, ordering_then}
 use Rattle.std.specs.declared.cmp.Ordering.{Ordering}
 use Rattle.std.specs.declared.cmp.Ordering.TheVariants.{Less, Equal, Greater}
 use Rattle.std.specs.Cmp.{tied_itself}
-use Rattle.std.proofs.lemmas.Bool.{cases_lt}
+use Rattle.std.proofs.lemmas.Bool.{cases_Bool, cases_lt, false≢true}
 use Rattle.std.proofs.lemmas.Bool.Decides.{Decides-eqb}
 use Rattle.std.proofs.lemmas.Map.Keys.{Less-from_sorted}
 use Rattle.std.proofs.lemmas.Option.{get_or_from_slice_get, slice_get-get_or, slice_get_read, slice_get_within}
 use Rattle.clr_needs.specs.declared.needs.Need.{Need}
 use Rattle.clr_needs.specs.Independence.{AreDependent}
 use Rattle.clr_foot.specs.Involvement.{IsInvolving}
-use Rattle.clr_needs.specs.Needs.{Lists}
 use Rattle.clr_needs.specs.Orders.{need_cmp}
 use Rattle.clr_needs.specs.Settings.{Setting, has}
 use Rattle.clr_foot.proofs.InvolvedLaws.{both_depend}
@@ -23,7 +22,7 @@ use Rattle.clr_needs.proofs.NeedOrder.{need_exact, need_total, unread}
 use Rattle.clr_needs.proofs.NeedSubjects.{involved_member}
 use Rattle.clr_groups.specs.Groups.{AreJoined, IsChain}
 use Rattle.clr_groups.specs.Labels.{AreLabels, AreMoved, IsJoinedAt, label, moved_label}
-use Rattle.clr_groups.specs.MemberNeeds.{IsOfMember, member_need_cmp}
+use Rattle.clr_groups.specs.MemberNeeds.{IsOfMember, TieMembers, member_need_cmp}
 use Rattle.clr_groups.specs.declared.member_needs.MemberNeed.{MemberNeed}
 use Rattle.clr_groups.proofs.Chains.{joined_by, joined_itself, joined_through}
 
@@ -128,7 +127,7 @@ module _ (c : Setting ℕ) (count : ℕ) (list : List MemberNeed) where
     pub alike : (i j : ℕ) (x y : MemberNeed) → i < at → j < at → slice_get list i ≡ Some x → slice_get list j ≡ Some y → x.need ≡ y.need
         → label labels x.member ≡ label labels y.member
 
-module _ (c : Setting ℕ) (count : ℕ) (list : List MemberNeed) (are_pairs : Lists member_need_cmp (IsOfMember c count) list) where
+module _ (c : Setting ℕ) (count : ℕ) (list : List MemberNeed) (are_pairs : TieMembers c count list) where
   abbrev pub AreJoinedUpTo : ℕ → List ℕ → Type 0
   AreJoinedUpTo at labels = AreJoinedTo c count list at labels
 
@@ -136,10 +135,10 @@ module _ (c : Setting ℕ) (count : ℕ) (list : List MemberNeed) (are_pairs : L
   one_pair i j x y is h k = let both : Some x ≡ Some y = sym h ∙ ap (slice_get list) is ∙ k in cc
 
   pair_at : (i : ℕ) (x : MemberNeed) → slice_get list i ≡ Some x → IsOfMember c count x
-  pair_at i x h = (are_pairs.exactly x).0 (i, slice_get_within list i x h, get_or_from_slice_get list i x x h)
+  pair_at i x h = are_pairs.only x (i, slice_get_within list i x h, get_or_from_slice_get list i x x h)
 
   pub members_within : (labels : List ℕ) → length labels ≡ count → (x : MemberNeed) → Contains list x → x.member < length labels
-  members_within labels long x h = let low = ((are_pairs.exactly x).0 h).0 in omega (arith, low, long)
+  members_within labels long x h = let low = (are_pairs.only x h).0 in omega (arith, low, long)
 
   pub first_joined : (labels : List ℕ) → length labels ≡ count → ((k : ℕ) → k < count → label labels k ≡ k) → AreJoinedUpTo 1 labels
   first_joined labels long own = record {
@@ -270,14 +269,20 @@ module _ (c : Setting ℕ) (count : ℕ) (list : List MemberNeed) (are_pairs : L
 
   module _ (member_below : (x : ℕ) → has c.same c.members x ≡ true → x < count) (at : ℕ) (labels : List ℕ) (past : length list ≤ at)
       (are : AreJoinedUpTo at labels) where
-    same_of_need : (n : Need) (x y : ℕ) → x < count → y < count → IsInvolving c x n → IsInvolving c y n → label labels x ≡ label labels y
-    same_of_need n x y h j involves other_involves =
+    same_of_two : (n : Need) (x y : ℕ) → x ≢ y → x < count → y < count → IsInvolving c x n → IsInvolving c y n → label labels x ≡ label labels y
+    same_of_two n x y apart h j involves other_involves =
         let p : MemberNeed = record { need = n; member = x } in
         let q : MemberNeed = record { need = n; member = y } in
-        let (i, less, is) = (are_pairs.exactly p).1 (h, involves) in
-        let (k, other_less, other_is) = (are_pairs.exactly q).1 (j, other_involves) in
+        let (i, less, is) = are_pairs.every p (h, involves) (inr (y, (λ e. apart (sym e)), other_involves)) in
+        let (k, other_less, other_is) = are_pairs.every q (j, other_involves) (inr (x, apart, involves)) in
         are.alike i k p q (omega (arith, less, past)) (omega (arith, other_less, past)) (slice_get_read list (length list) i p refl less (sym is))
         (slice_get_read list (length list) k q refl other_less (sym other_is)) refl
+
+    same_of_need : (n : Need) (x y : ℕ) → x < count → y < count → IsInvolving c x n → IsInvolving c y n → label labels x ≡ label labels y
+    same_of_need n x y h j involves other_involves = elim (cases_Bool (x == y)) [
+      | inl e ↦ ap (label labels) ((Decides-eqb x y).0 e)
+      | inr e ↦ same_of_two n x y (λ same. false≢true (sym e ∙ (Decides-eqb x y).1 same)) h j involves other_involves
+    ]
 
     same_of_dependent : (x y : ℕ) → x < count → AreDependent c x y → (y < count) × (label labels x ≡ label labels y)
     same_of_dependent x y less (n, a, b, possible, names, other_names) =

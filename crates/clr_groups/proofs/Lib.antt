@@ -8,3 +8,4 @@ pub mod MarkedNeeds
 mod MemberNeedLists
 pub mod Places
 mod Searches
+pub mod TyingNeeds

@@ -1,23 +1,27 @@
--- The needs of members, one member after another.
-use Rattle.std.proofs.Common.{◌≡◌, ◌∙◌, ◌<◌, ◌≤◌, ◌+◌, ◌⊎◌, ℕ, List, [], ◌∷◌, ◌++◌, inl, inr, Contains, get_or, length, sym, ap, subst}
-use Rattle.std.proofs.Common.{arith, take}
-use Rattle.std.specs.Prelude.{◌↔◌}
+-- The needs that may tie members, one member after another.
+use Rattle.std.proofs.Common.{◌≡◌, ◌≢◌, ◌∙◌, ◌<◌, ◌+◌, ◌⊎◌, ℕ, Bool, true, false, List, [], ◌∷◌, ◌++◌, inl, inr, Contains, refl, sym, ap, subst}
+use Rattle.std.proofs.Common.{arith, Option, Some, None}
 use Rattle.std.specs.FinMap.{IsAntisymmetric}
 use Rattle.std.specs.Ordering.{nat_cmp}
 use Rattle.std.proofs.lemmas.Bool.{cases_lt}
-use Rattle.std.proofs.lemmas.List.{take_all, take_more}
 use Rattle.std.proofs.lemmas.List.Elements.{Contains-append_cases, Contains-append_left, Contains-append_right}
 use Rattle.std.proofs.lemmas.Map.Lookups.{exact_unsigned}
-use Rattle.clr_rules.proofs.Elements.{among, contained}
 use Rattle.clr_needs.specs.declared.needs.Need.{Need}
-use Rattle.clr_foot.specs.Involvement.{IsInvolving}
-use Rattle.clr_needs.specs.Needs.{Lists}
+use Rattle.clr_needs.specs.declared.needs.VersionId.{VersionId}
+use Rattle.clr_needs.specs.Independence.{Names, NamesIfAny}
+use Rattle.clr_needs.specs.Needs.{IsBesideIfAny, IsPossible, IsTouched}
 use Rattle.clr_needs.specs.Orders.{need_cmp}
-use Rattle.clr_needs.specs.Settings.{Setting}
-use Rattle.clr_needs.proofs.Reading.{all_taken, none_taken, one_more}
+use Rattle.clr_needs.specs.Settings.{Setting, Lived, changer, version}
+use Rattle.clr_needs.proofs.Lives.{names_changer, new_is, old_is, version_by, version_by_changer}
 use Rattle.clr_needs.proofs.NeedOrder.{both_tie, need_exact}
+use Rattle.clr_versions.specs.Candidates.{IsSubject}
+use Rattle.clr_versions.specs.Gains.{Gains, OfSome}
+use Rattle.clr_versions.proofs.Gaining.{gains_as, gains_both, gains_none, gains_one}
+use Rattle.clr_foot.specs.Involvement.{IsInvolving}
+use Rattle.clr_foot.specs.declared.ties.TieKind.TheVariants.{Touching, Other}
+use Rattle.clr_foot.specs.Ties.{FindsTies}
 use Rattle.clr_groups.specs.declared.member_needs.MemberNeed.{MemberNeed}
-use Rattle.clr_groups.specs.MemberNeeds.{IsNeedOf, IsOfMember, member_need_cmp}
+use Rattle.clr_groups.specs.MemberNeeds.{IsOfChanger, IsOfNeed, IsOfTies, IsPair, IsTied, member_need_cmp}
 
 -- needs of members that tie are one
 pub member_need_exact : IsAntisymmetric member_need_cmp
@@ -28,91 +32,198 @@ member_need_exact x y e =
     λ i. record { need = need i; member = member i }
 
 module _ (c : Setting ℕ) where
-  -- ---- the needs of one member
+  -- ---- the member that changes the cell of a subject
 
-  module _ (member : ℕ) (needs read : List Need) (same : read ≡ needs) where
-    -- some of its needs are added
-    abbrev pub AreAddedTo : ℕ → List MemberNeed → List MemberNeed → Type 0
-    AreAddedTo k old list = (x : MemberNeed) → Contains list x ↔ (Contains old x ⊎ ((x.member ≡ member) × Contains (take k read) x.need))
+  module _ (need : Need) (member : ℕ) (subject : VersionId) where
+    pub no_changer : (told : Option ℕ) (list : List MemberNeed) → told ≡ changer c subject.cell → told ≡ None
+        → Gains (IsOfChanger c need member subject) (IsOfChanger c need member subject) list list
+    no_changer told list is none = gains_none (IsOfChanger c need member subject) (IsOfChanger c need member subject) list
+        (λ x w. let clash : None ≡ Some x.member = sym none ∙ is ∙ w.changes in cc)
 
-    pub none_added : (old : List MemberNeed) → AreAddedTo 0 old old
-    none_added old x = (λ h. inl h, by)
+    pub same_changer : (told : Option ℕ) (other : ℕ) (list : List MemberNeed) → told ≡ changer c subject.cell → told ≡ Some other → other ≡ member
+        → Gains (IsOfChanger c need member subject) (IsOfChanger c need member subject) list list
+    same_changer told other list is some same = gains_none (IsOfChanger c need member subject) (IsOfChanger c need member subject) list
+        (λ x w. let both : Some other ≡ Some x.member = sym some ∙ is ∙ w.changes in let one : other ≡ x.member = cc in w.other (sym one ∙ same))
+
+    pub other_changer : (told : Option ℕ) (other : ℕ) (old new : List MemberNeed) → told ≡ changer c subject.cell → told ≡ Some other → other ≢ member
+        → new ≡ old ++ record { need = need; member = other } ∷ []
+        → Gains (IsOfChanger c need member subject) (IsOfChanger c need member subject) old new
+    other_changer told other old new is some apart put =
+        gains_one (IsOfChanger c need member subject) (IsOfChanger c need member subject) old new (record { need = need; member = other }) put
+        (record { need = refl; changes = sym is ∙ some; other = apart }) one
       where
-        by : Contains old x ⊎ ((x.member ≡ member) × Contains (take 0 read) x.need) → Contains old x
-        by (inl h) = h
-        by (inr h) = absurd (none_taken read x.need h.1)
+        one : (x : MemberNeed) → IsOfChanger c need member subject x → x ≡ record { need = need; member = other }
+        one x w =
+            let both : Some x.member ≡ Some other = sym w.changes ∙ sym is ∙ some in
+            let same : x.member ≡ other = cc in
+            let its_need = w.need in
+            λ i. record { need = its_need i; member = same i }
 
-    pub one_added : (k : ℕ) (d : Need) (old list new : List MemberNeed) → k < length read
-        → new ≡ list ++ record { need = get_or read k d; member = member } ∷ [] → AreAddedTo k old list → AreAddedTo (k + 1) old new
-    one_added k d old list new less put are x = (
-      λ h. only (Contains-append_cases list (y ∷ []) x (subst (λ xs. Contains xs x) put h)),
-      λ h. subst (λ xs. Contains xs x) (sym put) (every h),
-    )
+  -- whoever changes the cell of a version that is there is named by its life
+  changer_named : (v : VersionId) (l : Lived ℕ) (x : ℕ) → version c v ≡ Some l → changer c v.cell ≡ Some x → Names l.life x
+  changer_named v l x is changes = by v.fresh (changer c v.cell) (sym (version_by_changer c v) ∙ is) changes
+    where
+      by : (fresh : Bool) (o : Option ℕ) → version_by c fresh v.cell o ≡ Some l → o ≡ Some x → Names l.life x
+      by fresh None h e = cc
+      by false (Some m) h e = let same : m ≡ x = cc in subst (λ k. Names k x) (sym (old_is c (Some m) (c.root v.cell) l h).1) same
+      by true (Some m) h e = let same : m ≡ x = cc in subst (λ k. Names k x) (sym (new_is c m (c.after m v.cell) l h).1) same
+
+  -- the second subject of a possible need is there
+  second_there : (n : Need) (a : Lived ℕ) (b : Option (Lived ℕ)) (v : VersionId) → IsPossible c n a b → n.second ≡ Some v
+      → (l : Lived ℕ) × (version c v ≡ Some l) × (b ≡ Some l)
+  second_there n a b v p e = by n.second b e p.second_is
+    where
+      by : (w : Option VersionId) (b : Option (Lived ℕ)) → w ≡ Some v → IsBesideIfAny c n.first a w b → (l : Lived ℕ) × (version c v ≡ Some l) × (b ≡ Some l)
+      by None None e h = absurd (let f : None ≡ Some v = e in cc)
+      by None (Some b) e h = absurd h
+      by (Some w) None e h = absurd h
+      by (Some w) (Some b) e h = (b, ap (version c) (let f : Some w ≡ Some v = e in let same : w ≡ v = cc in sym same) ∙ h.is, refl)
+
+  -- a member whom the life of a subject names is involved
+  subject_involves : (n : Need) (a : Lived ℕ) (b : Option (Lived ℕ)) (v : VersionId) (l : Lived ℕ) (x : ℕ) → IsPossible c n a b → IsSubject n v
+      → version c v ≡ Some l → Names l.life x → IsInvolving c x n
+  subject_involves n a b v l x p (inl e) is names =
+      let both : Some a ≡ Some l = sym p.first_is ∙ ap (version c) e ∙ is in
+      let same : a ≡ l = cc in
+      (a, b, p, inl (subst (λ (m : Lived ℕ). Names m.life x) (sym same) names))
+  subject_involves n a b v l x p (inr e) is names =
+      let (m, there, second) = second_there n a b v p e in
+      let both : Some m ≡ Some l = sym there ∙ is in
+      let same : m ≡ l = cc in
+      (a, b, p, inr (inl (subst (λ o. NamesIfAny o x) (sym second) (subst (λ (k : Lived ℕ). Names k.life x) (sym same) names))))
+
+  -- ---- a need with its members
+
+  module _ (member : ℕ) (need : Need) (involves : IsInvolving c member need) where
+    changer_is_pair : (v : VersionId) → IsSubject need v → (x : MemberNeed) → IsOfChanger c need member v x → IsPair c x
+    changer_is_pair v subject x w = subst (IsInvolving c x.member) (sym w.need) (by involves)
       where
-        y : MemberNeed
-        y = record { need = get_or read k d; member = member }
+        lived : (a : Lived ℕ) (b : Option (Lived ℕ)) → IsPossible c need a b → IsSubject need v → (l : Lived ℕ) × (version c v ≡ Some l)
+        lived a b p (inl e) = (a, sym (ap (version c) e) ∙ p.first_is)
+        lived a b p (inr e) = let (l, is, second) = second_there need a b v p e in (l, is)
 
-        more : take (k + 1) read ≡ take k read ++ get_or read k d ∷ []
-        more = take_more read k d less
+        by : IsInvolving c member need → IsInvolving c x.member need
+        by (a, b, p, h) = let (l, is) = lived a b p subject in subject_involves need a b v l x.member p subject is (changer_named v l x.member is w.changes)
 
-        fewer : Contains old x ⊎ ((x.member ≡ member) × Contains (take k read) x.need)
-            → Contains old x ⊎ ((x.member ≡ member) × Contains (take (k + 1) read) x.need)
-        fewer (inl h) = inl h
-        fewer (inr (is, h)) = inr (is, subst (λ ns. Contains ns x.need) (sym more) (Contains-append_left (take k read) (get_or read k d ∷ []) x.need h))
+    -- what is wanted for the need is the member itself, or another one that changes the cell of a subject
+    data IsWanted (x : MemberNeed) : Type 0 where
+      itself : x ≡ record { need = need; member = member } → IsWanted x
+      of_first : IsOfChanger c need member need.first x → IsWanted x
+      of_second : (v : VersionId) → need.second ≡ Some v → IsOfChanger c need member v x → IsWanted x
 
-        last : (y ≡ x) ⊎ ⊥ → Contains old x ⊎ ((x.member ≡ member) × Contains (take (k + 1) read) x.need)
-        last (inl e) = inr (
-          sym (ap (λ (z : MemberNeed). z.member) e),
-          subst (λ ns. Contains ns x.need) (sym more)
-              (Contains-append_right (take k read) (get_or read k d ∷ []) x.need
-              (contained x.need (get_or read k d ∷ []) (inl (ap (λ (z : MemberNeed). z.need) e)))),
-        )
-        last (inr none) = absurd none
-
-        only : Contains list x ⊎ Contains (y ∷ []) x → Contains old x ⊎ ((x.member ≡ member) × Contains (take (k + 1) read) x.need)
-        only (inl h) = fewer ((are x).0 h)
-        only (inr h) = last (among x (y ∷ []) h)
-
-        every : Contains old x ⊎ ((x.member ≡ member) × Contains (take (k + 1) read) x.need) → Contains (list ++ y ∷ []) x
-        every (inl h) = Contains-append_left list (y ∷ []) x ((are x).1 (inl h))
-        every (inr (is, h)) = elim (one_more read k d x.need less h) [
-          | inl before ↦ Contains-append_left list (y ∷ []) x ((are x).1 (inr (is, before)))
-          | inr last ↦ Contains-append_right list (y ∷ []) x (contained x (y ∷ []) (inl (λ i. record { need = sym last i; member = sym is i })))
+    wanted : (x : MemberNeed) → IsOfNeed c member need x → IsWanted x
+    wanted x (is, inl same) = itself (λ i. record { need = is i; member = same i })
+    wanted x (is, inr (v, l, subject, there, names)) = elim (cases_eq x.member member) [
+      | inl same ↦ itself (λ i. record { need = is i; member = same i })
+      | inr other ↦ by subject (record { need = is; changes = names_changer c v l x.member there names; other = other })
+    ]
+      where
+        cases_eq : (a b : ℕ) → (a ≡ b) ⊎ (a ≢ b)
+        cases_eq a b = elim (cases_lt a b) [
+          | inl less ↦ inr (λ e. omega (arith, less, e))
+          | inr most ↦ elim (cases_lt b a) [ inl more ↦ inr (λ e. omega (arith, more, e)) | inr least ↦ inl (omega (arith, most, least)) ]
         ]
 
-    pub all_added : (k : ℕ) (old list : List MemberNeed) → length read ≤ k → Lists need_cmp (IsInvolving c member) needs → AreAddedTo k old list
-        → (x : MemberNeed)
-        → Contains list x ↔ (Contains old x ⊎ IsNeedOf c member x)
-    all_added k old list past involving are x = (λ h. only ((are x).0 h), every)
+        by : (need.first ≡ v) ⊎ (need.second ≡ Some v) → IsOfChanger c need member v x → IsWanted x
+        by (inl e) w = of_first (subst (λ u. IsOfChanger c need member u x) (sym e) w)
+        by (inr e) w = of_second v e w
+
+    pub need_with_first : (old first last : List MemberNeed) → first ≡ old ++ record { need = need; member = member } ∷ []
+        → Gains (IsOfChanger c need member need.first) (IsOfChanger c need member need.first) first last
+        → need.second ≡ None
+        → Gains (IsPair c) (IsOfNeed c member need) old last
+    need_with_first old first last put g none =
+        gains_both (IsPair c) (λ x. x ≡ record { need = need; member = member }) (IsOfChanger c need member need.first) (IsOfNeed c member need) old first last
+        (λ x w. by x (wanted x w))
+        (gains_one (IsPair c) (λ x. x ≡ record { need = need; member = member }) old first (record { need = need; member = member }) put involves (λ x e. e))
+        (gains_as (IsOfChanger c need member need.first) (IsOfChanger c need member need.first) (IsPair c) (IsOfChanger c need member need.first) first last
+        (changer_is_pair need.first (inl refl)) (λ x w. w) g)
       where
-        only : Contains old x ⊎ ((x.member ≡ member) × Contains (take k read) x.need) → Contains old x ⊎ IsNeedOf c member x
-        only (inl h) = inl h
-        only (inr (is, h)) = inr (is, (involving.exactly x.need).0 (subst (λ ns. Contains ns x.need) (take_all k read past ∙ same) h))
+        by : (x : MemberNeed) → IsWanted x → (x ≡ record { need = need; member = member }) ⊎ IsOfChanger c need member need.first x
+        by x (itself e) = inl e
+        by x (of_first w) = inr w
+        by x (of_second v e w) = let clash : None ≡ Some v = sym none ∙ e in cc
 
-        every : Contains old x ⊎ IsNeedOf c member x → Contains list x
-        every (inl h) = (are x).1 (inl h)
-        every (inr (is, t)) = (are x).1 (inr (is, all_taken read k x.need past (subst (λ ns. Contains ns x.need) (sym same) ((involving.exactly x.need).1 t))))
+    pub need_with_both : (v : VersionId) (old first second last : List MemberNeed) → first ≡ old ++ record { need = need; member = member } ∷ []
+        → Gains (IsOfChanger c need member need.first) (IsOfChanger c need member need.first) first second
+        → need.second ≡ Some v
+        → Gains (IsOfChanger c need member v) (IsOfChanger c need member v) second last
+        → Gains (IsPair c) (IsOfNeed c member need) old last
+    need_with_both v old first second last put g some h =
+        gains_both (IsPair c) (λ x. (x ≡ record { need = need; member = member }) ⊎ IsOfChanger c need member need.first x) (IsOfChanger c need member v)
+        (IsOfNeed c member need) old second last
+        (λ x w. by x (wanted x w))
+        (gains_both (IsPair c) (λ x. x ≡ record { need = need; member = member }) (IsOfChanger c need member need.first)
+        (λ x. (x ≡ record { need = need; member = member }) ⊎ IsOfChanger c need member need.first x) old first second (λ x w. w)
+        (gains_one (IsPair c) (λ x. x ≡ record { need = need; member = member }) old first (record { need = need; member = member }) put involves (λ x e. e))
+        (gains_as (IsOfChanger c need member need.first) (IsOfChanger c need member need.first) (IsPair c) (IsOfChanger c need member need.first) first second
+        (changer_is_pair need.first (inl refl)) (λ x w. w) g))
+        (gains_as (IsOfChanger c need member v) (IsOfChanger c need member v) (IsPair c) (IsOfChanger c need member v) second last
+        (changer_is_pair v (inr some)) (λ x w. w) h)
+      where
+        by : (x : MemberNeed) → IsWanted x → ((x ≡ record { need = need; member = member }) ⊎ IsOfChanger c need member need.first x)
+            ⊎ IsOfChanger c need member v x
+        by x (itself e) = inl (inl e)
+        by x (of_first w) = inl (inr w)
+        by x (of_second u e w) = let both : Some u ≡ Some v = sym e ∙ some in let same : u ≡ v = cc in inr (subst (λ z. IsOfChanger c need member z x) same w)
 
-  -- ---- the needs of all members
+  -- ---- the needs of one member
 
-  pub none_before : (list : List MemberNeed) → list ≡ [] → (x : MemberNeed) → Contains list x ↔ IsOfMember c 0 x
-  none_before list none x = (λ h. absurd (among x [] (subst (λ xs. Contains xs x) none h)), λ h. (let less = h.0 in absurd (omega (arith, less))))
-
-  pub one_before : (k : ℕ) (old new : List MemberNeed) → ((x : MemberNeed) → Contains new x ↔ (Contains old x ⊎ IsNeedOf c k x))
-      → ((x : MemberNeed) → Contains old x ↔ IsOfMember c k x)
-      → (x : MemberNeed) → Contains new x ↔ IsOfMember c (k + 1) x
-  one_before k old new added before x = (λ h. only ((added x).0 h), λ h. (added x).1 (every h))
+  -- all needs of both lists, with their members
+  pub ties_added : (member : ℕ) (touching others read read_others : List Need) (old middle new : List MemberNeed) → read ≡ touching → read_others ≡ others
+      → FindsTies Touching c member touching → FindsTies Other c member others
+      → Gains (IsPair c) (OfSome (IsOfNeed c member) read) old middle
+      → Gains (IsPair c) (OfSome (IsOfNeed c member) read_others) middle new
+      → Gains (IsPair c) (IsOfTies c member) old new
+  ties_added member touching others read read_others old middle new same other_same finds finds_others g h =
+      gains_both (IsPair c) (OfSome (IsOfNeed c member) read) (OfSome (IsOfNeed c member) read_others) (IsOfTies c member) old middle new split g h
     where
-      only : Contains old x ⊎ IsNeedOf c k x → IsOfMember c (k + 1) x
-      only (inl h) = let (less, t) = (before x).0 h in (omega (arith, less), t)
-      only (inr (is, t)) = (omega (arith, is), subst (λ z. IsInvolving c z x.need) (sym is) t)
+      split : (x : MemberNeed) → IsOfTies c member x → OfSome (IsOfNeed c member) read x ⊎ OfSome (IsOfNeed c member) read_others x
+      split x (inl (v, l, is, names, tie), of) =
+          inl (x.need, subst (λ ns. Contains ns x.need) (sym same) (finds.every x.need v l is names tie), of)
+      split x (inr (v, l, is, names, tie), of) =
+          inr (x.need, subst (λ ns. Contains ns x.need) (sym other_same) (finds_others.every x.need v l is names tie), of)
 
-      every : IsOfMember c (k + 1) x → Contains old x ⊎ IsNeedOf c k x
-      every (less, t) = elim (cases_lt x.member k) [
-        | inl low ↦ inl ((before x).1 (low, t))
-        | inr most ↦ (let is : x.member ≡ k = omega (arith, less, most) in inr (is, subst (λ z. IsInvolving c z x.need) is t))
-      ]
+  pub touching_added : (member : ℕ) (touching read old new : List Need) → read ≡ touching → FindsTies Touching c member touching → new ≡ old ++ read
+      → Gains (IsTouched c) (IsTied Touching c member) old new
+  touching_added member touching read old new same finds put = record {
+    kept = λ n h. subst (λ ns. Contains ns n) (sym put) (Contains-append_left old read n h);
+    only = λ n h. only n (Contains-append_cases old read n (subst (λ ns. Contains ns n) put h));
+    every = λ n (v, l, is, names, tie). subst (λ ns. Contains ns n) (sym put)
+        (Contains-append_right old read n (subst (λ ns. Contains ns n) (sym same) (finds.every n v l is names tie)));
+  }
+    where
+      only : (n : Need) → Contains old n ⊎ Contains read n → Contains old n ⊎ IsTouched c n
+      only n (inl h) = inl h
+      only n (inr h) = inr (finds.only n (subst (λ ns. Contains ns n) same h)).1
 
-  pub all_before : (count k : ℕ) (list : List MemberNeed) → k ≡ count → ((x : MemberNeed) → Contains list x ↔ IsOfMember c k x) → (x : MemberNeed)
-      → Contains list x ↔ IsOfMember c count x
-  all_before count k list is are = subst (λ n. (x : MemberNeed) → Contains list x ↔ IsOfMember c n x) is are
+  pub touching_involves : (member : ℕ) (needs read : List Need) → read ≡ needs → FindsTies Touching c member needs → (n : Need) → Contains read n
+      → IsInvolving c member n
+  touching_involves member needs read same finds n h = (finds.only n (subst (λ ns. Contains ns n) same h)).0
+
+  pub others_involve : (member : ℕ) (needs read : List Need) → read ≡ needs → FindsTies Other c member needs → (n : Need) → Contains read n
+      → IsInvolving c member n
+  others_involve member needs read same finds n h = finds.only n (subst (λ ns. Contains ns n) same h)
+
+-- one member after another --------------------------------------------------------------------
+
+-- what is wanted of one of the members below a number
+pub record OfBelow {X : Type 0} (P : ℕ → X → Type 0) (number : ℕ) (x : X) : Type 0 where
+  pub member : ℕ
+  pub below : member < number
+  pub is : P member x
+
+pub none_below : {X : Type 0} (allowed : X → Type 0) (P : ℕ → X → Type 0) (list : List X) → Gains allowed (OfBelow P 0) list list
+none_below allowed P list = gains_none allowed (OfBelow P 0) list (λ x w. let less = w.below in omega (arith, less))
+
+pub one_below : {X : Type 0} (allowed : X → Type 0) (P : ℕ → X → Type 0) (number : ℕ) (old middle new : List X)
+    → Gains allowed (OfBelow P number) old middle
+    → Gains allowed (P number) middle new
+    → Gains allowed (OfBelow P (number + 1)) old new
+one_below {X} allowed P number old middle new g h = gains_both allowed (OfBelow P number) (P number) (OfBelow P (number + 1)) old middle new split g h
+  where
+    split : (x : X) → OfBelow P (number + 1) x → OfBelow P number x ⊎ P number x
+    split x w = elim (cases_lt w.member number) [
+      | inl less ↦ inl (record { member = w.member; below = less; is = w.is })
+      | inr most ↦ (let same : w.member ≡ number = let less = w.below in omega (arith, less, most) in inr (subst (λ k. P k x) same w.is))
+    ]

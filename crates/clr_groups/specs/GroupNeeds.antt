@@ -23,13 +23,13 @@ IsTouchedAt rules root sets groups x = (g : List ℕ) × (slice_get groups x.gro
 abbrev pub IsPlaceOf : List (List ℕ) → ℕ → ℕ → Type 0
 IsPlaceOf groups x k = (g : List ℕ) × (slice_get groups k ≡ Some g) × Contains g x
 
--- the need has a new subject, or is among those that changed versions serve
+-- the need has a new subject, or is among touched ones
 abbrev pub IsMarked : List Need → Need → Type 0
-IsMarked changed n = (n.first.fresh || is_fresh n.second ≡ true) ⊎ Contains changed n
+IsMarked touching n = (n.first.fresh || is_fresh n.second ≡ true) ⊎ Contains touching n
 
 -- the marked need of a pair, with the place of its member
 abbrev pub IsOfPlace : List Need → List ℕ → MemberNeed → GroupNeed → Type 0
-IsOfPlace changed places p x = IsMarked changed p.need × (x.need ≡ p.need) × (x.group ≡ get_or places p.member 0)
+IsOfPlace touching places p x = IsMarked touching p.need × (x.need ≡ p.need) × (x.group ≡ get_or places p.member 0)
 
 -- the answer is true exactly where the statement holds
 abbrev pub IsAnswerTo : Bool → Type 0 → Type 0

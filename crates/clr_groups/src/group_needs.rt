@@ -51,29 +51,29 @@ fn is_among(needs: &[Need], need: Need) -> bool
     needs.binary_search(&need).is_ok()
 }
 
-/// Returns whether a need has a new subject, or is among those that changed versions serve.
-fn is_marked(need: Need, changed: &[Need]) -> bool
-    requires { IsStrictlySortedBy need_cmp changed.now }
-    ensures { IsAnswerTo result (IsMarked changed.now need) }
+/// Returns whether a need has a new subject, or is among touched ones.
+fn is_marked(need: Need, touching: &[Need]) -> bool
+    requires { IsStrictlySortedBy need_cmp touching.now }
+    ensures { IsAnswerTo result (IsMarked touching.now need) }
 {
     if has_new_subject(need) {
         return true;
     }
-    is_among(changed, need)
+    is_among(touching, need)
 }
 
 /// Adds the need of a pair, if it is marked, with the place of its member.
 fn add_if_marked(
     pair: MemberNeed,
-    changed: &[Need],
+    touching: &[Need],
     places: &[usize],
     list: &mut Vec<GroupNeed>,
 ) -> Result<(), AllocError>
-    requires ascending { IsStrictlySortedBy need_cmp changed.now }
+    requires ascending { IsStrictlySortedBy need_cmp touching.now }
     requires within { pair.member < length places.now }
-    ensures { OnOk result (Gains (IsOfPlace changed.now places.now pair) (IsOfPlace changed.now places.now pair) list.old.items list.new.items) }
+    ensures { OnOk result (Gains (IsOfPlace touching.now places.now pair) (IsOfPlace touching.now places.now pair) list.old.items list.new.items) }
 {
-    if !is_marked(pair.need, changed) {
+    if !is_marked(pair.need, touching) {
         return Ok(());
     }
     list.push(GroupNeed {
@@ -87,16 +87,16 @@ fn add_if_marked(
 fn marked_needs(
     alloc: Global,
     pairs: &[MemberNeed],
-    changed: &[Need],
+    touching: &[Need],
     places: &[usize],
 ) -> Result<Vec<GroupNeed>, AllocError>
-    requires ascending { IsStrictlySortedBy need_cmp changed.now }
+    requires ascending { IsStrictlySortedBy need_cmp touching.now }
     requires within { (p : Pair) → Contains pairs.now p → p.member < length places.now }
-    ensures { IfOk result (λ list. Lists group_need_cmp (OfSome (IsOfPlace changed.now places.now) pairs.now) list.items) }
+    ensures { IfOk result (λ list. Lists group_need_cmp (OfSome (IsOfPlace touching.now places.now) pairs.now) list.items) }
 {
     let mut list = Vec::new(alloc);
     for pair in pairs {
-        add_if_marked(*pair, changed, places, &mut list)?;
+        add_if_marked(*pair, touching, places, &mut list)?;
     }
     put_in_order(&mut list);
     Ok(list)
@@ -151,14 +151,13 @@ pub fn groups_and_needs<V: RowView, F: RowFinder>(
     ensures needs { IfOk result (λ both. Lists group_need_cmp (IsTouchedAt (model_of V.content scene.now).rules (model_of V.content scene.now).root
         (model_of V.content scene.now).sets (map (λ g. g.items) both.0.items)) both.1.items) }
 {
-    let pairs = member_needs(alloc, scene)?;
-    let groups = groups_of_pairs(alloc, scene, pairs.as_slice())?;
+    let found = member_needs(alloc, scene)?;
+    let groups = groups_of_pairs(alloc, scene, found.pairs.as_slice())?;
     let places = places_of(alloc, groups.as_slice(), scene.len())?;
-    let changed = scene.needs_of_changed()?;
     let needs = marked_needs(
         alloc,
-        pairs.as_slice(),
-        changed.as_slice(),
+        found.pairs.as_slice(),
+        found.touching.as_slice(),
         places.as_slice(),
     )?;
     Ok((groups, needs))

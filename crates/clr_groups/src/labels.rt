@@ -1,13 +1,12 @@
 //! Labels of members: two have the same one exactly where a chain of dependent pairs joins them. No
-//! pair is tried: the needs that involve each member are listed once, and members that stand beside
+//! pair is tried: the needs that may tie members are listed once, and members that stand beside
 //! one another in the list of all these with the same need get one label.
 
 ghost use Rattle.std.specs.Prelude.{◌≡◌, ◌≤◌, ◌<◌, ℕ, length, Contains, IfOk};
 ghost use Rattle.clr_needs.specs.declared.limits.TheConstants.{MOST_MEMBERS};
-ghost use Rattle.clr_needs.specs.Needs.{Lists};
 ghost use Rattle.clr_foot.specs.Scenes.{model_of, setting_of};
 ghost use Rattle.clr_groups.specs.Labels.{AreLabels, AreMoved, IsJoinedAt, label, moved_label};
-ghost use Rattle.clr_groups.specs.MemberNeeds.{IsOfMember, member_need_cmp};
+ghost use Rattle.clr_groups.specs.MemberNeeds.{TieMembers};
 ghost use Rattle.clr_groups.specs.declared.member_needs.MemberNeed.{MemberNeed as Pair};
 
 use crate::member_needs::MemberNeed;
@@ -72,13 +71,13 @@ fn own_labels(alloc: Global, count: usize) -> Result<Vec<u16>, AllocError>
     Ok(labels)
 }
 
-/// Returns a label for each member, where the needs that involve members are given.
+/// Returns a label for each member, where the needs that may tie members are given.
 pub(crate) fn labels_of<V: RowView, F: RowFinder>(
     alloc: Global,
     scene: &Scene<'_, V, F>,
     list: &[MemberNeed],
 ) -> Result<Vec<u16>, AllocError>
-    requires list { Lists member_need_cmp (IsOfMember (setting_of (model_of V.content scene.now)) (length (model_of V.content scene.now).sets)) list.now }
+    requires list { TieMembers (setting_of (model_of V.content scene.now)) (length (model_of V.content scene.now).sets) list.now }
     ensures few { IfOk result (λ labels. length labels.items ≤ MOST_MEMBERS) }
     ensures exact { IfOk result (λ labels. AreLabels (setting_of (model_of V.content scene.now)) (length (model_of V.content scene.now).sets) labels.items) }
 {

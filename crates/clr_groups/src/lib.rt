@@ -3,7 +3,7 @@
 //!
 //! - `groups` [`AreGroups`]: groups of a scene's members, by position. Each ascends and has a
 //!   member; each member stands in one; and two stand in the same one exactly where a chain of
-//!   dependent pairs joins them. The needs that involve each member are listed once; no pair is
+//!   dependent pairs joins them. The needs that may tie members are listed once; no pair is
 //!   tried.
 //! - `groups_and_needs`: these groups, and the needs that are touched in their scenes, of the same
 //!   list of needs.

@@ -7,7 +7,7 @@ ghost use Rattle.clr_needs.specs.Needs.{Lists};
 ghost use Rattle.clr_foot.specs.Scenes.{IsReady, model_of, setting_of};
 ghost use Rattle.clr_groups.specs.Groups.{AreGroups};
 ghost use Rattle.clr_groups.specs.Labels.{AreGroupsBy, IsLabelled};
-ghost use Rattle.clr_groups.specs.MemberNeeds.{IsOfMember, member_need_cmp};
+ghost use Rattle.clr_groups.specs.MemberNeeds.{TieMembers};
 
 use crate::labels::labels_of;
 use crate::member_needs::{MemberNeed, member_needs};
@@ -46,13 +46,13 @@ fn groups_by(alloc: Global, labels: &[u16]) -> Result<Vec<Vec<u16>>, AllocError>
     Ok(groups)
 }
 
-/// Returns the groups of a scene's members, where the needs that involve members are given.
+/// Returns the groups of a scene's members, where the needs that may tie members are given.
 pub(crate) fn groups_of_pairs<V: RowView, F: RowFinder>(
     alloc: Global,
     scene: &Scene<'_, V, F>,
     pairs: &[MemberNeed],
 ) -> Result<Vec<Vec<u16>>, AllocError>
-    requires pairs { Lists member_need_cmp (IsOfMember (setting_of (model_of V.content scene.now)) (length (model_of V.content scene.now).sets)) pairs.now }
+    requires pairs { TieMembers (setting_of (model_of V.content scene.now)) (length (model_of V.content scene.now).sets) pairs.now }
     ensures { IfOk result (λ groups. AreGroups (setting_of (model_of V.content scene.now)) (map (λ g. g.items) groups.items)) }
 {
     let labels = labels_of(alloc, scene, pairs)?;
@@ -61,7 +61,7 @@ pub(crate) fn groups_of_pairs<V: RowView, F: RowFinder>(
 
 /// Returns the groups of a scene's members, by position. Each group ascends and has a member, each
 /// member stands in one, and two stand in the same one exactly where a chain of dependent pairs
-/// joins them. The needs that involve each member are listed once.
+/// joins them. The needs that may tie members are listed once.
 pub fn groups<V: RowView, F: RowFinder>(
     alloc: Global,
     scene: &Scene<'_, V, F>,
@@ -69,6 +69,6 @@ pub fn groups<V: RowView, F: RowFinder>(
     requires ready { IsReady F.settled (model_of V.content scene.now) }
     ensures { IfOk result (λ groups. AreGroups (setting_of (model_of V.content scene.now)) (map (λ g. g.items) groups.items)) }
 {
-    let pairs = member_needs(alloc, scene)?;
-    groups_of_pairs(alloc, scene, pairs.as_slice())
+    let found = member_needs(alloc, scene)?;
+    groups_of_pairs(alloc, scene, found.pairs.as_slice())
 }

@@ -9,12 +9,12 @@ add_if_marked-requires-clause-within c = c.requires.within (get_or c.args.pairs.
     (read_in c.args.pairs.now c.loop-pair.pair-index unread_pair c.loop-pair-test.true)
 
 pub loop-pair-preserved : goal.loop-pair-preserved
-loop-pair-preserved c = pair_marked c.args.changed.now c.args.places.now c.args.pairs.now c.loop-pair.pair-index unread_pair _ _ _ c.loop-pair-test.true
+loop-pair-preserved c = pair_marked c.args.touching.now c.args.places.now c.args.pairs.now c.loop-pair.pair-index unread_pair _ _ _ c.loop-pair-test.true
     c.loop-pair.invariant c.in_ok-add_if_marked.ensures
 
 pub put_in_order-requires : goal.put_in_order-requires
 put_in_order-requires c = group_need_exact
 
 pub returns : goal.returns
-returns c = all_marked c.args.changed.now c.args.places.now c.args.pairs.now c.loop-pair.pair-index _ _ c.loop-pair-test.false c.loop-pair.invariant
+returns c = all_marked c.args.touching.now c.args.places.now c.args.pairs.now c.loop-pair.pair-index _ _ c.loop-pair-test.false c.loop-pair.invariant
     c.put_in_order.ensures.ascending c.put_in_order.ensures.same

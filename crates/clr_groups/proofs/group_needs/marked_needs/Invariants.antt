@@ -6,4 +6,4 @@ use Rattle.clr_groups.proofs.group_needs.marked_needs.Given as goal
 
 -- the needs of the pairs so far
 abbrev pub invariant-loop-pair : goal.invariant-loop-pair
-invariant-loop-pair l = Gains (IsOfPairs l.changed l.places l.pairs) (OfSome (IsOfPlace l.changed l.places) (take l.pair-index l.pairs)) [] l.list.items
+invariant-loop-pair l = Gains (IsOfPairs l.touching l.places l.pairs) (OfSome (IsOfPlace l.touching l.places) (take l.pair-index l.pairs)) [] l.list.items

@@ -1,9 +1,15 @@
-use Rattle.std.specs.Prelude.{◌↔◌, Contains}
-use Rattle.clr_foot.specs.Scenes.{model_of, setting_of}
-use Rattle.clr_groups.specs.declared.member_needs.MemberNeed.{MemberNeed}
-use Rattle.clr_groups.specs.MemberNeeds.{IsOfMember}
+use Rattle.std.proofs.Common.{[]}
+use Rattle.clr_versions.specs.Gains.{Gains}
+use Rattle.clr_needs.specs.Needs.{IsTouched}
+use Rattle.clr_foot.specs.Scenes.{setting_in}
+use Rattle.clr_foot.specs.declared.ties.TieKind.TheVariants.{Touching}
+use Rattle.clr_groups.specs.MemberNeeds.{IsOfTies, IsPair, IsTied}
+use Rattle.clr_groups.proofs.MemberNeedLists.{OfBelow}
 use Rattle.clr_groups.proofs.member_needs.member_needs.Given as goal
 
--- the needs of the members so far
+-- the needs of the members so far were added
 abbrev pub invariant-loop-member : goal.invariant-loop-member
-invariant-loop-member g l = (x : MemberNeed) → Contains l.list.items x ↔ IsOfMember (setting_of (model_of g.V.RowView.content l.scene)) l.member x
+invariant-loop-member g l =
+    Gains (IsPair (setting_in g.V.RowView.content l.scene)) (OfBelow (IsOfTies (setting_in g.V.RowView.content l.scene)) l.member) [] l.pairs.items
+    × Gains (IsTouched (setting_in g.V.RowView.content l.scene)) (OfBelow (IsTied Touching (setting_in g.V.RowView.content l.scene)) l.member) []
+    l.touching.items
