@@ -3,7 +3,7 @@ use Rattle.std.proofs.Common.{◌≡◌, ◌≢◌, ◌∙◌, ◌<◌, ◌≤�
 use Rattle.std.proofs.Common.{sym, ap, subst, arith, Option, Some, None}
 use Rattle.std.specs.Prelude.{slice_get}
 use Rattle.std.specs.List.Sorted.{IsStrictlySortedBy}
-use Rattle.std.specs.Ordering.{nat_cmp, ordering_then}
+use Rattle.std.specs.Ordering.{bool_cmp, nat_cmp, ordering_then}
 use Rattle.std.specs.declared.cmp.Ordering.{Ordering}
 use Rattle.std.specs.declared.cmp.Ordering.TheVariants.{Less, Equal, Greater}
 use Rattle.std.specs.Cmp.{tied_itself}
@@ -22,7 +22,7 @@ use Rattle.clr_needs.proofs.NeedOrder.{need_exact, need_total, unread}
 use Rattle.clr_needs.proofs.NeedSubjects.{involved_member}
 use Rattle.clr_groups.specs.Groups.{AreJoined, IsChain}
 use Rattle.clr_groups.specs.Labels.{AreLabels, AreMoved, IsJoinedAt, label, moved_label}
-use Rattle.clr_groups.specs.MemberNeeds.{IsOfMember, TieMembers, member_need_cmp}
+use Rattle.clr_groups.specs.MemberNeeds.{TieMembers, member_need_cmp}
 use Rattle.clr_groups.specs.declared.member_needs.MemberNeed.{MemberNeed}
 use Rattle.clr_groups.proofs.Chains.{joined_by, joined_itself, joined_through}
 
@@ -48,19 +48,23 @@ same_label from to k l e = by (k == from) (l == from) refl refl e
 
 -- pairs in order ---------------------------------------------------------------------------------
 
+-- what tells pairs of one need apart
+abbrev later : MemberNeed → MemberNeed → Ordering
+later v w = ordering_then (nat_cmp v.member w.member) (bool_cmp v.touches w.touches)
+
 -- what is lesser than a lesser one isn't equal to it
 between : (x y z : MemberNeed) → member_need_cmp x y ≡ Less → member_need_cmp y z ≡ Less → x.need ≡ z.need → y.need ≡ z.need
 between x y z low high same = by (need_cmp x.need y.need) (need_cmp y.need z.need) refl refl low high
   where
-    by : (o p : Ordering) → need_cmp x.need y.need ≡ o → need_cmp y.need z.need ≡ p → ordering_then o (nat_cmp x.member y.member) ≡ Less
-        → ordering_then p (nat_cmp y.member z.member) ≡ Less → y.need ≡ z.need
-    by o Equal first second less later = need_exact y.need z.need second
-    by Less Less first second less later =
+    by : (o p : Ordering) → need_cmp x.need y.need ≡ o → need_cmp y.need z.need ≡ p → ordering_then o (later x y) ≡ Less
+        → ordering_then p (later y z) ≡ Less → y.need ≡ z.need
+    by o Equal first second less last = need_exact y.need z.need second
+    by Less Less first second less last =
         let whole = need_total.trans x.need y.need z.need first second in
         let clash : Equal ≡ Less = sym (tied_itself need_total z.need) ∙ ap (λ n. need_cmp n z.need) (sym same) ∙ whole in cc
-    by Equal Less first second less later = sym (need_exact x.need y.need first) ∙ same
-    by Greater Less first second less later = cc
-    by o Greater first second less later = cc
+    by Equal Less first second less last = sym (need_exact x.need y.need first) ∙ same
+    by Greater Less first second less last = cc
+    by o Greater first second less last = cc
 
 -- a pair between two of one need has it too
 module _ (list : List MemberNeed) (ascending : IsStrictlySortedBy member_need_cmp list) where
@@ -84,7 +88,7 @@ module _ (list : List MemberNeed) (ascending : IsStrictlySortedBy member_need_cm
 
 -- what a read past the end of a list would give
 abbrev pub unread_pair : MemberNeed
-unread_pair = record { need = unread; member = 0 }
+unread_pair = record { need = unread; member = 0; touches = false }
 
 -- two pairs that are read
 module _ (list : List MemberNeed) (at : ℕ) (labels : List ℕ) where
@@ -134,8 +138,8 @@ module _ (c : Setting ℕ) (count : ℕ) (list : List MemberNeed) (are_pairs : T
   one_pair : (i j : ℕ) (x y : MemberNeed) → i ≡ j → slice_get list i ≡ Some x → slice_get list j ≡ Some y → x ≡ y
   one_pair i j x y is h k = let both : Some x ≡ Some y = sym h ∙ ap (slice_get list) is ∙ k in cc
 
-  pair_at : (i : ℕ) (x : MemberNeed) → slice_get list i ≡ Some x → IsOfMember c count x
-  pair_at i x h = are_pairs.only x (i, slice_get_within list i x h, get_or_from_slice_get list i x x h)
+  pair_at : (i : ℕ) (x : MemberNeed) → slice_get list i ≡ Some x → (x.member < count) × IsInvolving c x.member x.need
+  pair_at i x h = let (less, pair) = are_pairs.only x (i, slice_get_within list i x h, get_or_from_slice_get list i x x h) in (less, pair.0)
 
   pub members_within : (labels : List ℕ) → length labels ≡ count → (x : MemberNeed) → Contains list x → x.member < length labels
   members_within labels long x h = let low = (are_pairs.only x h).0 in omega (arith, low, long)
@@ -271,10 +275,10 @@ module _ (c : Setting ℕ) (count : ℕ) (list : List MemberNeed) (are_pairs : T
       (are : AreJoinedUpTo at labels) where
     same_of_two : (n : Need) (x y : ℕ) → x ≢ y → x < count → y < count → IsInvolving c x n → IsInvolving c y n → label labels x ≡ label labels y
     same_of_two n x y apart h j involves other_involves =
-        let p : MemberNeed = record { need = n; member = x } in
-        let q : MemberNeed = record { need = n; member = y } in
-        let (i, less, is) = are_pairs.every p (h, involves) (inr (y, (λ e. apart (sym e)), other_involves)) in
-        let (k, other_less, other_is) = are_pairs.every q (j, other_involves) (inr (x, apart, involves)) in
+        let (s, (i, less, is)) = are_pairs.every n x h involves (inr (y, (λ e. apart (sym e)), other_involves)) in
+        let (t, (k, other_less, other_is)) = are_pairs.every n y j other_involves (inr (x, apart, involves)) in
+        let p : MemberNeed = record { need = n; member = x; touches = s } in
+        let q : MemberNeed = record { need = n; member = y; touches = t } in
         are.alike i k p q (omega (arith, less, past)) (omega (arith, other_less, past)) (slice_get_read list (length list) i p refl less (sym is))
         (slice_get_read list (length list) k q refl other_less (sym other_is)) refl
 

@@ -4,8 +4,8 @@ pub mod GroupParts
 mod JoinedPairs
 mod LabelSteps
 pub mod LabelledGroups
-pub mod MarkedNeeds
 mod MemberNeedLists
 pub mod Places
 mod Searches
+pub mod TouchedPairs
 pub mod TyingNeeds

@@ -2,14 +2,14 @@
 use Rattle.std.proofs.Common.{◌≡◌, ◌≢◌, ◌∙◌, ◌<◌, ◌+◌, ◌⊎◌, ℕ, Bool, true, false, List, [], ◌∷◌, ◌++◌, inl, inr, Contains, refl, sym, ap, subst}
 use Rattle.std.proofs.Common.{arith, Option, Some, None}
 use Rattle.std.specs.FinMap.{IsAntisymmetric}
-use Rattle.std.specs.Ordering.{nat_cmp}
-use Rattle.std.proofs.lemmas.Bool.{cases_lt}
-use Rattle.std.proofs.lemmas.List.Elements.{Contains-append_cases, Contains-append_left, Contains-append_right}
+use Rattle.std.specs.Ordering.{bool_cmp, nat_cmp}
+use Rattle.std.specs.declared.cmp.Ordering.TheVariants.{Equal}
+use Rattle.std.proofs.lemmas.Bool.{cases_lt, false≢true}
 use Rattle.std.proofs.lemmas.Map.Lookups.{exact_unsigned}
 use Rattle.clr_needs.specs.declared.needs.Need.{Need}
 use Rattle.clr_needs.specs.declared.needs.VersionId.{VersionId}
 use Rattle.clr_needs.specs.Independence.{Names, NamesIfAny}
-use Rattle.clr_needs.specs.Needs.{IsBesideIfAny, IsPossible, IsTouched}
+use Rattle.clr_needs.specs.Needs.{IsBesideIfAny, IsPossible}
 use Rattle.clr_needs.specs.Orders.{need_cmp}
 use Rattle.clr_needs.specs.Settings.{Setting, Lived, changer, version}
 use Rattle.clr_needs.proofs.Lives.{names_changer, new_is, old_is, version_by, version_by_changer}
@@ -21,20 +21,31 @@ use Rattle.clr_foot.specs.Involvement.{IsInvolving}
 use Rattle.clr_foot.specs.declared.ties.TieKind.TheVariants.{Touching, Other}
 use Rattle.clr_foot.specs.Ties.{FindsTies}
 use Rattle.clr_groups.specs.declared.member_needs.MemberNeed.{MemberNeed}
-use Rattle.clr_groups.specs.MemberNeeds.{IsOfChanger, IsOfNeed, IsOfTies, IsPair, IsTied, member_need_cmp}
+use Rattle.clr_groups.specs.MemberNeeds.{IsOfChanger, IsOfNeed, IsOfTies, IsPair, IsPairOf, itself, member_need_cmp, of_subject}
+
+flags_tie : (a b : Bool) → bool_cmp a b ≡ Equal → a ≡ b
+flags_tie true true e = refl
+flags_tie true false e = cc
+flags_tie false true e = cc
+flags_tie false false e = refl
 
 -- needs of members that tie are one
 pub member_need_exact : IsAntisymmetric member_need_cmp
 member_need_exact x y e =
-    let (needs, members) = both_tie (need_cmp x.need y.need) (nat_cmp x.member y.member) e in
+    let (needs, later) = both_tie (need_cmp x.need y.need) _ e in
+    let (members, flags) = both_tie (nat_cmp x.member y.member) (bool_cmp x.touches y.touches) later in
     let need = need_exact x.need y.need needs in
     let member = exact_unsigned x.member y.member members in
-    λ i. record { need = need i; member = member i }
+    let touches = flags_tie x.touches y.touches flags in
+    λ i. record { need = need i; member = member i; touches = touches i }
 
 module _ (c : Setting ℕ) where
   -- ---- the member that changes the cell of a subject
 
   module _ (need : Need) (member : ℕ) (subject : VersionId) where
+    abbrev of_other : ℕ → MemberNeed
+    of_other other = record { need = need; member = other; touches = false }
+
     pub no_changer : (told : Option ℕ) (list : List MemberNeed) → told ≡ changer c subject.cell → told ≡ None
         → Gains (IsOfChanger c need member subject) (IsOfChanger c need member subject) list list
     no_changer told list is none = gains_none (IsOfChanger c need member subject) (IsOfChanger c need member subject) list
@@ -46,18 +57,19 @@ module _ (c : Setting ℕ) where
         (λ x w. let both : Some other ≡ Some x.member = sym some ∙ is ∙ w.changes in let one : other ≡ x.member = cc in w.other (sym one ∙ same))
 
     pub other_changer : (told : Option ℕ) (other : ℕ) (old new : List MemberNeed) → told ≡ changer c subject.cell → told ≡ Some other → other ≢ member
-        → new ≡ old ++ record { need = need; member = other } ∷ []
+        → new ≡ old ++ record { need = need; member = other; touches = false } ∷ []
         → Gains (IsOfChanger c need member subject) (IsOfChanger c need member subject) old new
     other_changer told other old new is some apart put =
-        gains_one (IsOfChanger c need member subject) (IsOfChanger c need member subject) old new (record { need = need; member = other }) put
-        (record { need = refl; changes = sym is ∙ some; other = apart }) one
+        gains_one (IsOfChanger c need member subject) (IsOfChanger c need member subject) old new (of_other other) put
+        (record { need = refl; changes = sym is ∙ some; other = apart; untouched = refl }) one
       where
-        one : (x : MemberNeed) → IsOfChanger c need member subject x → x ≡ record { need = need; member = other }
+        one : (x : MemberNeed) → IsOfChanger c need member subject x → x ≡ of_other other
         one x w =
             let both : Some x.member ≡ Some other = sym w.changes ∙ sym is ∙ some in
             let same : x.member ≡ other = cc in
             let its_need = w.need in
-            λ i. record { need = its_need i; member = same i }
+            let untouched = w.untouched in
+            λ i. record { need = its_need i; member = same i; touches = untouched i }
 
   -- whoever changes the cell of a version that is there is named by its life
   changer_named : (v : VersionId) (l : Lived ℕ) (x : ℕ) → version c v ≡ Some l → changer c v.cell ≡ Some x → Names l.life x
@@ -94,9 +106,12 @@ module _ (c : Setting ℕ) where
 
   -- ---- a need with its members
 
-  module _ (member : ℕ) (need : Need) (involves : IsInvolving c member need) where
+  module _ (member : ℕ) (touches : Bool) (need : Need) (tie : IsPairOf c member touches need) where
+    abbrev its_own : MemberNeed
+    its_own = record { need = need; member = member; touches = touches }
+
     changer_is_pair : (v : VersionId) → IsSubject need v → (x : MemberNeed) → IsOfChanger c need member v x → IsPair c x
-    changer_is_pair v subject x w = subst (IsInvolving c x.member) (sym w.need) (by involves)
+    changer_is_pair v subject x w = (subst (IsInvolving c x.member) (sym w.need) (by tie.0), λ e. absurd (false≢true (sym w.untouched ∙ e)))
       where
         lived : (a : Lived ℕ) (b : Option (Lived ℕ)) → IsPossible c need a b → IsSubject need v → (l : Lived ℕ) × (version c v ≡ Some l)
         lived a b p (inl e) = (a, sym (ap (version c) e) ∙ p.first_is)
@@ -107,63 +122,56 @@ module _ (c : Setting ℕ) where
 
     -- what is wanted for the need is the member itself, or another one that changes the cell of a subject
     data IsWanted (x : MemberNeed) : Type 0 where
-      itself : x ≡ record { need = need; member = member } → IsWanted x
+      its_member : x ≡ its_own → IsWanted x
       of_first : IsOfChanger c need member need.first x → IsWanted x
       of_second : (v : VersionId) → need.second ≡ Some v → IsOfChanger c need member v x → IsWanted x
 
-    wanted : (x : MemberNeed) → IsOfNeed c member need x → IsWanted x
-    wanted x (is, inl same) = itself (λ i. record { need = is i; member = same i })
-    wanted x (is, inr (v, l, subject, there, names)) = elim (cases_eq x.member member) [
-      | inl same ↦ itself (λ i. record { need = is i; member = same i })
-      | inr other ↦ by subject (record { need = is; changes = names_changer c v l x.member there names; other = other })
-    ]
+    wanted : (x : MemberNeed) → IsOfNeed c member touches need x → IsWanted x
+    wanted x (itself e) = its_member e
+    wanted x (of_subject is other untouched (v, l, subject, there, names)) =
+        by subject (record { need = is; changes = names_changer c v l x.member there names; other = other; untouched = untouched })
       where
-        cases_eq : (a b : ℕ) → (a ≡ b) ⊎ (a ≢ b)
-        cases_eq a b = elim (cases_lt a b) [
-          | inl less ↦ inr (λ e. omega (arith, less, e))
-          | inr most ↦ elim (cases_lt b a) [ inl more ↦ inr (λ e. omega (arith, more, e)) | inr least ↦ inl (omega (arith, most, least)) ]
-        ]
-
         by : (need.first ≡ v) ⊎ (need.second ≡ Some v) → IsOfChanger c need member v x → IsWanted x
         by (inl e) w = of_first (subst (λ u. IsOfChanger c need member u x) (sym e) w)
         by (inr e) w = of_second v e w
 
-    pub need_with_first : (old first last : List MemberNeed) → first ≡ old ++ record { need = need; member = member } ∷ []
+    -- with the first subject's changer
+    with_first : (old first second : List MemberNeed) → first ≡ old ++ its_own ∷ []
+        → Gains (IsOfChanger c need member need.first) (IsOfChanger c need member need.first) first second
+        → Gains (IsPair c) (λ x. (x ≡ its_own) ⊎ IsOfChanger c need member need.first x) old second
+    with_first old first second put g =
+        gains_both (IsPair c) (λ x. x ≡ its_own) (IsOfChanger c need member need.first) (λ x. (x ≡ its_own) ⊎ IsOfChanger c need member need.first x) old first
+        second (λ x w. w) (gains_one (IsPair c) (λ x. x ≡ its_own) old first its_own put tie (λ x e. e))
+        (gains_as (IsOfChanger c need member need.first) (IsOfChanger c need member need.first) (IsPair c) (IsOfChanger c need member need.first) first second
+        (changer_is_pair need.first (inl refl)) (λ x w. w) g)
+
+    pub need_with_first : (old first last : List MemberNeed) → first ≡ old ++ record { need = need; member = member; touches = touches } ∷ []
         → Gains (IsOfChanger c need member need.first) (IsOfChanger c need member need.first) first last
         → need.second ≡ None
-        → Gains (IsPair c) (IsOfNeed c member need) old last
+        → Gains (IsPair c) (IsOfNeed c member touches need) old last
     need_with_first old first last put g none =
-        gains_both (IsPair c) (λ x. x ≡ record { need = need; member = member }) (IsOfChanger c need member need.first) (IsOfNeed c member need) old first last
-        (λ x w. by x (wanted x w))
-        (gains_one (IsPair c) (λ x. x ≡ record { need = need; member = member }) old first (record { need = need; member = member }) put involves (λ x e. e))
-        (gains_as (IsOfChanger c need member need.first) (IsOfChanger c need member need.first) (IsPair c) (IsOfChanger c need member need.first) first last
-        (changer_is_pair need.first (inl refl)) (λ x w. w) g)
+        gains_as (IsPair c) (λ x. (x ≡ its_own) ⊎ IsOfChanger c need member need.first x) (IsPair c) (IsOfNeed c member touches need) old last (λ x w. w)
+        (λ x w. by x (wanted x w)) (with_first old first last put g)
       where
-        by : (x : MemberNeed) → IsWanted x → (x ≡ record { need = need; member = member }) ⊎ IsOfChanger c need member need.first x
-        by x (itself e) = inl e
+        by : (x : MemberNeed) → IsWanted x → (x ≡ its_own) ⊎ IsOfChanger c need member need.first x
+        by x (its_member e) = inl e
         by x (of_first w) = inr w
         by x (of_second v e w) = let clash : None ≡ Some v = sym none ∙ e in cc
 
-    pub need_with_both : (v : VersionId) (old first second last : List MemberNeed) → first ≡ old ++ record { need = need; member = member } ∷ []
+    pub need_with_both : (v : VersionId) (old first second last : List MemberNeed)
+        → first ≡ old ++ record { need = need; member = member; touches = touches } ∷ []
         → Gains (IsOfChanger c need member need.first) (IsOfChanger c need member need.first) first second
         → need.second ≡ Some v
         → Gains (IsOfChanger c need member v) (IsOfChanger c need member v) second last
-        → Gains (IsPair c) (IsOfNeed c member need) old last
+        → Gains (IsPair c) (IsOfNeed c member touches need) old last
     need_with_both v old first second last put g some h =
-        gains_both (IsPair c) (λ x. (x ≡ record { need = need; member = member }) ⊎ IsOfChanger c need member need.first x) (IsOfChanger c need member v)
-        (IsOfNeed c member need) old second last
-        (λ x w. by x (wanted x w))
-        (gains_both (IsPair c) (λ x. x ≡ record { need = need; member = member }) (IsOfChanger c need member need.first)
-        (λ x. (x ≡ record { need = need; member = member }) ⊎ IsOfChanger c need member need.first x) old first second (λ x w. w)
-        (gains_one (IsPair c) (λ x. x ≡ record { need = need; member = member }) old first (record { need = need; member = member }) put involves (λ x e. e))
-        (gains_as (IsOfChanger c need member need.first) (IsOfChanger c need member need.first) (IsPair c) (IsOfChanger c need member need.first) first second
-        (changer_is_pair need.first (inl refl)) (λ x w. w) g))
+        gains_both (IsPair c) (λ x. (x ≡ its_own) ⊎ IsOfChanger c need member need.first x) (IsOfChanger c need member v) (IsOfNeed c member touches need) old
+        second last (λ x w. by x (wanted x w)) (with_first old first second put g)
         (gains_as (IsOfChanger c need member v) (IsOfChanger c need member v) (IsPair c) (IsOfChanger c need member v) second last
         (changer_is_pair v (inr some)) (λ x w. w) h)
       where
-        by : (x : MemberNeed) → IsWanted x → ((x ≡ record { need = need; member = member }) ⊎ IsOfChanger c need member need.first x)
-            ⊎ IsOfChanger c need member v x
-        by x (itself e) = inl (inl e)
+        by : (x : MemberNeed) → IsWanted x → ((x ≡ its_own) ⊎ IsOfChanger c need member need.first x) ⊎ IsOfChanger c need member v x
+        by x (its_member e) = inl (inl e)
         by x (of_first w) = inl (inr w)
         by x (of_second u e w) = let both : Some u ≡ Some v = sym e ∙ some in let same : u ≡ v = cc in inr (subst (λ z. IsOfChanger c need member z x) same w)
 
@@ -172,38 +180,25 @@ module _ (c : Setting ℕ) where
   -- all needs of both lists, with their members
   pub ties_added : (member : ℕ) (touching others read read_others : List Need) (old middle new : List MemberNeed) → read ≡ touching → read_others ≡ others
       → FindsTies Touching c member touching → FindsTies Other c member others
-      → Gains (IsPair c) (OfSome (IsOfNeed c member) read) old middle
-      → Gains (IsPair c) (OfSome (IsOfNeed c member) read_others) middle new
+      → Gains (IsPair c) (OfSome (IsOfNeed c member true) read) old middle
+      → Gains (IsPair c) (OfSome (IsOfNeed c member false) read_others) middle new
       → Gains (IsPair c) (IsOfTies c member) old new
   ties_added member touching others read read_others old middle new same other_same finds finds_others g h =
-      gains_both (IsPair c) (OfSome (IsOfNeed c member) read) (OfSome (IsOfNeed c member) read_others) (IsOfTies c member) old middle new split g h
+      gains_both (IsPair c) (OfSome (IsOfNeed c member true) read) (OfSome (IsOfNeed c member false) read_others) (IsOfTies c member) old middle new split g h
     where
-      split : (x : MemberNeed) → IsOfTies c member x → OfSome (IsOfNeed c member) read x ⊎ OfSome (IsOfNeed c member) read_others x
-      split x (inl (v, l, is, names, tie), of) =
+      split : (x : MemberNeed) → IsOfTies c member x → OfSome (IsOfNeed c member true) read x ⊎ OfSome (IsOfNeed c member false) read_others x
+      split x (inl ((v, l, is, names, tie), of)) =
           inl (x.need, subst (λ ns. Contains ns x.need) (sym same) (finds.every x.need v l is names tie), of)
-      split x (inr (v, l, is, names, tie), of) =
+      split x (inr ((v, l, is, names, tie), of)) =
           inr (x.need, subst (λ ns. Contains ns x.need) (sym other_same) (finds_others.every x.need v l is names tie), of)
 
-  pub touching_added : (member : ℕ) (touching read old new : List Need) → read ≡ touching → FindsTies Touching c member touching → new ≡ old ++ read
-      → Gains (IsTouched c) (IsTied Touching c member) old new
-  touching_added member touching read old new same finds put = record {
-    kept = λ n h. subst (λ ns. Contains ns n) (sym put) (Contains-append_left old read n h);
-    only = λ n h. only n (Contains-append_cases old read n (subst (λ ns. Contains ns n) put h));
-    every = λ n (v, l, is, names, tie). subst (λ ns. Contains ns n) (sym put)
-        (Contains-append_right old read n (subst (λ ns. Contains ns n) (sym same) (finds.every n v l is names tie)));
-  }
-    where
-      only : (n : Need) → Contains old n ⊎ Contains read n → Contains old n ⊎ IsTouched c n
-      only n (inl h) = inl h
-      only n (inr h) = inr (finds.only n (subst (λ ns. Contains ns n) same h)).1
+  pub touching_are_pairs : (member : ℕ) (needs read : List Need) → read ≡ needs → FindsTies Touching c member needs → (n : Need) → Contains read n
+      → IsPairOf c member true n
+  touching_are_pairs member needs read same finds n h = let found = finds.only n (subst (λ ns. Contains ns n) same h) in (found.0, λ e. found.1)
 
-  pub touching_involves : (member : ℕ) (needs read : List Need) → read ≡ needs → FindsTies Touching c member needs → (n : Need) → Contains read n
-      → IsInvolving c member n
-  touching_involves member needs read same finds n h = (finds.only n (subst (λ ns. Contains ns n) same h)).0
-
-  pub others_involve : (member : ℕ) (needs read : List Need) → read ≡ needs → FindsTies Other c member needs → (n : Need) → Contains read n
-      → IsInvolving c member n
-  others_involve member needs read same finds n h = finds.only n (subst (λ ns. Contains ns n) same h)
+  pub others_are_pairs : (member : ℕ) (needs read : List Need) → read ≡ needs → FindsTies Other c member needs → (n : Need) → Contains read n
+      → IsPairOf c member false n
+  others_are_pairs member needs read same finds n h = (finds.only n (subst (λ ns. Contains ns n) same h), λ e. absurd (false≢true e))
 
 -- one member after another --------------------------------------------------------------------
 

@@ -16,7 +16,8 @@ pub group_at : (vs : List (Vec ℕ Global)) (k : ℕ) (v : Vec ℕ Global) → k
 group_at vs k v less is = slice_get-map positions vs k ∙ ap (option_map positions) (slice_get_read vs (length vs) k v refl less is)
 
 -- a group that is listed has a position
-pub position_at : (vs : List (Vec ℕ Global)) (g : List ℕ) → Contains (map positions vs) g → (k : ℕ) × (k < length vs) × (slice_get (map positions vs) k ≡ Some g)
+pub position_at : (vs : List (Vec ℕ Global)) (g : List ℕ) → Contains (map positions vs) g
+    → (k : ℕ) × (k < length vs) × (slice_get (map positions vs) k ≡ Some g)
 position_at vs g (k, less, is) = (
   k,
   subst (λ n. k < n) (length-map vs positions) less,

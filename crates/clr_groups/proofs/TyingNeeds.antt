@@ -1,9 +1,10 @@
 -- All needs that are touched or involve two members are listed, with all members that they involve.
-use Rattle.std.proofs.Common.{◌≡◌, ◌≢◌, ◌∙◌, ◌<◌, ◌⊎◌, ℕ, true, false, List, [], inl, inr, Contains, length, refl, sym, ap, subst}
+use Rattle.std.proofs.Common.{◌==◌, Bool, ◌≡◌, ◌≢◌, ◌∙◌, ◌<◌, ◌⊎◌, ℕ, true, false, List, [], inl, inr, Contains, length, refl, sym, ap, subst}
 use Rattle.std.proofs.Common.{arith, Option, Some, None}
 use Rattle.std.specs.Prelude.{◌↔◌}
 use Rattle.std.specs.List.Sorted.{IsStrictlySortedBy}
-use Rattle.std.proofs.lemmas.Bool.{cases_Bool, or_cases}
+use Rattle.std.proofs.lemmas.Bool.{cases_Bool, false≢true, or_cases}
+use Rattle.std.proofs.lemmas.Bool.Decides.{Decides-eqb}
 use Rattle.clr_rows.specs.Contents.{Changes, Content}
 use Rattle.clr_rules.specs.declared.rules.Rule.{Rule}
 use Rattle.clr_rules.proofs.Elements.{among}
@@ -11,8 +12,7 @@ use Rattle.clr_needs.specs.declared.needs.Need.{Need}
 use Rattle.clr_needs.specs.declared.needs.VersionId.{VersionId}
 use Rattle.clr_needs.specs.Independence.{Involves, Names, NamesIfAny}
 use Rattle.clr_needs.specs.Members.{setting}
-use Rattle.clr_needs.specs.Needs.{AreTouchedNeeds, IsBesideIfAny, IsChanged, IsPossible, IsTouched, Serves, is_fresh}
-use Rattle.clr_needs.specs.Orders.{need_cmp}
+use Rattle.clr_needs.specs.Needs.{IsBesideIfAny, IsChanged, IsPossible, IsTouched, Serves, is_fresh}
 use Rattle.clr_needs.specs.Settings.{Setting, Lifetime, Always, With, Without, Lived, changer, version}
 use Rattle.clr_needs.proofs.BlockerLaws.{member_below}
 use Rattle.clr_needs.proofs.Lives.{names_member, new_is, old_is, version_by, version_by_changer}
@@ -25,7 +25,7 @@ use Rattle.clr_foot.specs.declared.ties.TieKind.TheVariants.{Touching, Other}
 use Rattle.clr_foot.specs.Ties.{HasChangedSubjects, IsChangedVersion, IsTie}
 use Rattle.clr_foot.proofs.TouchSteps.{changed_is_old}
 use Rattle.clr_groups.specs.declared.member_needs.MemberNeed.{MemberNeed}
-use Rattle.clr_groups.specs.MemberNeeds.{IsOfMember, IsOfTies, IsPair, IsTied, IsTiedAnyhow, IsTying, NamesSubject, TieMembers, member_need_cmp}
+use Rattle.clr_groups.specs.MemberNeeds.{HasPair, IsOfNeed, IsOfTies, IsPair, IsTied, IsTying, NamesSubject, TieMembers, itself, member_need_cmp, of_subject}
 use Rattle.clr_groups.proofs.MemberNeedLists.{OfBelow}
 
 -- a life names one member at most
@@ -35,6 +35,10 @@ names_one (With n) x y h k = sym h ∙ k
 names_one (Without n) x y h k = sym h ∙ k
 
 module _ (c : Setting ℕ) where
+  -- a need of either kind
+  abbrev IsTiedAnyhow : ℕ → Need → Type 0
+  IsTiedAnyhow m n = IsTied Touching c m n ⊎ IsTied Other c m n
+
   -- a new version lives with a member
   new_names : (v : VersionId) (l : Lived ℕ) → version c v ≡ Some l → v.fresh ≡ true → (x : ℕ) × Names l.life x
   new_names v l is new = by (changer c v.cell) (ap (λ f. version_by c f v.cell (changer c v.cell)) (sym new) ∙ sym (version_by_changer c v) ∙ is)
@@ -45,7 +49,9 @@ module _ (c : Setting ℕ) where
 
   -- an old version whose life names a member is changed
   old_changed : (v : VersionId) (l : Lived ℕ) (x : ℕ) → version c v ≡ Some l → v.fresh ≡ false → Names l.life x → IsChangedVersion c v
-  old_changed v l x is old names = (l, is, by (changer c v.cell) (ap (λ f. version_by c f v.cell (changer c v.cell)) (sym old) ∙ sym (version_by_changer c v) ∙ is))
+  old_changed v l x is old names =
+      let there = ap (λ f. version_by c f v.cell (changer c v.cell)) (sym old) ∙ sym (version_by_changer c v) ∙ is in
+      (l, is, by (changer c v.cell) there)
     where
       by : (o : Option ℕ) → version_by c false v.cell o ≡ Some l → IsChanged l.life
       by None h = absurd (subst (λ k. Names k x) (old_is c None (c.root v.cell) l h).1 names)
@@ -67,7 +73,7 @@ module _ (c : Setting ℕ) where
     involved_by x (inr (inr server)) = inr server
 
     -- a need of a member's server, and one of its new subject
-    of_server : (v : VersionId) (l : Lived ℕ) (x : ℕ) → Serves c n a b v l → Names l.life x → IsTiedAnyhow c x n
+    of_server : (v : VersionId) (l : Lived ℕ) (x : ℕ) → Serves c n a b v l → Names l.life x → IsTiedAnyhow x n
     of_server v l x serve names = elim (cases_Bool v.fresh) [
       | inl new ↦ inr (v, l, serve.is, names, subst (λ f. IsTie Other f c n.rule v n) (sym new) (refl, a, b, l, p, serve))
       | inr old ↦ inl (v, l, serve.is, names, subst (λ f. IsTie Touching f c n.rule v n) (sym old) (refl, a, b, l, p, serve))
@@ -121,7 +127,8 @@ module _ (rules : List Rule) (root : Content) (sets : List Changes) where
       )
   touched_tied n (a, b, p, inl fresh) = by (or_cases n.first.fresh (is_fresh n.second) fresh)
     where
-      second : (w : Option VersionId) (m : Option (Lived ℕ)) → n.second ≡ w → IsBesideIfAny c n.first a w m → is_fresh w ≡ true → (k : ℕ) × IsTied Touching c k n
+      second : (w : Option VersionId) (m : Option (Lived ℕ)) → n.second ≡ w → IsBesideIfAny c n.first a w m → is_fresh w ≡ true
+          → (k : ℕ) × IsTied Touching c k n
       second None m e is new = cc
       second (Some w) None e is new = absurd is
       second (Some w) (Some m) e is new = let (k, names) = new_names c w m is.is new in (k, of_new_subject c n a b p w m k (inr e) is.is names new)
@@ -132,21 +139,33 @@ module _ (rules : List Rule) (root : Content) (sets : List Changes) where
 
   -- a need that ties is one of some member's ties, with each member that it involves
   module _ (n : Need) (x : ℕ) where
-    abbrev pair : MemberNeed
-    pair = record { need = n; member = x }
-
     abbrev IsFound : Type 0
-    IsFound = OfBelow (IsOfTies c) (length sets) pair
+    IsFound = (touches : Bool) × OfBelow (IsOfTies c) (length sets) (record { need = n; member = x; touches = touches })
+
+    below : (m : ℕ) → IsTiedAnyhow c m n → m < length sets
+    below m (inl h) = tied_below Touching m n h
+    below m (inr h) = tied_below Other m n h
 
     found : (m : ℕ) → IsTiedAnyhow c m n → (x ≡ m) ⊎ NamesSubject c n x → IsFound
-    found m tied of = record { member = m; below = below tied; is = (tied, (refl, of)) }
+    found m tied of = elim (cases_Bool (x == m)) [
+      | inl e ↦ its_own ((Decides-eqb x m).0 e) tied
+      | inr e ↦ of_other (λ same. false≢true (sym e ∙ (Decides-eqb x m).1 same)) of tied
+    ]
       where
-        below : IsTiedAnyhow c m n → m < length sets
-        below (inl h) = tied_below Touching m n h
-        below (inr h) = tied_below Other m n h
+        same_pair : (touches : Bool) → x ≡ m → IsOfNeed c m touches n (record { need = n; member = x; touches = touches })
+        same_pair touches same = itself (λ i. record { need = n; member = same i; touches = touches })
+
+        its_own : x ≡ m → IsTiedAnyhow c m n → IsFound
+        its_own same (inl h) = (true, record { member = m; below = below m tied; is = inl (h, same_pair true same) })
+        its_own same (inr h) = (false, record { member = m; below = below m tied; is = inr (h, same_pair false same) })
+
+        of_other : x ≢ m → (x ≡ m) ⊎ NamesSubject c n x → IsTiedAnyhow c m n → IsFound
+        of_other other (inl same) h = absurd (other same)
+        of_other other (inr named) (inl h) = (false, record { member = m; below = below m tied; is = inl (h, of_subject refl other refl named) })
+        of_other other (inr named) (inr h) = (false, record { member = m; below = below m tied; is = inr (h, of_subject refl other refl named) })
 
     by_old_subject : (a : Lived ℕ) (b : Option (Lived ℕ)) (p : IsPossible c n a b) (v : VersionId) (l : Lived ℕ) → IsSubject n v → version c v ≡ Some l
-        → Names l.life x → v.fresh ≡ false → IsTying c pair → IsFound
+        → Names l.life x → v.fresh ≡ false → IsTying c x n → IsFound
     by_old_subject a b p v l subject is names old (inl touched) = let (m, tied) = touched_tied n touched in found m (inl tied) (inr (v, l, subject, is, names))
     by_old_subject a b p v l subject is names old (inr (y, other, (d, e, q, involves))) = by (involved_by c n d e q y involves)
       where
@@ -162,7 +181,7 @@ module _ (rules : List Rule) (root : Content) (sets : List Changes) where
               found x (inr (v, l, is, names, subst (λ f. IsTie Other f c n.rule v n) (sym old) ((refl, subject, a, b, p), both))) (inl refl))
         ]
 
-    pub tying_found : IsInvolving c x n → IsTying c pair → IsFound
+    pub tying_found : IsInvolving c x n → IsTying c x n → IsFound
     tying_found (a, b, p, involves) tying = by (involved_by c n a b p x involves)
       where
         by : NamesSubject c n x ⊎ NamesServer c n a b p x → IsFound
@@ -181,31 +200,25 @@ module _ (rules : List Rule) (root : Content) (sets : List Changes) where
   all_tied count k new sorted long end g ascending same = record {
     ascending = ascending;
     only = λ x h. only x (g.only x ((same x).0 h));
-    every = λ x (less, involves) tying. (same x).1 (g.every x (subst (λ j. OfBelow (IsOfTies c) j x) (sym (end ∙ long)) (tying_found x.need x.member involves tying)));
+    every = every;
+    touched = touched;
   }
     where
       is_member : (x : MemberNeed) → IsPair c x → x.member < count
-      is_member x (a, b, p, involves) =
+      is_member x ((a, b, p, involves), touched) =
           let below = member_below rules root sets x.member (involved_member c x.need a b x.member p involves) in omega (arith, below, long)
 
-      only : (x : MemberNeed) → Contains [] x ⊎ IsPair c x → IsOfMember c count x
+      only : (x : MemberNeed) → Contains [] x ⊎ IsPair c x → (x.member < count) × IsPair c x
       only x (inl h) = absurd (among x [] h)
       only x (inr pair) = (is_member x pair, pair)
 
-  pub all_touched : (count k : ℕ) (new sorted : List Need) → count ≡ length sets → k ≡ count → Gains (IsTouched c) (OfBelow (IsTied Touching c) k) [] new
-      → IsStrictlySortedBy need_cmp sorted
-      → ((n : Need) → Contains sorted n ↔ Contains new n)
-      → AreTouchedNeeds c sorted
-  all_touched count k new sorted long end g ascending same = record {
-    ascending = ascending;
-    exactly = λ n. (λ h. only n (g.only n ((same n).0 h)), λ t. (same n).1 (g.every n (every n t)));
-  }
-    where
-      only : (n : Need) → Contains [] n ⊎ IsTouched c n → IsTouched c n
-      only n (inl h) = absurd (among n [] h)
-      only n (inr t) = t
+      listed : (x : MemberNeed) → OfBelow (IsOfTies c) (length sets) x → Contains sorted x
+      listed x w = (same x).1 (g.every x (subst (λ j. OfBelow (IsOfTies c) j x) (sym (end ∙ long)) w))
 
-      every : (n : Need) → IsTouched c n → OfBelow (IsTied Touching c) k n
-      every n t =
+      every : (n : Need) (m : ℕ) → m < count → IsInvolving c m n → IsTying c m n → HasPair sorted n m
+      every n m less involves tying = let (t, w) = tying_found n m involves tying in (t, listed _ w)
+
+      touched : (n : Need) → IsTouched c n → (m : ℕ) × Contains sorted (record { need = n; member = m; touches = true })
+      touched n t =
           let (m, tied) = touched_tied n t in
-          record { member = m; below = (let less = tied_below Touching m n tied in omega (arith, less, long, end)); is = tied }
+          (m, listed _ (record { member = m; below = tied_below Touching m n tied; is = inl (tied, itself refl) }))

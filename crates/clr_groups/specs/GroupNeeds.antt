@@ -1,11 +1,10 @@
 -- The touched needs of a scene, each with the group in whose scene it is touched.
-use Rattle.std.specs.Prelude.{◌≡◌, ◌||◌, ◌⊎◌, ℕ, Bool, true, false, List, Some, Contains, get_or, slice_get}
+use Rattle.std.specs.Prelude.{◌≡◌, ℕ, Bool, true, false, List, Some, Contains, get_or, slice_get}
 use Rattle.std.specs.Ordering.{nat_cmp, ordering_then}
 use Rattle.std.specs.declared.cmp.Ordering.{Ordering}
 use Rattle.clr_rows.specs.Contents.{Changes, Content}
 use Rattle.clr_rules.specs.declared.rules.Rule.{Rule}
-use Rattle.clr_needs.specs.declared.needs.Need.{Need}
-use Rattle.clr_needs.specs.Needs.{IsTouched, is_fresh}
+use Rattle.clr_needs.specs.Needs.{IsTouched}
 use Rattle.clr_needs.specs.Orders.{need_cmp}
 use Rattle.clr_needs.specs.Parts.{setting_at}
 use Rattle.clr_groups.specs.declared.group_needs.GroupNeed.{GroupNeed}
@@ -23,13 +22,9 @@ IsTouchedAt rules root sets groups x = (g : List ℕ) × (slice_get groups x.gro
 abbrev pub IsPlaceOf : List (List ℕ) → ℕ → ℕ → Type 0
 IsPlaceOf groups x k = (g : List ℕ) × (slice_get groups k ≡ Some g) × Contains g x
 
--- the need has a new subject, or is among touched ones
-abbrev pub IsMarked : List Need → Need → Type 0
-IsMarked touching n = (n.first.fresh || is_fresh n.second ≡ true) ⊎ Contains touching n
-
--- the marked need of a pair, with the place of its member
-abbrev pub IsOfPlace : List Need → List ℕ → MemberNeed → GroupNeed → Type 0
-IsOfPlace touching places p x = IsMarked touching p.need × (x.need ≡ p.need) × (x.group ≡ get_or places p.member 0)
+-- the need of a pair that its member touches, with the place of this member
+abbrev pub IsOfPlace : List ℕ → MemberNeed → GroupNeed → Type 0
+IsOfPlace places p x = (p.touches ≡ true) × (x.need ≡ p.need) × (x.group ≡ get_or places p.member 0)
 
 -- the answer is true exactly where the statement holds
 abbrev pub IsAnswerTo : Bool → Type 0 → Type 0

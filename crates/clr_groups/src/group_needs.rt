@@ -1,15 +1,14 @@
 //! The touched needs of a scene, each with the group in whose scene it is touched.
 
-ghost use Rattle.std.specs.Prelude.{◌≡◌, ◌<◌, ◌≤◌, ◌||◌, ℕ, List, map, length, get_or, slice_get, Contains, IfOk, OnOk};
+ghost use Rattle.std.specs.Prelude.{◌≡◌, ◌<◌, ◌≤◌, ℕ, List, map, length, get_or, slice_get, Contains, IfOk, OnOk};
 ghost use Rattle.std.specs.List.Sorted.{IsStrictlySortedBy};
 ghost use Rattle.std.specs.Ordering.{nat_cmp};
 ghost use Rattle.clr_versions.specs.Gains.{Gains, OfSome};
 ghost use Rattle.clr_needs.specs.declared.limits.TheConstants.{MOST_MEMBERS};
 ghost use Rattle.clr_needs.specs.Members.{AreApart};
-ghost use Rattle.clr_needs.specs.Needs.{Lists, is_fresh};
-ghost use Rattle.clr_needs.specs.Orders.{need_cmp};
+ghost use Rattle.clr_needs.specs.Needs.{Lists};
 ghost use Rattle.clr_foot.specs.Scenes.{IsReady, model_of, setting_of};
-ghost use Rattle.clr_groups.specs.GroupNeeds.{IsAnswerTo, IsMarked, IsOfPlace, IsPlaceOf, IsTouchedAt, group_need_cmp};
+ghost use Rattle.clr_groups.specs.GroupNeeds.{IsAnswerTo, IsOfPlace, IsPlaceOf, IsTouchedAt, group_need_cmp};
 ghost use Rattle.clr_groups.specs.Groups.{AreGroups};
 ghost use Rattle.clr_groups.specs.declared.member_needs.MemberNeed.{MemberNeed as Pair};
 
@@ -30,50 +29,16 @@ pub struct GroupNeed {
     pub group: usize,
 }
 
-/// Returns whether a subject of a need is new.
-fn has_new_subject(need: Need) -> bool
-    ensures { result ≡ (need.first.fresh || is_fresh need.second) }
-{
-    if need.first.fresh {
-        return true;
-    }
-    match need.second {
-        None => false,
-        Some(second) => second.fresh,
-    }
-}
-
-/// Returns whether a need is among some.
-fn is_among(needs: &[Need], need: Need) -> bool
-    requires { IsStrictlySortedBy need_cmp needs.now }
-    ensures { IsAnswerTo result (Contains needs.now need) }
-{
-    needs.binary_search(&need).is_ok()
-}
-
-/// Returns whether a need has a new subject, or is among touched ones.
-fn is_marked(need: Need, touching: &[Need]) -> bool
-    requires { IsStrictlySortedBy need_cmp touching.now }
-    ensures { IsAnswerTo result (IsMarked touching.now need) }
-{
-    if has_new_subject(need) {
-        return true;
-    }
-    is_among(touching, need)
-}
-
-/// Adds the need of a pair, if it is marked, with the place of its member.
-fn add_if_marked(
+/// Adds the need of a pair, if the member touches it, with the place of the member.
+fn add_if_touched(
     pair: MemberNeed,
-    touching: &[Need],
     places: &[usize],
     list: &mut Vec<GroupNeed>,
 ) -> Result<(), AllocError>
-    requires ascending { IsStrictlySortedBy need_cmp touching.now }
-    requires within { pair.member < length places.now }
-    ensures { OnOk result (Gains (IsOfPlace touching.now places.now pair) (IsOfPlace touching.now places.now pair) list.old.items list.new.items) }
+    requires { pair.member < length places.now }
+    ensures { OnOk result (Gains (IsOfPlace places.now pair) (IsOfPlace places.now pair) list.old.items list.new.items) }
 {
-    if !is_marked(pair.need, touching) {
+    if !pair.touches {
         return Ok(());
     }
     list.push(GroupNeed {
@@ -83,20 +48,18 @@ fn add_if_marked(
     Ok(())
 }
 
-/// Returns the marked needs of pairs, each with the places of its members, ascending.
-fn marked_needs(
+/// Returns the needs that members touch, each with the places of these, ascending.
+fn touched_needs(
     alloc: Global,
     pairs: &[MemberNeed],
-    touching: &[Need],
     places: &[usize],
 ) -> Result<Vec<GroupNeed>, AllocError>
-    requires ascending { IsStrictlySortedBy need_cmp touching.now }
-    requires within { (p : Pair) → Contains pairs.now p → p.member < length places.now }
-    ensures { IfOk result (λ list. Lists group_need_cmp (OfSome (IsOfPlace touching.now places.now) pairs.now) list.items) }
+    requires { (p : Pair) → Contains pairs.now p → p.member < length places.now }
+    ensures { IfOk result (λ list. Lists group_need_cmp (OfSome (IsOfPlace places.now) pairs.now) list.items) }
 {
     let mut list = Vec::new(alloc);
     for pair in pairs {
-        add_if_marked(*pair, touching, places, &mut list)?;
+        add_if_touched(*pair, places, &mut list)?;
     }
     put_in_order(&mut list);
     Ok(list)
@@ -151,14 +114,9 @@ pub fn groups_and_needs<V: RowView, F: RowFinder>(
     ensures needs { IfOk result (λ both. Lists group_need_cmp (IsTouchedAt (model_of V.content scene.now).rules (model_of V.content scene.now).root
         (model_of V.content scene.now).sets (map (λ g. g.items) both.0.items)) both.1.items) }
 {
-    let found = member_needs(alloc, scene)?;
-    let groups = groups_of_pairs(alloc, scene, found.pairs.as_slice())?;
+    let pairs = member_needs(alloc, scene)?;
+    let groups = groups_of_pairs(alloc, scene, pairs.as_slice())?;
     let places = places_of(alloc, groups.as_slice(), scene.len())?;
-    let needs = marked_needs(
-        alloc,
-        found.pairs.as_slice(),
-        found.touching.as_slice(),
-        places.as_slice(),
-    )?;
+    let needs = touched_needs(alloc, pairs.as_slice(), places.as_slice())?;
     Ok((groups, needs))
 }

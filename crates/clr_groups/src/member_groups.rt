@@ -69,6 +69,6 @@ pub fn groups<V: RowView, F: RowFinder>(
     requires ready { IsReady F.settled (model_of V.content scene.now) }
     ensures { IfOk result (λ groups. AreGroups (setting_of (model_of V.content scene.now)) (map (λ g. g.items) groups.items)) }
 {
-    let found = member_needs(alloc, scene)?;
-    groups_of_pairs(alloc, scene, found.pairs.as_slice())
+    let pairs = member_needs(alloc, scene)?;
+    groups_of_pairs(alloc, scene, pairs.as_slice())
 }

@@ -1,14 +1,12 @@
 //! The needs by which members may be tied to one another, in one list with the members that they
-//! involve, and the touched needs among them.
+//! involve, and with whether the member touches the need.
 
 ghost use Rattle.std.specs.Prelude.{◌<◌, length, Contains, IfOk, OnOk};
 ghost use Rattle.clr_versions.specs.Gains.{Gains, OfSome};
-ghost use Rattle.clr_needs.specs.Needs.{AreTouchedNeeds, IsTouched};
+ghost use Rattle.clr_needs.specs.Needs.{IsTouched};
 ghost use Rattle.clr_needs.specs.declared.needs.Need.{Need as OneNeed};
-ghost use Rattle.clr_foot.specs.Involvement.{IsInvolving};
-ghost use Rattle.clr_foot.specs.declared.ties.TieKind.TheVariants.{Touching};
 ghost use Rattle.clr_foot.specs.Scenes.{IsReady, model_of, setting_in};
-ghost use Rattle.clr_groups.specs.MemberNeeds.{IsOfChanger, IsOfNeed, IsOfTies, IsPair, IsTied, TieMembers};
+ghost use Rattle.clr_groups.specs.MemberNeeds.{IsOfChanger, IsOfNeed, IsOfTies, IsPair, IsPairOf, TieMembers};
 
 use clr_finders::RowFinder;
 use clr_foot::Scene;
@@ -17,19 +15,13 @@ use clr_rows::RowView;
 use clr_spots::put_in_order;
 use std::alloc::{AllocError, Global};
 
-/// A need, and a member that it involves. Such pairs are ordered by need, then by member.
+/// A need, a member that it involves, and whether it is listed since the member touches something by
+/// it. These are ordered by need, then by member.
 #[derive(Clone, Copy, Debug, PartialEq, Eq, PartialOrd, Ord)]
 pub(crate) struct MemberNeed {
     pub(crate) need: Need,
     pub(crate) member: u16,
-}
-
-/// The needs that may tie members, each with the members that it involves, and the needs by which members
-/// touch something, both ascending.
-#[derive(Debug, Drop)]
-pub(crate) struct MemberNeeds {
-    pub(crate) pairs: Vec<MemberNeed>,
-    pub(crate) touching: Vec<Need>,
+    pub(crate) touches: bool,
 }
 
 /// Adds a need with the member that changes the cell of a subject, if it is another than the given one.
@@ -52,6 +44,7 @@ fn add_changer<V: RowView, F: RowFinder>(
             list.push(MemberNeed {
                 need,
                 member: other,
+                touches: false,
             })?;
             Ok(())
         }
@@ -62,13 +55,19 @@ fn add_changer<V: RowView, F: RowFinder>(
 fn add_need<V: RowView, F: RowFinder>(
     scene: &Scene<'_, V, F>,
     member: u16,
+    touches: bool,
     need: Need,
     list: &mut Vec<MemberNeed>,
 ) -> Result<(), AllocError>
-    requires { IsInvolving (setting_in V.content scene.now) member need }
-    ensures { OnOk result (Gains (IsPair (setting_in V.content scene.now)) (IsOfNeed (setting_in V.content scene.now) member need) list.old.items list.new.items) }
+    requires { IsPairOf (setting_in V.content scene.now) member touches need }
+    ensures { OnOk result (Gains (IsPair (setting_in V.content scene.now)) (IsOfNeed (setting_in V.content scene.now) member touches need)
+        list.old.items list.new.items) }
 {
-    list.push(MemberNeed { need, member })?;
+    list.push(MemberNeed {
+        need,
+        member,
+        touches,
+    })?;
     add_changer(scene, need, member, need.first, list)?;
     match need.second {
         None => Ok(()),
@@ -80,55 +79,48 @@ fn add_need<V: RowView, F: RowFinder>(
 fn add_needs<V: RowView, F: RowFinder>(
     scene: &Scene<'_, V, F>,
     member: u16,
+    touches: bool,
     needs: &[Need],
     list: &mut Vec<MemberNeed>,
 ) -> Result<(), AllocError>
-    requires { (n : OneNeed) → Contains needs.now n → IsInvolving (setting_in V.content scene.now) member n }
-    ensures { OnOk result (Gains (IsPair (setting_in V.content scene.now)) (OfSome (IsOfNeed (setting_in V.content scene.now) member) needs.now)
+    requires { (n : OneNeed) → Contains needs.now n → IsPairOf (setting_in V.content scene.now) member touches n }
+    ensures { OnOk result (Gains (IsPair (setting_in V.content scene.now)) (OfSome (IsOfNeed (setting_in V.content scene.now) member touches) needs.now)
         list.old.items list.new.items) }
 {
     for need in needs {
-        add_need(scene, member, *need, list)?;
+        add_need(scene, member, touches, *need, list)?;
     }
     Ok(())
 }
 
-/// Adds the needs that may tie a member, and those by which it touches something.
+/// Adds the needs that may tie a member.
 fn add_ties<V: RowView, F: RowFinder>(
     scene: &Scene<'_, V, F>,
     member: u16,
-    pairs: &mut Vec<MemberNeed>,
-    touching: &mut Vec<Need>,
+    list: &mut Vec<MemberNeed>,
 ) -> Result<(), AllocError>
     requires ready { IsReady F.settled (model_of V.content scene.now) }
     requires member { member < length (model_of V.content scene.now).sets }
-    ensures pairs { OnOk result (Gains (IsPair (setting_in V.content scene.now)) (IsOfTies (setting_in V.content scene.now) member)
-        pairs.old.items pairs.new.items) }
-    ensures touching { OnOk result (Gains (IsTouched (setting_in V.content scene.now)) (IsTied Touching (setting_in V.content scene.now) member)
-        touching.old.items touching.new.items) }
+    ensures { OnOk result (Gains (IsPair (setting_in V.content scene.now)) (IsOfTies (setting_in V.content scene.now) member) list.old.items list.new.items) }
 {
     let ties = scene.ties(member)?;
-    add_needs(scene, member, ties.touching.as_slice(), pairs)?;
-    add_needs(scene, member, ties.others.as_slice(), pairs)?;
-    touching.extend_from_slice(ties.touching.as_slice())?;
+    add_needs(scene, member, true, ties.touching.as_slice(), list)?;
+    add_needs(scene, member, false, ties.others.as_slice(), list)?;
     Ok(())
 }
 
-/// Returns the needs that may tie members, and those by which members touch something.
+/// Returns the needs that may tie members, each with the members that it involves, ascending.
 pub(crate) fn member_needs<V: RowView, F: RowFinder>(
     alloc: Global,
     scene: &Scene<'_, V, F>,
-) -> Result<MemberNeeds, AllocError>
+) -> Result<Vec<MemberNeed>, AllocError>
     requires ready { IsReady F.settled (model_of V.content scene.now) }
-    ensures pairs { IfOk result (λ found. TieMembers (setting_in V.content scene.now) (length (model_of V.content scene.now).sets) found.pairs.items) }
-    ensures touching { IfOk result (λ found. AreTouchedNeeds (setting_in V.content scene.now) found.touching.items) }
+    ensures { IfOk result (λ list. TieMembers (setting_in V.content scene.now) (length (model_of V.content scene.now).sets) list.items) }
 {
-    let mut pairs = Vec::new(alloc);
-    let mut touching = Vec::new(alloc);
+    let mut list = Vec::new(alloc);
     for member in 0..scene.len() {
-        add_ties(scene, member as u16, &mut pairs, &mut touching)?;
+        add_ties(scene, member as u16, &mut list)?;
     }
-    put_in_order(&mut pairs);
-    put_in_order(&mut touching);
-    Ok(MemberNeeds { pairs, touching })
+    put_in_order(&mut list);
+    Ok(list)
 }

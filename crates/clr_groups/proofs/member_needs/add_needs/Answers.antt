@@ -10,5 +10,5 @@ add_need-requires g c = c.requires _ (read_in c.args.needs.now c.loop-need.need-
 pub loop-need-preserved : goal.loop-need-preserved
 loop-need-preserved g c =
     let s = setting_in g.V.RowView.content c.args.scene.now in
-    of_one_more (IsPair s) (IsOfNeed s c.args.member) c.args.needs.now c.loop-need.need-index _ _ _ _ c.loop-need-test.true c.loop-need.invariant
+    of_one_more (IsPair s) (IsOfNeed s c.args.member c.args.touches) c.args.needs.now c.loop-need.need-index _ _ _ _ c.loop-need-test.true c.loop-need.invariant
     c.in_ok-add_need.ensures

@@ -7,5 +7,5 @@ use Rattle.clr_groups.proofs.member_needs.add_needs.Given as goal
 -- the needs so far were added
 abbrev pub invariant-loop-need : goal.invariant-loop-need
 invariant-loop-need g l =
-    Gains (IsPair (setting_in g.V.RowView.content l.scene)) (OfSome (IsOfNeed (setting_in g.V.RowView.content l.scene) l.member)
+    Gains (IsPair (setting_in g.V.RowView.content l.scene)) (OfSome (IsOfNeed (setting_in g.V.RowView.content l.scene) l.member l.touches)
     (take l.need-index l.needs)) l.fn.list.items l.list.items

@@ -1,9 +1,0 @@
-use Rattle.std.proofs.Common.{[], take}
-use Rattle.clr_versions.specs.Gains.{Gains, OfSome}
-use Rattle.clr_groups.specs.GroupNeeds.{IsOfPlace}
-use Rattle.clr_groups.proofs.MarkedNeeds.{IsOfPairs}
-use Rattle.clr_groups.proofs.group_needs.marked_needs.Given as goal
-
--- the needs of the pairs so far
-abbrev pub invariant-loop-pair : goal.invariant-loop-pair
-invariant-loop-pair l = Gains (IsOfPairs l.touching l.places l.pairs) (OfSome (IsOfPlace l.touching l.places) (take l.pair-index l.pairs)) [] l.list.items
