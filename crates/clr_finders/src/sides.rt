@@ -6,23 +6,40 @@ ghost use Rattle.clr_rules.specs.Sides.{has_role_in};
 ghost use Rattle.clr_finders.specs.Sharing.{may_serve};
 
 use clr_rows::Held;
-use clr_rules::{Rule, is_of};
+use clr_rules::{Rule, is_of_side};
 
 /// Returns whether a row is of some side of a rule.
 #[tactic(auto, unfolding(clr_rules::specs::Sides::has_role_in))]
 pub(crate) fn has_role(rule: &Rule, held: Held) -> bool
     ensures { result ≡ has_role_in rule.now (held_of held.entry) }
 {
-    let sides = rule.sides();
-    is_of(sides.alone, held)
-        || is_of(sides.first, held)
-        || is_of(sides.second, held)
-        || is_of(sides.server, held)
+    match rule {
+        Rule::Unique { subject, .. } => is_of_side(subject, held),
+        Rule::Partner {
+            subject,
+            server,
+            ..
+        }
+        | Rule::EndNode {
+            subject,
+            server,
+            ..
+        } => is_of_side(subject, held) || is_of_side(server, held),
+        Rule::Crossing { a, b, server } => {
+            is_of_side(a, held) || is_of_side(b, held) || is_of_side(server, held)
+        }
+        Rule::Near { a, b, .. } => is_of_side(a, held) || is_of_side(b, held),
+    }
 }
 
 /// Returns whether a row is of the side of a rule that serves.
 pub fn may_serve(rule: &Rule, held: Held) -> bool
     ensures { result ≡ may_serve rule.now (held_of held.entry) }
 {
-    is_of(rule.sides().server, held)
+    match rule {
+        Rule::Partner { server, .. }
+        | Rule::EndNode { server, .. }
+        | Rule::Crossing { server, .. } => is_of_side(server, held),
+        Rule::Unique { .. } | Rule::Near { .. } => false,
+    }
 }
