@@ -67,6 +67,9 @@ impl CellList {
         ensures ok { OnOk result ((q : Cell) → set.contains self.new q ≡ (set.contains self.old q || is_one_of cells.now.keys q)) }
         ensures err { OnErr result (GainsCells (λ q. is_one_of cells.now.keys q ≡ true) self.old self.new) }
     {
+        if cells.is_empty() {
+            return Ok(());
+        }
         for cell in cells {
             self.add(*cell)?;
         }
