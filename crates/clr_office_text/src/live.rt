@@ -25,30 +25,24 @@ pub fn cell(schema: &Schema, table: &Words, key: i64) -> Result<CellId, TextFaul
     }
 }
 
-/// Returns the cell of a row whose table is named. Fails with `BadRow` where there is no such table or
-/// the row doesn't fit it, and with `RepeatedCell` where the sheet has a row there.
+/// Puts a row whose table is named into a sheet. Fails with `BadRow` where there is no such table or the row
+/// doesn't fit it, and with `RepeatedCell` where the sheet has a row there. Where it fails, the sheet stays as it is.
 #[tactic(auto, unfolding(crate::specs::Cells::with_named_row))]
-fn free_cell(schema: &Schema, sheet: &Sheet, named: &NamedRow) -> Result<CellId, TextFault>
-    ensures { Gives text_lacks_memory (λ c. set_cell sheet.now c (Some named.now.row)) result (with_named_row schema.now sheet.now named.now) }
+pub fn put_row(schema: &Schema, sheet: &mut Sheet, named: NamedRow) -> Result<(), TextFault>
+    ensures value { Gives text_lacks_memory (λ _. sheet.new) result (with_named_row schema.now sheet.old named) }
+    ensures err { OnErr result (sheet.new ≡ sheet.old) }
 {
     let cell = cell(schema, &named.table, named.key)?;
     if schema.fits(cell, &named.row).is_err() {
         return Err(TextFault::BadRow);
     }
-    if sheet.get(cell).is_some() {
-        return Err(TextFault::RepeatedCell);
+    match sheet.put(cell, named.row)? {
+        None => Ok(()),
+        Some(before) => {
+            sheet.put(cell, before)?;
+            Err(TextFault::RepeatedCell)
+        }
     }
-    Ok(cell)
-}
-
-/// Puts a row whose table is named into a sheet. Where it fails, the sheet stays as it is.
-pub fn put_row(schema: &Schema, sheet: &mut Sheet, named: NamedRow) -> Result<(), TextFault>
-    ensures value { Gives text_lacks_memory (λ _. sheet.new) result (with_named_row schema.now sheet.old named) }
-    ensures err { OnErr result (sheet.new ≡ sheet.old) }
-{
-    let cell = free_cell(schema, sheet, &named)?;
-    sheet.put(cell, named.row)?;
-    Ok(())
 }
 
 #[tactic(auto, unfolding(crate::specs::Cells::with_named_rows))]
