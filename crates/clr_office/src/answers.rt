@@ -9,6 +9,7 @@ ghost use Rattle.clr_reports.specs.Printing.{IsOutput, IsPrintIn, print_of};
 ghost use Rattle.clr_reports.specs.declared.faults.RunFault.TheVariants as run_fault;
 
 use crate::certificates::{check_output, fault_output};
+use crate::disposals::Disposal;
 use crate::merges::merge_members;
 use crate::plans::plan_members;
 use crate::run_script::run_text;
@@ -36,22 +37,33 @@ fn audit_draft(alloc: Global, draft: &Draft) -> Result<Output, AllocError>
 
 /// Returns the lines of an audit of LIVE in an office text.
 #[tactic(auto, unfolding(crate::specs::Answers::audit_of))]
-fn answer_audit(alloc: Global, office: &[u8]) -> Result<Output, RunFault>
+fn answer_audit(alloc: Global, office: &[u8], disposal: Disposal) -> Result<Output, RunFault>
     ensures { IsOutput (λ print. print ≡ audit_of (draft_in office.now)) result }
 {
     let draft = match draft_of(alloc, office) {
         Ok(draft) => draft,
         Err(fault) => return Err(fault),
     };
-    Ok(audit_draft(alloc, &draft)?)
+    let output = audit_draft(alloc, &draft)?;
+    disposal.dispose(draft);
+    Ok(output)
 }
 
 /// Returns what the script of a text prints over the office of another.
-pub fn answer_run(alloc: Global, office: &[u8], script: &[u8]) -> Result<Output, RunFault>
+pub fn answer_run(
+    alloc: Global,
+    office: &[u8],
+    script: &[u8],
+    disposal: Disposal,
+) -> Result<Output, RunFault>
     ensures { IsOutput (IsAnswerWithin ask.Run office.now script.now) result }
 {
     match open_office(alloc, office) {
-        Ok(mut office) => run_text(alloc, &mut office, script),
+        Ok(mut office) => {
+            let answer = run_text(alloc, &mut office, script);
+            disposal.dispose(office);
+            answer
+        }
         Err(answer) => answer,
     }
 }
@@ -62,11 +74,16 @@ fn answer_plan(
     office: &[u8],
     root: &str,
     names: &[Words],
+    disposal: Disposal,
 ) -> Result<Output, RunFault>
     ensures { IsOutput (IsPrintIn (IsPlanPrint (merge_set root.now names.now)) (draft_in office.now)) result }
 {
     match open_office(alloc, office) {
-        Ok(office) => Ok(plan_members(alloc, &office, root, names)?),
+        Ok(office) => {
+            let output = plan_members(alloc, &office, root, names)?;
+            disposal.dispose(office);
+            Ok(output)
+        }
         Err(answer) => answer,
     }
 }
@@ -77,30 +94,39 @@ fn answer_merge(
     office: &[u8],
     certificate: &[u8],
     names: &[Words],
+    disposal: Disposal,
 ) -> Result<Output, RunFault>
     ensures { IsOutput (IsAnswerWithin (ask.Merge names.now) office.now certificate.now) result }
 {
     match read_case(alloc, office, certificate) {
         Ok((mut office, certificate)) => {
-            Ok(merge_members(alloc, &mut office, &certificate, names)?)
+            let output = merge_members(alloc, &mut office, &certificate, names)?;
+            disposal.dispose(office);
+            Ok(output)
         }
         Err(fault) => fault_output(alloc, fault),
     }
 }
 
 /// Returns what is printed for what is asked of two texts.
-fn answer_texts(alloc: Global, ask: &Ask, office: &[u8], second: &[u8]) -> Result<Output, RunFault>
+fn answer_texts(
+    alloc: Global,
+    ask: &Ask,
+    office: &[u8],
+    second: &[u8],
+    disposal: Disposal,
+) -> Result<Output, RunFault>
     ensures { IsOutput (IsAnswerWithin ask.now office.now second.now) result }
 {
     match ask {
-        Ask::Audit => answer_audit(alloc, office),
-        Ask::Run => answer_run(alloc, office, second),
-        Ask::Plan(names) => answer_plan(alloc, office, LIVE, names.as_slice()),
+        Ask::Audit => answer_audit(alloc, office, disposal),
+        Ask::Run => answer_run(alloc, office, second, disposal),
+        Ask::Plan(names) => answer_plan(alloc, office, LIVE, names.as_slice(), disposal),
         Ask::PlanUnder(root, names) => {
-            answer_plan(alloc, office, root.as_str(), names.as_slice())
+            answer_plan(alloc, office, root.as_str(), names.as_slice(), disposal)
         }
-        Ask::Check => check_output(alloc, office, second),
-        Ask::Merge(names) => answer_merge(alloc, office, second, names.as_slice()),
+        Ask::Check => check_output(alloc, office, second, disposal),
+        Ask::Merge(names) => answer_merge(alloc, office, second, names.as_slice(), disposal),
     }
 }
 
@@ -108,7 +134,8 @@ fn answer_texts(alloc: Global, ask: &Ask, office: &[u8], second: &[u8]) -> Resul
 /// the script or the certificate where there is one, by one put, and returns the exit status: 0 all
 /// done, cleared or clear; 1 something refused, a plan that is blocked or unfit, a verdict that
 /// isn't clear, a merge that isn't quiet, or a rule that doesn't hold; 3 a command, a plan or a
-/// verdict found no memory. Where a rule doesn't hold, that alone is printed, but for an audit.
+/// verdict found no memory. Where a rule doesn't hold, that alone is printed, but for an audit. Once
+/// the lines are known, the office that they are about is disposed of as asked.
 ///
 /// For example, where rule 1 lets mains cross only at nodes, and mains 1 and 2 cross without one in LIVE, an audit writes
 /// the lines `broken 1` and `rule 1 main/1 main/2`, a plan the line `unheld rule 1 main/1 main/2`, and both return 1.
@@ -120,6 +147,7 @@ fn answer_texts(alloc: Global, ask: &Ask, office: &[u8], second: &[u8]) -> Resul
 /// Fails with `OutOfMemory` if memory runs out, which may come in place of any other answer.
 pub fn answer<W: Sink>(
     alloc: Global,
+    disposal: Disposal,
     ask: &Ask,
     office: &[u8],
     second: &[u8],
@@ -132,7 +160,7 @@ pub fn answer<W: Sink>(
     if office.len() > MOST_INPUT_BYTES || second.len() > MOST_INPUT_BYTES {
         return Err(RunFault::TooLong);
     }
-    let output = match answer_texts(alloc, ask, office, second) {
+    let output = match answer_texts(alloc, ask, office, second, disposal) {
         Ok(output) => output,
         Err(fault) => return Err(fault),
     };

@@ -5,6 +5,7 @@ ghost use Rattle.clr_verdict_lines.specs.Verdicts.{verdict_text};
 ghost use Rattle.clr_office.specs.Clearances.{IsCheckPrint, fault_print, is_clear as is_clear_verdict, is_without_memory as is_lost_verdict};
 ghost use Rattle.clr_reports.specs.Printing.{IsOutput};
 
+use crate::disposals::Disposal;
 use clr_cert::Certificate;
 use clr_check::Verdict;
 use clr_check_texts::{CaseFault, judge_texts};
@@ -71,16 +72,25 @@ pub fn fault_output(alloc: Global, fault: CaseFault) -> Result<Output, RunFault>
 
 /// Returns the line of the verdict on a certificate in an office, both given as texts, as
 /// `check_texts` says it. Where the texts don't give both, the answer is that of `fault_output`.
-pub fn check_output(alloc: Global, office: &[u8], certificate: &[u8]) -> Result<Output, RunFault>
+pub fn check_output(
+    alloc: Global,
+    office: &[u8],
+    certificate: &[u8],
+    disposal: Disposal,
+) -> Result<Output, RunFault>
     ensures { IsOutput (IsCheckPrint (case_of office.now certificate.now)) result }
 {
     match judge_texts(alloc, office, certificate) {
-        Ok(check) => Ok(verdict_output(
-            alloc,
-            check.office.schema(),
-            &check.certificate,
-            &check.verdict,
-        )?),
+        Ok(check) => {
+            let output = verdict_output(
+                alloc,
+                check.office.schema(),
+                &check.certificate,
+                &check.verdict,
+            )?;
+            disposal.dispose(check);
+            Ok(output)
+        }
         Err(fault) => fault_output(alloc, fault),
     }
 }

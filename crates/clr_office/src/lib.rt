@@ -32,6 +32,7 @@
 //!   of two texts has no two answers. Where the status of neither is 3, their lines are the same,
 //!   and so is the status, or the fault. So with a status other than 3 what is printed is told by
 //!   the input alone, also of plans, verdicts, merges and independence.
+//! - `Disposal` says what is done with an office when its lines are known. No promise depends on it.
 //! - [`keeps`]: with any fault but WriteFailed nothing was written; after a failed write it isn't
 //!   known how much was.
 //! - For other programs: the lines of parts, `verdict_output`, `fault_output`, `replies_output` and
@@ -44,6 +45,7 @@
 
 mod answers;
 mod certificates;
+mod disposals;
 mod laws;
 mod merges;
 mod plans;
@@ -66,6 +68,7 @@ pub use clr_reports::{
 pub use clr_rows::{CellId, Names, Words};
 pub use clr_rules::Broken;
 pub use clr_scripts::RecordFault;
+pub use disposals::Disposal;
 pub use laws::inputs_have_one_session;
 pub use merges::{merge_commands, replies_output, stop_output};
 pub use run::run_office;

@@ -5,6 +5,7 @@ ghost use Rattle.clr_office.specs.Session.{AnswersRun};
 ghost use Rattle.clr_reports.specs.declared.faults.RunFault.TheVariants as run_fault;
 
 use crate::answers::answer_run;
+use crate::disposals::Disposal;
 use clr_devices::{Sink, Source, split_at_separator};
 use clr_reports::{RunFault, read_input};
 use std::alloc::Global;
@@ -12,7 +13,7 @@ use std::alloc::Global;
 /// Reads an office text, a separator line and a script to the end of the reader, writes the lines
 /// that the script prints by one put, and returns the exit status: 0 all done, 1 something refused,
 /// a plan that is blocked or unfit, or a rule that doesn't hold in the office, 3 a command or a
-/// plan found no memory.
+/// plan found no memory. Once the lines are known, the office is disposed of as asked.
 ///
 /// For example, for this input it writes the lines `done` and `refused 2 NameTaken`, and returns 1:
 ///
@@ -32,6 +33,7 @@ use std::alloc::Global;
 /// other answer.
 pub fn run_office<R: Source, W: Sink>(
     alloc: Global,
+    disposal: Disposal,
     reader: &mut R,
     writer: &mut W,
 ) -> Result<u8, RunFault>
@@ -51,7 +53,7 @@ pub fn run_office<R: Source, W: Sink>(
     let Some((office, script)) = split_at_separator(text.as_slice()) else {
         return Err(RunFault::NoSeparator);
     };
-    let output = match answer_run(alloc, office, script) {
+    let output = match answer_run(alloc, office, script, disposal) {
         Ok(output) => output,
         Err(fault) => return Err(fault),
     };

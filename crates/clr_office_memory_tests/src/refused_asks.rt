@@ -1,7 +1,7 @@
 //! What words ask of files, with a budget of memory.
 
 use clr_call_test_kit::{Hoard, refusals};
-use clr_office::{Page, RunFault, answer, ask_of};
+use clr_office::{Disposal, Page, RunFault, answer, ask_of};
 use std::alloc::Global;
 use std::test::Fail;
 
@@ -86,7 +86,14 @@ fn is_answered_within(alloc: Global, hoard: &mut Hoard, budget: usize, case: Cas
     let mut page = Page::new(alloc, ROOM).ok()?;
     let (office, second) = case.texts;
     hoard.leave(budget).ok()?;
-    let status = answer(alloc, &ask, office.as_bytes(), second.as_bytes(), &mut page);
+    let status = answer(
+        alloc,
+        Disposal::Drop,
+        &ask,
+        office.as_bytes(),
+        second.as_bytes(),
+        &mut page,
+    );
     hoard.give_back();
     let written = page.as_slice();
     let is_known = match status {

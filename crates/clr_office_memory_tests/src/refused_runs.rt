@@ -1,7 +1,7 @@
 //! Runs of a script with a budget of memory.
 
 use clr_call_test_kit::Hoard;
-use clr_office::{Page, RunFault, Text, run_office};
+use clr_office::{Disposal, Page, RunFault, Text, run_office};
 use std::alloc::Global;
 use std::process::Abort;
 use std::test::Fail;
@@ -54,7 +54,12 @@ fn end_within(
 ) -> Result<End, Fail> {
     let mut page = Page::new(alloc, ROOM)?;
     hoard.leave(budget)?;
-    let status = run_office(alloc, &mut Text::new(input.as_bytes()), &mut page);
+    let status = run_office(
+        alloc,
+        Disposal::Drop,
+        &mut Text::new(input.as_bytes()),
+        &mut page,
+    );
     hoard.give_back();
     let written = page.as_slice();
     match status {

@@ -1,7 +1,7 @@
 //! Runs over devices that give or take little at a time, and that fail.
 ghost use Rattle.std.specs.Prelude.{None};
 
-use clr_office::{DeviceFault, Page, Port, RunFault, Sink, Source, Text, run_office};
+use clr_office::{DeviceFault, Disposal, Page, Port, RunFault, Sink, Source, Text, run_office};
 use std::io::{self, Write};
 use std::test::Fail;
 
@@ -63,10 +63,20 @@ impl Sink for Jam {
 #[test]
 fn runs_over_memory(rt: HostRuntime) -> Result<(), Fail> {
     let mut page = Page::new(rt.alloc(), LINES.len())?;
-    let status = run_office(rt.alloc(), &mut Text::new(INPUT.as_bytes()), &mut page);
+    let status = run_office(
+        rt.alloc(),
+        Disposal::Drop,
+        &mut Text::new(INPUT.as_bytes()),
+        &mut page,
+    );
     assert_eq!(rt; status, Ok(0));
     assert_eq!(rt; page.as_slice(), LINES);
-    let again = run_office(rt.alloc(), &mut Text::new(INPUT.as_bytes()), &mut page);
+    let again = run_office(
+        rt.alloc(),
+        Disposal::Drop,
+        &mut Text::new(INPUT.as_bytes()),
+        &mut page,
+    );
     assert_eq!(rt; again, Err(RunFault::WriteFailed));
     Ok(())
 }
@@ -74,7 +84,12 @@ fn runs_over_memory(rt: HostRuntime) -> Result<(), Fail> {
 #[test]
 fn writes_nothing_for_a_fault(rt: HostRuntime) -> Result<(), Fail> {
     let mut page = Page::new(rt.alloc(), LINES.len())?;
-    let status = run_office(rt.alloc(), &mut Text::new(b"{}\n"), &mut page);
+    let status = run_office(
+        rt.alloc(),
+        Disposal::Drop,
+        &mut Text::new(b"{}\n"),
+        &mut page,
+    );
     assert_eq!(rt; status, Err(RunFault::NoSeparator));
     assert_eq!(rt; page.as_slice().len(), 0);
     Ok(())
@@ -89,7 +104,7 @@ fn a_failed_read_is_not_tried_again(rt: HostRuntime) -> Result<(), Fail> {
             reads_before_fault,
             failed: false,
         };
-        let status = run_office(rt.alloc(), &mut drip, &mut page);
+        let status = run_office(rt.alloc(), Disposal::Drop, &mut drip, &mut page);
         if reads_before_fault <= INPUT.len() {
             assert_eq!(rt; status, Err(RunFault::ReadFailed));
             assert_eq!(rt; page.as_slice().len(), 0);
@@ -109,7 +124,12 @@ fn all_lines_go_out_in_one_put(rt: HostRuntime) -> Result<(), Fail> {
             puts_before_fault,
             failed: false,
         };
-        let status = run_office(rt.alloc(), &mut Text::new(INPUT.as_bytes()), &mut jam);
+        let status = run_office(
+            rt.alloc(),
+            Disposal::Drop,
+            &mut Text::new(INPUT.as_bytes()),
+            &mut jam,
+        );
         if puts_before_fault == 0 {
             assert_eq!(rt; status, Err(RunFault::WriteFailed));
         } else {
@@ -125,7 +145,12 @@ fn all_lines_go_out_in_one_put(rt: HostRuntime) -> Result<(), Fail> {
 fn ports_pass_on_what_memory_tells(rt: HostRuntime) -> Result<(), Fail> {
     let mut lines = Vec::new(rt.alloc());
     let mut reader = Port::new(INPUT.as_bytes());
-    let status = run_office(rt.alloc(), &mut reader, &mut Port::new(&mut lines));
+    let status = run_office(
+        rt.alloc(),
+        Disposal::Leak,
+        &mut reader,
+        &mut Port::new(&mut lines),
+    );
     assert_eq!(rt; status, Ok(0));
     assert_eq!(rt; lines.as_slice(), LINES);
     Ok(())
@@ -153,7 +178,12 @@ fn a_failed_flush_is_a_failed_write(rt: HostRuntime) -> Result<(), Fail> {
     let mut port = Port::new(Clogged {
         taken: Vec::new(rt.alloc()),
     });
-    let status = run_office(rt.alloc(), &mut Text::new(INPUT.as_bytes()), &mut port);
+    let status = run_office(
+        rt.alloc(),
+        Disposal::Drop,
+        &mut Text::new(INPUT.as_bytes()),
+        &mut port,
+    );
     assert_eq!(rt; status, Err(RunFault::WriteFailed));
     assert_eq!(rt; RunFault::WriteFailed.status(), 2);
     Ok(())

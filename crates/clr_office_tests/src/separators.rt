@@ -1,6 +1,6 @@
 //! Where the separator stands between an office text and a script.
 
-use clr_office::{Page, RunFault, Text, run_office};
+use clr_office::{Disposal, Page, RunFault, Text, run_office};
 use clr_office_text::TextFault;
 use clr_scripts::RecordFault;
 use std::alloc::Global;
@@ -18,7 +18,12 @@ fn runs(
 ) -> Result<bool, Fail> {
     let input = format!(in alloc; "{before}{after}")?;
     let mut page = Page::new(alloc, 100)?;
-    let status = run_office(alloc, &mut Text::new(input.as_bytes()), &mut page);
+    let status = run_office(
+        alloc,
+        Disposal::Drop,
+        &mut Text::new(input.as_bytes()),
+        &mut page,
+    );
     Ok(status == answer && page.as_slice() == lines.as_bytes())
 }
 

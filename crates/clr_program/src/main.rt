@@ -5,7 +5,7 @@
 //! It is safe; what it does with words, files, streams and statuses no contract says.
 #![tactic(auto)]
 
-use clr_office::{Ask, AskFault, Port, RunFault, Words, answer, ask_of, run_office};
+use clr_office::{Ask, AskFault, Disposal, Port, RunFault, Words, answer, ask_of, run_office};
 use clr_terminal::{BAD_WORDS, has_words, read_files, refuse, refuse_words, text_at, texts, words};
 use std::io::ErrorKind;
 use std::process::ExitCode;
@@ -14,7 +14,7 @@ use std::process::ExitCode;
 fn run(rt: &HostRuntime) -> Result<u8, RunFault> {
     let mut reader = Port::new(rt.stdin());
     let mut writer = Port::new(rt.stdout());
-    run_office(rt.alloc(), &mut reader, &mut writer)
+    run_office(rt.alloc(), Disposal::Leak, &mut reader, &mut writer)
 }
 
 /// Answers what the words ask of files on standard output, and gives the exit status.
@@ -22,7 +22,7 @@ fn answer_files(rt: &HostRuntime, ask: &Ask, files: &[Words]) -> Result<u8, RunF
     let texts = read_files(rt, files)?;
     let (office, second) = (text_at(&texts, 0), text_at(&texts, 1));
     let mut writer = Port::new(rt.stdout());
-    answer(rt.alloc(), ask, office, second, &mut writer)
+    answer(rt.alloc(), Disposal::Leak, ask, office, second, &mut writer)
 }
 
 /// Does what the words ask for, and gives the exit status.

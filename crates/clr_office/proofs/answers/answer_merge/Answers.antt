@@ -6,11 +6,11 @@ use Rattle.clr_reports.specs.Outcomes.{Outcome}
 use Rattle.clr_office.proofs.CaseTexts.{case_made, fault_made}
 use Rattle.clr_office.proofs.answers.answer_merge.Goals as goal
 
-pub returns-in_ok-merge_members-in-Ok : goal.returns-in_ok-merge_members-in-Ok
-returns-in_ok-merge_members-in-Ok c =
+pub returns-in_ok-output-in-Ok : goal.returns-in_ok-output-in-Ok
+returns-in_ok-output-in-Ok c =
     case_made (λ (o : Office) (cert : Certificate) (all : Outcome). IsMergeOutcome o cert c.args.names.now all)
     (case_of c.args.office.now c.args.certificate.now)
-    c.in-Ok.office c.merge_members.new.office c.in-Ok.certificate c.in_ok-merge_members-in-Ok.field-0 c.in-Ok.ensures.case c.in_ok-merge_members-in-Ok.ensures
+    c.in-Ok.office c.merge_members.new.office c.in-Ok.certificate c.in_ok-output-in-Ok.output c.in-Ok.ensures.case c.in_ok-output-in-Ok.ensures
 
 pub returns-in-Err : goal.returns-in-Err
 returns-in-Err c =

@@ -5,12 +5,12 @@ use Rattle.clr_office.specs.Clearances.{IsVerdictOutcome}
 use Rattle.clr_office.proofs.CaseTexts.{case_made, checked, fault_made}
 use Rattle.clr_office.proofs.certificates.check_output.Goals as goal
 
-pub returns-in_ok-verdict_output-in-Ok : goal.returns-in_ok-verdict_output-in-Ok
-returns-in_ok-verdict_output-in-Ok c =
+pub returns-in_ok-output-in-Ok : goal.returns-in_ok-output-in-Ok
+returns-in_ok-output-in-Ok c =
     let given = case_of c.args.office.now c.args.certificate.now in
     let check = c.in-Ok.check in
-    let output = c.in_ok-verdict_output-in-Ok.field-0 in
-    let made = c.in_ok-verdict_output-in-Ok.ensures in
+    let output = c.in_ok-output-in-Ok.output in
+    let made = c.in_ok-output-in-Ok.ensures in
     let lines : output.lines.items ≡ verdict_text check.office.schema check.certificate.members check.certificate.root check.verdict =
     rw (← c.schema.ensures.value) made.lines in
     case_made IsVerdictOutcome given check.office check.office check.certificate output c.in-Ok.ensures.case
