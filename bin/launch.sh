@@ -55,46 +55,34 @@ crates_up_to() {
     echo "${crates[@]}"
 }
 
-# Has `rt ci` prove in a folder, in the background. It ends with the process that began it.
-begin_in() { (cd "$1" && exec setpriv --pdeathsig TERM rt ci 2>&1 </dev/null) & }
-
-# Whether there is memory for several runs side by side, each of which reckons with all that is free when it begins: 16 GB.
-has_room_for_ways() { [ "${CLR_OFFICE_FREE_MEMORY-$(sed -n 's/^MemAvailable: *\([0-9]*\) kB$/\1/p' /proc/meminfo 2>/dev/null || echo 0)}" -ge 16000000 ]; }
-
-# Proves the crates of a stage and what they stand on, each way by a run of its own, in a folder of its own.
-prove_stage() {
-    local ways way crates runs=()
-    IFS='|' read -ra ways <<<"$1"
-    if ! has_room_for_ways; then ways=("${ways[*]}"); fi
-    for way in "${!ways[@]}"; do
-        crates=$(crates_up_to ${ways[way]})
-        if [ -z "$crates" ]; then continue; fi
-        copy_crates "$room/way$way" $crates && begin_in "$room/way$way" || return 1
-        runs+=($!)
+# The program's crates that don't stand on the library of the programs, if that is one of its crates.
+crates_below_library() {
+    local crate
+    if [ -z "${uses[$library_of_program]+known}" ]; then return; fi
+    for crate in "${crates[@]}"; do
+        if [[ " $(crates_up_to "$crate") " != *" $library_of_program "* ]]; then echo "$crate"; fi
     done
-    for way in "${runs[@]}"; do wait "$way" || return 1; done
 }
 
-# Proves the crates stage by stage. The library that the program stands on has a run of its own beside the last stage, and all has one behind
-# this stage, which takes what the others have proved. Where there is no memory for several runs, the last one proves all that is left.
+# Has `rt ci` prove crates in a folder of their own, if there are any. It ends with the process that began it. Where the second word is a
+# number, it proves so many crates at once, each with one processor; else it shares out the processors itself.
+prove_crates() {
+    local folder=$1 at_once=$2
+    shift 2
+    if [ $# = 0 ]; then return; fi
+    copy_crates "$folder" "$@" || return 1
+    (cd "$folder" && RT_JOBS=$at_once exec setpriv --pdeathsig TERM rt ci 2>&1 </dev/null) &
+    wait $!
+}
+
+# Proves the crates by three runs of the toolchain, each of which takes what those before it have proved: the crate on which all stand, by
+# all processors; then the crates below the library of the programs, side by side; and at last the library and what stands on it.
 prove() {
-    local stage whole library=
-    local earlier=("${stages[@]:0:${#stages[@]}-1}")
-    local of_library=$(crates_up_to "$library_of_program")
     trap 'kill $(jobs -p) 2>/dev/null' EXIT
     trap 'exit 143' TERM
-    for stage in "${earlier[@]}"; do prove_stage "$stage" || return 1; done
-    if has_room_for_ways; then
-        if [ -n "$of_library" ]; then
-            copy_crates "$room/library" $of_library && begin_in "$room/library" || return 1
-            library=$!
-        fi
-        prove_stage "${stages[-1]}" || return 1
-    fi
-    copy_crates "$room/whole" "${crates[@]}" && begin_in "$room/whole" || return 1
-    whole=$!
-    if [ -n "$library" ]; then wait "$library" || return 1; fi
-    wait "$whole"
+    prove_crates "$room/first" '' $(crates_up_to "$first_crate") || return 1
+    prove_crates "$room/below" "$(checks_at_once)" $(crates_below_library) || return 1
+    prove_crates "$room/whole" '' "${crates[@]}"
 }
 
 # Reads what `rt ci` prints, and says a line for each crate that is done, and for each minute in which none is. It fails after a line

@@ -25,17 +25,18 @@ add_crate() {
     crates+=("$1")
 }
 
-# In which order crates are proved: stage by stage, what a stage names and what this stands on. Where a stage has bars, what stands between
-# them is proved by runs of the toolchain of their own, side by side, so that no way waits for another one's turn, and a crate that alone
-# can be proved in its run has two processors. A stage ends where everything waits for what it names: the rows, what the engine stands
-# on, and what the program's own library stands on.
-stages=(
-    clr_rows
-    'clr_tree | clr_foot clr_cert | clr_audit clr_kept_finders clr_clearance | clr_command_line clr_rule_text clr_devices'
-    'clr_merge_sets | clr_check_texts | clr_plan_lines clr_reports | clr_office_json'
-)
-# The library that the programs stand on.
+# The crate on which all others stand, and the library on which the programs stand. While one of them is proved, no other crate can be.
+first_crate=clr_rows
 library_of_program=clr_office
+
+# How many checks run side by side, each with one processor: as many as there are processors, where there are 4 GB of free memory for each.
+# Where there are not, it says nothing, and the toolchain reckons with the memory itself.
+checks_at_once() {
+    local free processors
+    free=${CLR_OFFICE_FREE_MEMORY-$(sed -n 's/^MemAvailable: *\([0-9]*\) kB$/\1/p' /proc/meminfo 2>/dev/null || echo 0)}
+    processors=$(nproc)
+    if [ "$free" -ge $((4000000 * processors)) ]; then echo "$processors"; fi
+}
 
 # Sets `program` to a name, `crates` to the crates that it stands on, each behind those that it uses, and then its own, and `sources` to
 # all its sources.
