@@ -17,12 +17,13 @@ use_program "$program"
 
 # How many seconds pass at most between two lines while the program is proved.
 patience=${CLR_OFFICE_PATIENCE-60}
-# The folder in which it is proved, in folders of their own for the runs of the toolchain, and the process that does so.
-room= proving=
+# The folder in which it is proved, in folders of their own for the runs of the toolchain; one in memory for temporary files; and the process that
+# proves it.
+room= scratch= proving=
 
 clean_up() {
     if [ -n "$proving" ]; then kill "$proving" 2>/dev/null; fi
-    if [ -n "$room" ]; then rm -rf "$room"; fi
+    rm -rf ${room:+"$room"} ${scratch:+"$scratch"}
     rm -f "$out"/*.new
 }
 
@@ -55,34 +56,56 @@ crates_up_to() {
     echo "${crates[@]}"
 }
 
-# The program's crates that don't stand on the library of the programs, if that is one of its crates.
-crates_below_library() {
+# The program's crates that don't stand on the one at which their chains meet, and that one, if it is a crate of the program.
+crates_up_to_meeting() {
     local crate
-    if [ -z "${uses[$library_of_program]+known}" ]; then return; fi
+    if [ -z "${uses[$meeting_crate]+known}" ]; then return; fi
     for crate in "${crates[@]}"; do
-        if [[ " $(crates_up_to "$crate") " != *" $library_of_program "* ]]; then echo "$crate"; fi
+        if [ "$crate" = "$meeting_crate" ] || [[ " $(crates_up_to "$crate") " != *" $meeting_crate "* ]]; then echo "$crate"; fi
     done
 }
 
+# Makes a folder in memory for the files that a check writes and then removes, some hundred MB for each processor, and says its name. Where memory
+# is short, or there is no such folder, it makes none.
+make_scratch() {
+    local left
+    left=$(df -Pk /dev/shm 2>/dev/null | awk 'NR == 2 { print $4 }')
+    if [ -n "$(checks_at_once)" ] && [ "${left:-0}" -ge 2000000 ]; then mktemp -d "/dev/shm/$program.XXXXXX" 2>/dev/null; fi
+}
+
 # Has `rt ci` prove crates in a folder of their own, if there are any. It ends with the process that began it. Where the second word is a
-# number, it proves so many crates at once, each with one processor; else it shares out the processors itself.
+# number, it proves so many crates at once, each with one processor; else it shares out the processors itself. The third word is the folder for
+# temporary files.
 prove_crates() {
-    local folder=$1 at_once=$2
-    shift 2
+    local folder=$1 at_once=$2 temporary=$3
+    shift 3
     if [ $# = 0 ]; then return; fi
     copy_crates "$folder" "$@" || return 1
-    (cd "$folder" && RT_JOBS=$at_once exec setpriv --pdeathsig TERM rt ci 2>&1 </dev/null) &
+    (cd "$folder" && RT_JOBS=$at_once TMPDIR=$temporary exec setpriv --pdeathsig TERM rt ci 2>&1 </dev/null) &
     wait $!
 }
 
-# Proves the crates by three runs of the toolchain, each of which takes what those before it have proved: the crate on which all stand, by
-# all processors; then the crates below the library of the programs, side by side; and at last the library and what stands on it.
+# How many crates of a run aren't proved yet, by what it has said in a file.
+count_left() { echo $(($1 - $(grep -cE '^rt: [a-z_]+ (proved$|is kept: )' "$2"))); }
+
+# Proves the crates by three runs of the toolchain, each of which takes what the others have proved and waits for what they are proving. The first
+# proves the crate on which all stand, with the processors that are free. The second begins at the same time, since it first reads all texts, and
+# proves many crates side by side. The third, of all crates, begins once the second has no more crates left than are proved at once: it proves what
+# stands on these, and shares out the processors. Programs are run from its temporary folder, as they may not be from one in memory.
 prove() {
+    local at_once temporary=${scratch:-${TMPDIR:-/tmp}} many first second
     trap 'kill $(jobs -p) 2>/dev/null' EXIT
     trap 'exit 143' TERM
-    prove_crates "$room/first" '' $(crates_up_to "$first_crate") || return 1
-    prove_crates "$room/below" "$(checks_at_once)" $(crates_below_library) || return 1
-    prove_crates "$room/whole" '' "${crates[@]}"
+    at_once=$(checks_at_once) many=($(crates_up_to_meeting))
+    : >"$room/said" || return 1
+    prove_crates "$room/first" '' "$temporary" $(crates_up_to "$first_crate") &
+    first=$!
+    prove_crates "$room/many" "$at_once" "$temporary" "${many[@]}" > >(tee "$room/said") &
+    second=$!
+    if [ ${#many[@]} = 0 ]; then wait $first || return 1; fi
+    while kill -0 $second 2>/dev/null && [ "$(count_left ${#many[@]} "$room/said")" -gt "${at_once:-2}" ]; do sleep 1; done
+    if ! kill -0 $second 2>/dev/null; then wait $second || return 1; fi
+    prove_crates "$room/whole" '' "${TMPDIR:-/tmp}" "${crates[@]}" && wait $second && wait $first
 }
 
 # Reads what `rt ci` prints, and says a line for each crate that is done, and for each minute in which none is. It fails after a line
@@ -132,6 +155,7 @@ build() {
     command -v rt >/dev/null || refuse "the program isn't built from these sources, and there is no command rt to build it"
     say "proving the program once, ${#crates[@]} crates: $takes; after an interrupt the next start goes on where this one was"
     room=$(mktemp -d "${TMPDIR:-/tmp}/$program.XXXXXX") || refuse "there is no room for a folder in which the program can be built"
+    scratch=$(make_scratch)
     digest=$(digest_of_sources) before=$(listing)
     exec 8< <(exec 9>&- && prove)
     proving=$!

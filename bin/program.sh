@@ -25,9 +25,10 @@ add_crate() {
     crates+=("$1")
 }
 
-# The crate on which all others stand, and the library on which the programs stand. While one of them is proved, no other crate can be.
+# The crate on which nearly all others stand, and the one at which their chains meet: once that is proved, what is left stands on it, and there is
+# work for one or two checks at a time.
 first_crate=clr_rows
-library_of_program=clr_office
+meeting_crate=clr_engine
 
 # How many checks run side by side, each with one processor: as many as there are processors, where there are 4 GB of free memory for each.
 # Where there are not, it says nothing, and the toolchain reckons with the memory itself.

@@ -5,11 +5,11 @@ use Rattle.std.proofs.lemmas.Grind.{flat_map-append}
 use Rattle.std.proofs.lemmas.List.{take-append-drop}
 use Rattle.clr_rules.specs.declared.roles.Roles.{Roles}
 use Rattle.clr_spots.specs.declared.spots.Spot.{Spot}
-use Rattle.clr_spot_maps.specs.declared.spot_maps.FiledPart.{FiledPart}
+use Rattle.clr_spots.specs.declared.spot_maps.FiledPart.{FiledPart}
 use Rattle.clr_audit.specs.declared.role_index.RoleIndex.{RoleIndex}
 use Rattle.clr_rows.specs.Beginnings.{IsBegun}
 use Rattle.clr_rows.proofs.BeginningLaws.{all_begun, none_begun, some_begun, then_begun}
-use Rattle.clr_spot_maps.specs.Filing.{near}
+use Rattle.clr_spots.specs.Filing.{near}
 use Rattle.clr_audit.specs.RoleFiling.{partners}
 
 module _ {X : Type 0} where

@@ -29,14 +29,14 @@ use Rattle.clr_spots.proofs.RoleLaws.{servers_meet, subjects_meet}
 use Rattle.clr_spots.proofs.SharedSpots.{Common}
 use Rattle.clr_audit.specs.declared.role_index.RoleIndex.{RoleIndex}
 use Rattle.clr_audit.specs.declared.searching.Search.{Search}
-use Rattle.clr_spot_maps.specs.declared.spot_maps.FiledPart.{FiledPart}
+use Rattle.clr_spots.specs.declared.spot_maps.FiledPart.{FiledPart}
 use Rattle.clr_rows.specs.Beginnings.{IsBegun}
-use Rattle.clr_spot_maps.specs.Filing.{Filed, IsFiled, near}
+use Rattle.clr_spots.specs.Filing.{Filed, IsFiled, near}
 use Rattle.clr_audit.specs.RoleFiling.{filed_rows, no_rows_filed, partners}
 use Rattle.clr_audit.specs.PartServers.{is_on, may_serve_part, may_serve_part_by}
 use Rattle.clr_audit.specs.Searches.{may_serve_at, may_serve_if, server_if, servers_of_part, serves_if, serves_at, need_if_broken, need_with, need_beside}
 use Rattle.clr_audit.specs.Searches.{IsSecondAmong, IsBrokenAmong, GainsBroken, GainsBrokenAlone, IsAlone, IsOfPart, IsOfRow, IsPaired}
-use Rattle.clr_spot_maps.proofs.Filed.{found_near}
+use Rattle.clr_spots.proofs.Filed.{found_near}
 use Rattle.clr_audit.proofs.Gaining.{gains_begun, gains_listed, gains_none, gains_more}
 use Rattle.clr_audit.proofs.RoleFiled.{IsRowFiled, IsSubjectFiled, filed_part, rows_filed}
 

@@ -11,10 +11,10 @@ use Rattle.clr_spots.specs.RoleSpots.{subject_spots_under, server_spots_under}
 use Rattle.clr_rows.specs.Held.{Held}
 use Rattle.clr_spots.specs.Spots.{unless_many, are_many}
 use Rattle.clr_audit.specs.declared.role_index.RoleIndex.{RoleIndex}
-use Rattle.clr_spot_maps.specs.declared.spot_maps.FiledPart.{FiledPart}
-use Rattle.clr_spot_maps.specs.Filing.{Filed, IsFiled, with_filed}
+use Rattle.clr_spots.specs.declared.spot_maps.FiledPart.{FiledPart}
+use Rattle.clr_spots.specs.Filing.{Filed, IsFiled, with_filed}
 use Rattle.clr_audit.specs.RoleFiling.{with_subject, with_parts, with_pairs, with_server, with_row, filed_rows}
-use Rattle.clr_spot_maps.proofs.Filed.{part_stays, new_part_filed}
+use Rattle.clr_spots.proofs.Filed.{part_stays, new_part_filed}
 
 -- what is filed in one map is filed in another
 abbrev Stays : Filed → Filed → Type 0

@@ -1,3 +1,4 @@
+pub mod Meeting
 pub mod PartServers
 pub mod RoleFiling
 pub mod Searches

@@ -9,8 +9,8 @@ use Rattle.clr_spots.specs.RoleSpots.{subject_spots_under, server_spots_under}
 use Rattle.clr_rows.specs.Held.{Held}
 use Rattle.clr_spots.specs.Spots.{unless_many, are_many}
 use Rattle.clr_audit.specs.declared.role_index.RoleIndex.{RoleIndex}
-use Rattle.clr_spot_maps.specs.declared.spot_maps.FiledPart.{FiledPart}
-use Rattle.clr_spot_maps.specs.Filing.{nothing_filed, with_filed, near}
+use Rattle.clr_spots.specs.declared.spot_maps.FiledPart.{FiledPart}
+use Rattle.clr_spots.specs.Filing.{nothing_filed, with_filed, near}
 
 abbrev pub no_rows_filed : RoleIndex
 no_rows_filed = record { firsts = nothing_filed; seconds = nothing_filed; boths = nothing_filed; servers = nothing_filed }

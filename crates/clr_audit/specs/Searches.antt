@@ -15,8 +15,8 @@ use Rattle.clr_spots.specs.declared.spots.Spots.{Spots}
 use Rattle.clr_rules.specs.Calls.{ask_of_parts, calls, serves}
 use Rattle.clr_rules.specs.Needs.{ask_of, broken_at, broken_cmp, is_after}
 use Rattle.clr_audit.specs.declared.searching.Search.{Search}
-use Rattle.clr_spot_maps.specs.declared.spot_maps.FiledPart.{FiledPart}
-use Rattle.clr_spot_maps.specs.Filing.{parts_at, near}
+use Rattle.clr_spots.specs.declared.spot_maps.FiledPart.{FiledPart}
+use Rattle.clr_spots.specs.Filing.{parts_at, near}
 use Rattle.clr_audit.specs.PartServers.{may_serve_part_under}
 use Rattle.clr_audit.specs.RoleFiling.{filed_rows, no_rows_filed}
 

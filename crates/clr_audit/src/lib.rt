@@ -6,11 +6,21 @@
 //!   filed by spot and by the side that they are of; subjects are held against subjects alone, and
 //!   a server is looked for among servers alone. That this misses none stands on the laws of shared
 //!   spots.
+//! - `is_seen_to_hold`, over a finder that has the rows of a content: where it is true, every rule holds.
+//!   Where it is false, nothing is said. For each row it looks up, by the spots that the finder keeps, the
+//!   rows that may stand beside it and those that may serve it. That no pair is missed stands on the laws
+//!   of shared spots.
 #![tactic(auto)]
 
 mod audits;
+mod limits;
+mod pairs;
 mod part_servers;
+mod quick_audits;
 mod role_index;
+mod rows;
 mod searching;
+mod servers;
 
 pub use audits::{audit, first_broken};
+pub use rows::is_seen_to_hold;

@@ -9,8 +9,7 @@ ghost use Rattle.clr_audit.specs.RoleFiling.{no_rows_filed, with_subject, with_p
 
 use clr_rows::Held;
 use clr_rules::{Roles, RuleBook};
-use clr_spot_maps::{FiledPart, SpotMap};
-use clr_spots::{Spots, server_spots, subject_spots};
+use clr_spots::{FiledPart, SpotMap, Spots, server_spots, subject_spots};
 use std::alloc::{AllocError, Global};
 
 /// Subjects that may be the first of two alone, the second alone, or both, and servers.

@@ -31,8 +31,7 @@ use crate::part_servers::may_serve_part;
 use crate::role_index::RoleIndex;
 use clr_rows::{CellId, Held};
 use clr_rules::{Ask, Broken, Roles, RuleBook};
-use clr_spot_maps::FiledPart;
-use clr_spots::{Spot, Spots, put_in_order, subject_spots};
+use clr_spots::{FiledPart, Spot, Spots, put_in_order, subject_spots};
 use std::alloc::{AllocError, Global};
 
 /// Returns whether a broken need comes at or before all those of a rule whose first subject is at a

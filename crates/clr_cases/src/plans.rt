@@ -3,9 +3,9 @@
 use clr_cert::Certificate;
 use clr_check::{Verdict, check};
 use clr_engine::Office;
+use clr_lines::verdict_line;
 use clr_office_test_kit::{certificate_of, members_of};
 use clr_plan::{Plan, plan};
-use clr_verdict_lines::verdict_line;
 use std::alloc::Global;
 
 /// Returns whether two certificates name the same root and members and have the same entries.

@@ -2,3 +2,4 @@ pub mod AnswerLemmas
 pub mod CoverLemmas
 pub mod EntryLemmas
 pub mod JudgeLemmas
+pub mod Said

@@ -1,2 +1,4 @@
 pub mod Answers
+pub mod Cases
 pub mod Entries
+pub mod TextChecks

@@ -20,15 +20,36 @@
 //!   one that isn't quiet.
 //! - `name_fault`, `read_merge_set`, `MergeSetParts` and `NameList` are those of `clr_merge_sets`, which reads what
 //!   a check and a plan look at.
+//!
+//! The same check of a certificate in an office, where both are given as texts.
+//!
+//! - `read_case` [`case`, `fault`] gives the office of a text, in which every rule holds that is to
+//!   hold, with the certificate of another; or why the texts don't give both, memory aside: the
+//!   first of the office's text, the rules and the certificate's text that fails.
+//! - `check_texts` says, memory aside, exactly which of these fails first, and otherwise gives the
+//!   verdict, which may be want of memory. Where it is clear, every rule holds in the root with the
+//!   changes of any members over it, no other member is in conflict with those rows, the office is
+//!   safe for the members, and the headline holds of them. `judge_texts` [`case`, `verdict`,
+//!   `fault`] gives besides the office and the certificate, which a line names; by it the program
+//!   answers `check`.
 #![tactic(auto)]
 
+mod cases;
+mod checked;
 mod checks;
 mod covers;
 mod entries;
 mod quiet;
 mod runs;
+mod text_checks;
 
+pub use cases::{CaseFault, read_case};
+pub use checked::Checked;
 pub use checks::check;
+pub use clr_cert::CertFault;
 pub use clr_clearance::Verdict;
+pub use clr_drafts::TextFault;
+pub use clr_engine::Broken;
 pub use clr_merge_sets::{MergeSetParts, NameList, name_fault, read_merge_set};
 pub use runs::{ClearedRun, perform_cleared};
+pub use text_checks::{TextCheck, check_texts, judge_texts};

@@ -14,8 +14,8 @@ use Rattle.clr_rows.proofs.ChangeLemmas.{same_changes, get-changes, apart_from_s
 use Rattle.clr_rows.proofs.RowLemmas.{tied_cells}
 use Rattle.clr_change.specs.ChangeSets.{set_change, change_from}
 use Rattle.clr_change.proofs.SetLemmas.{get-set_change}
-use Rattle.clr_differences.specs.Differences.{Differences, RowsByCell, seen_over}
-use Rattle.clr_differences.proofs.DifferenceLemmas.{row-seen_over}
+use Rattle.clr_deltas.specs.Differences.{Differences, RowsByCell, seen_over}
+use Rattle.clr_deltas.proofs.DifferenceLemmas.{row-seen_over}
 use Rattle.clr_contents.specs.Pinning.{set_each}
 
 -- the change at a cell where there is a difference, over what stood there

@@ -15,8 +15,8 @@ use Rattle.clr_rows.proofs.ChangeLemmas.{same_changes, get-changes, after_of, ro
 use Rattle.clr_rows.proofs.RowLemmas.{tied_cells}
 use Rattle.clr_change.specs.ChangeSets.{set_change, change_from}
 use Rattle.clr_change.proofs.SetLemmas.{get-set_change}
-use Rattle.clr_differences.specs.Differences.{Differences, is_among}
-use Rattle.clr_differences.proofs.DifferenceLemmas.{not_among}
+use Rattle.clr_deltas.specs.Differences.{Differences, is_among}
+use Rattle.clr_deltas.proofs.DifferenceLemmas.{not_among}
 use Rattle.std.proofs.lemmas.Grind.{take_at_read}
 use Rattle.clr_contents.specs.Comparing.{set_at}
 use Rattle.clr_contents.proofs.ChangeLemmas.{no_change}

@@ -6,9 +6,9 @@ use Rattle.clr_rows.specs.declared.cells.CellId.{CellId}
 use Rattle.clr_rows.specs.declared.rows.Row.{Row}
 use Rattle.clr_rows.specs.Cells.{cell_cmp}
 use Rattle.clr_rows.specs.Contents.{Content, row_at}
-use Rattle.clr_differences.specs.Differences.{Differences, no_differences, seen_over, without_neutral, swept_at, is_among, IsOwnOver}
-use Rattle.clr_differences.proofs.DifferenceLemmas.{row-seen_over}
-use Rattle.clr_differences.proofs.SweepLemmas.{seen-swept, seen-swept_at, own_swept, own_made, own_stays}
+use Rattle.clr_deltas.specs.Differences.{Differences, no_differences, seen_over, without_neutral, swept_at, is_among, IsOwnOver}
+use Rattle.clr_deltas.proofs.DifferenceLemmas.{row-seen_over}
+use Rattle.clr_deltas.proofs.SweepLemmas.{seen-swept, seen-swept_at, own_swept, own_made, own_stays}
 use Rattle.clr_workspaces.specs.Marks.{Saved, ChildMark}
 use Rattle.clr_workspaces.specs.Workspaces.{Workspace, workspace_at}
 use Rattle.clr_deltas.specs.Deltas.{Delta, delta_at, whole_mark, wholes, AreOwnOver, IsUnder}

@@ -4,8 +4,8 @@ use Rattle.std.specs.FinMap as finite
 use Rattle.std.proofs.lemmas.List.{length-map}
 use Rattle.clr_rows.specs.declared.cells.CellId.{CellId}
 use Rattle.clr_rows.specs.Contents.{Content, row_at}
-use Rattle.clr_differences.specs.Differences.{seen_over}
-use Rattle.clr_differences.proofs.DifferenceLemmas.{row-seen_over}
+use Rattle.clr_deltas.specs.Differences.{seen_over}
+use Rattle.clr_deltas.proofs.DifferenceLemmas.{row-seen_over}
 use Rattle.clr_workspaces.specs.Marks.{Mark, mark_at, is_saved, saved_content}
 use Rattle.clr_workspaces.specs.Workspaces.{Workspace, workspace_at}
 use Rattle.clr_deltas.specs.Deltas.{Delta, delta_at, whole_mark, wholes, stored_at, saved_differences}

@@ -8,10 +8,10 @@ use Rattle.std.specs.FinMap as finite
 use Rattle.clr_rows.specs.declared.cells.CellId.{CellId}
 use Rattle.clr_rows.specs.declared.rows.Row.{Row}
 use Rattle.clr_rows.specs.Contents.{Content, row_at, over}
-use Rattle.clr_differences.specs.Differences.{Differences, RowsByCell, seen_over, put_each, cells_in, is_among, HasDifference, IsOwnOver}
-use Rattle.clr_differences.proofs.DifferenceLemmas.{neutral, neutral_new, put_each_keeps, over_outside, not_among}
-use Rattle.clr_differences.proofs.DifferenceLemmas.{difference_stays, difference_stored, differences_keep}
-use Rattle.clr_differences.proofs.DifferenceLemmas.{put_elsewhere, put_each_elsewhere}
+use Rattle.clr_deltas.specs.Differences.{Differences, RowsByCell, seen_over, put_each, cells_in, is_among, HasDifference, IsOwnOver}
+use Rattle.clr_deltas.proofs.DifferenceLemmas.{neutral, neutral_new, put_each_keeps, over_outside, not_among}
+use Rattle.clr_deltas.proofs.DifferenceLemmas.{difference_stays, difference_stored, differences_keep}
+use Rattle.clr_deltas.proofs.DifferenceLemmas.{put_elsewhere, put_each_elsewhere}
 use Rattle.clr_workspaces.specs.Marks.{Name, Mark}
 use Rattle.clr_workspaces.specs.Workspaces.{Workspace, workspace_at, parent_of}
 use Rattle.clr_deltas.specs.Deltas.{Delta, no_delta, delta_at, delta_changed, whole_of, whole_mark, wholes, above_at, IsUnder, StayOwnBeside}

@@ -6,8 +6,8 @@ use Rattle.std.specs.Cmp.Lexicographic.{bytes_decides}
 use Rattle.clr_rows.specs.declared.cells.CellId.{CellId}
 use Rattle.clr_rows.specs.declared.rows.Row.{Row}
 use Rattle.clr_rows.specs.Contents.{Content, row_at, over}
-use Rattle.clr_differences.specs.Differences.{seen_over}
-use Rattle.clr_differences.proofs.DifferenceLemmas.{row-seen_over}
+use Rattle.clr_deltas.specs.Differences.{seen_over}
+use Rattle.clr_deltas.proofs.DifferenceLemmas.{row-seen_over}
 use Rattle.clr_workspaces.specs.Workspaces.{Workspace, workspace_at, find, parent_of}
 use Rattle.clr_deltas.specs.Deltas.{Delta, delta_at, find_delta, whole_of, whole_mark, wholes, above_at, IsUnder}
 use Rattle.clr_workspaces.proofs.FindLemmas.{find_named}

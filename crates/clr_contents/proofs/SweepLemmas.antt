@@ -8,8 +8,8 @@ use Rattle.std.proofs.Math.ListN.{get_or-map}
 use Rattle.std.proofs.Math.Seq.{map-set_same}
 use Rattle.clr_rows.specs.Contents.{Content, no_rows}
 use Rattle.clr_rows.specs.Names.{is_good_name}
-use Rattle.clr_differences.specs.Differences.{Differences, seen_over}
-use Rattle.clr_differences.proofs.SweepLemmas.{seen-swept}
+use Rattle.clr_deltas.specs.Differences.{Differences, seen_over}
+use Rattle.clr_deltas.proofs.SweepLemmas.{seen-swept}
 use Rattle.clr_workspaces.specs.Marks.{Name, Saved, ChildMark}
 use Rattle.clr_workspaces.specs.Workspaces.{Workspace, workspace_at, find, parent_of}
 use Rattle.clr_deltas.specs.Deltas.{Delta, no_delta, delta_at, delta_changed, find_delta, whole_of, whole_mark, top, content_by_name, above_in, grow, wholes}

@@ -4,7 +4,7 @@ use Rattle.std.specs.FinMap as finite
 use Rattle.clr_rows.specs.declared.cells.CellId.{CellId}
 use Rattle.clr_rows.specs.declared.rows.Row.{Row}
 use Rattle.clr_rows.specs.Contents.{Content, no_rows, row_at}
-use Rattle.clr_differences.specs.Differences.{is_among, IsOwnOver}
+use Rattle.clr_deltas.specs.Differences.{is_among, IsOwnOver}
 use Rattle.clr_deltas.specs.Deltas.{Delta, delta_at, wholes, swept_mark, swept_mark_at, AreOwnOver, IsUnder}
 use Rattle.clr_deltas.specs.declared.stored_marks.StoredMark.{StoredMark}
 use Rattle.clr_workspaces.specs.Workspaces.{Workspace, workspace_at, parent_of}

@@ -5,7 +5,7 @@ use Rattle.clr_rows.specs.declared.cells.CellId.{CellId}
 use Rattle.clr_rows.specs.declared.rows.Row.{Row}
 use Rattle.clr_rows.specs.Contents.{Content, Changes, row_at}
 use Rattle.clr_change.specs.ChangeSets.{set_change}
-use Rattle.clr_differences.specs.Differences.{RowsByCell, HasDifference, HasDifferences, is_among, IsOwnOver}
+use Rattle.clr_deltas.specs.Differences.{RowsByCell, HasDifference, HasDifferences, is_among, IsOwnOver}
 use Rattle.clr_workspaces.specs.Marks.{Name}
 use Rattle.clr_deltas.specs.Deltas.{Delta, delta_at, IsUnder, AreOwnOver}
 

@@ -13,8 +13,7 @@ ghost use Rattle.clr_contents.specs.Comparing.{set_at};
 
 use crate::views::{BaseView, ChangedView, SavedView, View};
 use clr_change::ChangeSet;
-use clr_deltas::{StoredMark, WorkspaceMap};
-use clr_differences::Differences;
+use clr_deltas::{Differences, StoredMark, WorkspaceMap};
 use clr_rows::{CellId, RowView, Sheet};
 use std::alloc::{AllocError, Global};
 

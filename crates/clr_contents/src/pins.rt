@@ -2,7 +2,7 @@
 
 ghost use Rattle.std.specs.Prelude.{◌≡◌, ◌<◌, ◌∷◌, [], length, OnOk};
 ghost use Rattle.std.specs.Str.{bytes_eq};
-ghost use Rattle.clr_differences.specs.Differences.{HasDifference, HasDifferences};
+ghost use Rattle.clr_deltas.specs.Differences.{HasDifference, HasDifferences};
 ghost use Rattle.clr_deltas.specs.Deltas.{delta_at, wholes, IsUnder, EachMarkPins};
 ghost use Rattle.clr_contents.specs.Pinning.{Extends, ChildrenPin, StayOwnBut, StayOwnButChildren};
 ghost use Rattle.clr_workspaces.specs.Roots.{IsRooted};

@@ -4,14 +4,13 @@ ghost use Rattle.std.specs.Prelude.{◌≡◌, ◌<◌, ◌||◌, length, nat_eq
 ghost use Rattle.std.specs.Str.{bytes_eq};
 ghost use Rattle.clr_deltas.specs.Deltas.{delta_at, delta_changed, wholes};
 ghost use Rattle.clr_workspaces.specs.Workspaces.{workspace_at};
-ghost use Rattle.clr_differences.specs.Differences.{without_neutral, swept_at};
+ghost use Rattle.clr_deltas.specs.Differences.{without_neutral, swept_at};
 ghost use Rattle.clr_workspaces.specs.Roots.{IsRooted};
 ghost use Rattle.clr_contents.specs.Lean.{content_of_parent, swept_marks, swept_marks_at, IsLean, IsLeanBeside, IsLeanBut, IsLeanOver};
 
 use crate::reads::parent_of;
 use crate::views::{BaseView, View};
-use clr_deltas::{WorkspaceMap, sweep_each, sweep_each_at};
-use clr_differences::Differences;
+use clr_deltas::{Differences, WorkspaceMap, sweep_each, sweep_each_at};
 use clr_rows::{CellId, Sheet};
 
 // No function here changes a content or takes memory.

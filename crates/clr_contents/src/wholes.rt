@@ -2,7 +2,7 @@
 
 ghost use Rattle.std.specs.Prelude.{◌≡◌, ◌<◌, true, length, IfOk};
 ghost use Rattle.clr_rows.specs.Contents.{changes, no_changes};
-ghost use Rattle.clr_differences.specs.Differences.{cells_in};
+ghost use Rattle.clr_deltas.specs.Differences.{cells_in};
 ghost use Rattle.clr_deltas.specs.Deltas.{delta_at, stored_at, saved_differences, wholes};
 ghost use Rattle.clr_workspaces.specs.Marks.{is_saved, mark_at, saved_content};
 ghost use Rattle.clr_workspaces.specs.Workspaces.{workspace_at};
@@ -11,8 +11,7 @@ ghost use Rattle.clr_workspaces.specs.Roots.{IsRooted};
 
 use crate::reads::{base_row_of, parent_of};
 use clr_change::ChangeSet;
-use clr_deltas::{StoredMark, WorkspaceMap};
-use clr_differences::Differences;
+use clr_deltas::{Differences, StoredMark, WorkspaceMap};
 use clr_rows::{CellId, Row, Sheet};
 use std::alloc::{AllocError, Global};
 

@@ -7,8 +7,8 @@ use Rattle.std.specs.Option.{option_or}
 use Rattle.std.specs.Str.{bytes_eq}
 use Rattle.std.specs.Cmp.Lexicographic.{bytes_decides}
 use Rattle.clr_rows.specs.Contents.{Content, no_rows, row_at}
-use Rattle.clr_differences.specs.Differences.{seen_over}
-use Rattle.clr_differences.proofs.DifferenceLemmas.{AgreeOutside, hidden}
+use Rattle.clr_deltas.specs.Differences.{seen_over}
+use Rattle.clr_deltas.proofs.DifferenceLemmas.{AgreeOutside, hidden}
 use Rattle.clr_workspaces.specs.Marks.{Name}
 use Rattle.clr_workspaces.specs.Workspaces.{Workspace}
 use Rattle.clr_deltas.specs.Deltas.{Delta, delta_at, whole_of, top, content_by_name, above_in, grow, wholes, whole_mark, above_at, IsUnder}

@@ -8,9 +8,9 @@ use Rattle.std.specs.Str.{bytes_eq}
 use Rattle.clr_rows.specs.declared.cells.CellId.{CellId}
 use Rattle.clr_rows.specs.declared.rows.Row.{Row}
 use Rattle.clr_rows.specs.Contents.{Content, no_rows}
-use Rattle.clr_differences.specs.Differences.{Differences, RowsByCell, HasDifference, IsOwnOver, coded_differences, is_among, no_differences, put_each}
-use Rattle.clr_differences.specs.Differences.{seen_over}
-use Rattle.clr_differences.specs.Differences.{without_neutral, swept_at}
+use Rattle.clr_deltas.specs.Differences.{Differences, RowsByCell, HasDifference, IsOwnOver, coded_differences, is_among, no_differences, put_each}
+use Rattle.clr_deltas.specs.Differences.{seen_over}
+use Rattle.clr_deltas.specs.Differences.{without_neutral, swept_at}
 use Rattle.clr_workspaces.specs.Marks.{Name, Mark, Saved, ChildMark, coded_name}
 use Rattle.clr_workspaces.specs.Workspaces.{Workspace, live_workspace}
 use Rattle.clr_deltas.specs.declared.stored_marks.StoredMark.{StoredMark}

@@ -1,7 +1,7 @@
 -- Marks and workspaces by their differences from what they lie over, at exactly the cells where they differ.
 use Rattle.std.specs.Prelude.{map}
 use Rattle.clr_rows.specs.Contents.{Content}
-use Rattle.clr_differences.specs.Differences.{differences_from}
+use Rattle.clr_deltas.specs.Differences.{differences_from}
 use Rattle.clr_deltas.specs.Deltas.{Delta}
 use Rattle.clr_workspaces.specs.Marks.{Mark, Saved, ChildMark}
 use Rattle.clr_workspaces.specs.Workspaces.{Workspace}

@@ -1,3 +1,4 @@
+pub mod Deltas
+pub mod Differences
 pub mod Differing
 pub mod NamedDeltas
-pub mod Deltas

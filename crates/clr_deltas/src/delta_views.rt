@@ -3,9 +3,9 @@
 ghost use Rattle.std.specs.Prelude.{◌≡◌};
 ghost use Rattle.clr_deltas.specs.NamedDeltas.{delta_under};
 
+use crate::differences::Differences;
 use crate::stored_marks::StoredMark;
 use crate::workspace_maps::Delta;
-use clr_differences::Differences;
 use std::marker::Model;
 
 /// What is stored of a workspace, seen under its name and not copied.

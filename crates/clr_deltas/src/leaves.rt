@@ -4,8 +4,8 @@ ghost use Rattle.std.specs.Prelude.{◌≡◌, ◌++◌, [], ◌∷◌, string_b
 ghost use Rattle.clr_rows.specs.Names.{live_name};
 ghost use Rattle.clr_deltas.specs.Deltas.{find_delta, leaf};
 
+use crate::differences::Differences;
 use crate::workspace_maps::{Delta, WorkspaceMap};
-use clr_differences::Differences;
 use clr_rows::{LIVE, Words};
 use std::alloc::{AllocError, Global};
 

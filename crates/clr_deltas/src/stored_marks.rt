@@ -8,7 +8,7 @@ ghost use Rattle.clr_deltas.specs.Deltas.{whole_mark, is_stored_child, is_stored
 ghost use Rattle.clr_deltas.specs.Deltas.{stored_without_mark_of, swept_mark, swept_mark_at, MarkPins, EachMarkPins, StayOwnBeside};
 ghost use Rattle.clr_deltas.specs.declared.stored_marks.StoredMark.TheVariants.{Child};
 
-use clr_differences::Differences;
+use crate::differences::Differences;
 use clr_rows::{CellId, Row, RowView, Words};
 use std::alloc::AllocError;
 

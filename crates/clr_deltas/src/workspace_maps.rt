@@ -6,17 +6,17 @@ ghost use Rattle.std.specs.Option.{option_copied};
 ghost use Rattle.std.specs.Str.{bytes_eq};
 ghost use Rattle.indexmap.specs.IndexMap.{values};
 ghost use Rattle.clr_rows.specs.Contents.{Content, row_at};
-ghost use Rattle.clr_differences.specs.Differences.{no_differences, put_each, cells_in, HasDifference, HasDifferences};
+ghost use Rattle.clr_deltas.specs.Differences.{no_differences, put_each, cells_in, HasDifference, HasDifferences};
 ghost use Rattle.clr_deltas.specs.Deltas.{delta_at, delta_changed, find_delta, stored_in, whole_mark, is_stored_child};
 ghost use Rattle.clr_deltas.specs.Deltas.{stored_without_mark_of, EachMarkPins, StayOwnBeside, rows_taken_over, restarted_with};
 ghost use Rattle.clr_deltas.specs.NamedDeltas.{delta_of};
 ghost use Rattle.clr_deltas.specs.declared.stored_marks.StoredMark.TheVariants.{Child};
 
 use crate::delta_views::DeltaView;
+use crate::differences::Differences;
 use crate::stored_marks::{
     StoredMark, cut_after, drop_mark, drop_mark_of, drop_saved, move_last, pin_each, push_mark,
 };
-use clr_differences::Differences;
 use clr_rows::{CellId, Row, Words};
 use indexmap::IndexMap;
 use std::alloc::{AllocError, Global};

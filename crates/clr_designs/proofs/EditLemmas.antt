@@ -21,7 +21,7 @@ use Rattle.clr_rows.proofs.Tests.{first, second}
 use Rattle.clr_change.specs.Edits.{after_edit, edit_fault, fault_or_later, first_bad_edit}
 use Rattle.clr_layer_changes.specs.Changes.{edit_of, edit_to, edits_between}
 use Rattle.clr_layer_changes.proofs.EditLemmas.{after_edit_to}
-use Rattle.clr_script_text.specs.ReadBack.{Fits}
+use Rattle.clr_designs.specs.ReadBack.{Fits}
 use Rattle.clr_designs.specs.Laws.{EditsFitLaw}
 
 -- a row that could stand at a cell tells that some row could

@@ -1,4 +1,6 @@
 pub mod DesignLemmas
+mod EditAgain
 pub mod EditLemmas
 pub mod LiveLemmas
 pub mod PerformLemmas
+mod ScriptAgain

@@ -10,7 +10,7 @@ use Rattle.clr_workspaces.specs.Workspaces.{live_workspace}
 use Rattle.clr_steps.specs.Invariants.{OfficeFits}
 use Rattle.clr_steps.specs.Offices.{Office}
 use Rattle.clr_layer_changes.specs.Changes.{edits_between}
-use Rattle.clr_script_text.specs.ReadBack.{Fits}
+use Rattle.clr_designs.specs.ReadBack.{Fits}
 use Rattle.clr_designs.specs.Designs.{AreDone, design_refusal, with_design}
 
 -- the edits that lead from one content to another fit the schema, if both contents do

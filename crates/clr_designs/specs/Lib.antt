@@ -1,2 +1,4 @@
 pub mod Designs
 pub mod Laws
+pub mod ReadBack
+pub mod Scripts

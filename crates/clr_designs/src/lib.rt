@@ -1,14 +1,22 @@
-//! Designs that have a wanted content, made as the two commands that make them; and LIVE with another content.
+//! Designs that have a wanted content, made as the two commands that make them; LIVE with another content; and the script that makes a design.
 //!
 //! - `make_design` creates a workspace under LIVE and makes the edits in it that lead to a content. The office is the same with one more
 //!   workspace, or the workspace can't be created, and nothing changes (`IsDesignMade`).
 //! - `replace_live` makes the edits in LIVE that lead to a content, unless that breaks a rule (`IsLiveReplaced`).
 //! - `designs_are_made`: the law that both commands are done, and what they leave; and that their edits fit the schema, so that the script which is
 //!   written of them is read back.
+//! - `write_design_script` [`written`, `read_back`] writes that script from the design's name, its root and its edits: the exact bytes, memory
+//!   aside. Where each edit fits the schema, they are read as the two steps that make the design. `design_script_is_read_back`: the law that every
+//!   such text is read as these two steps.
 #![tactic(auto)]
 
 mod designs;
+mod fields;
 mod laws;
+mod script_laws;
+mod writing;
 
 pub use designs::{make_design, replace_live};
 pub use laws::designs_are_made;
+pub use script_laws::design_script_is_read_back;
+pub use writing::write_design_script;

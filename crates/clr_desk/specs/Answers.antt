@@ -3,7 +3,7 @@ use Rattle.std.specs.Prelude.{◌≡◌, ◌∷◌, ◌||◌, ◌⊎◌, ℕ, Bo
 use Rattle.std.specs.List.{list_any}
 use Rattle.std.specs.Io.KnownBytes.{Appends}
 use Rattle.clr_merge_sets.specs.MergeSetNames.{merge_set}
-use Rattle.clr_check_texts.specs.Cases.{case_of}
+use Rattle.clr_check.specs.Cases.{case_of}
 use Rattle.clr_drafts.specs.Drafts.{draft_in}
 use Rattle.clr_layer_changes.specs.declared.options.GivenLayer.{GivenLayer}
 use Rattle.clr_office.specs.Answers.{is_too_long}
@@ -21,8 +21,8 @@ use Rattle.clr_prints.specs.NameHints.{IsHinted}
 use Rattle.clr_desk.specs.Orders.{IsOrderPrint}
 use Rattle.clr_prints.specs.Printing.{IsPrintoutFault, IsPrintoutIn, IsPrintoutOfCase, Printout, PrintoutOrFault}
 use Rattle.clr_desk.specs.Whys.{IsWhyPrint}
-use Rattle.clr_desk_pages.specs.Maps.{IsMapPrint}
-use Rattle.clr_desk_pages.specs.Reports.{IsReportPrint}
+use Rattle.clr_prints.specs.Maps.{IsMapPrint}
+use Rattle.clr_prints.specs.Reports.{IsReportPrint}
 
 -- what is to be printed for what is asked of an office text, a second text and layers
 abbrev pub IsDeskAnswerWithin : Ask → List ℕ → List ℕ → List GivenLayer → PrintoutOrFault → Type 0

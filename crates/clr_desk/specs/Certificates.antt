@@ -6,7 +6,7 @@ use Rattle.clr_steps.specs.Quiet.{MergeSet}
 use Rattle.clr_plan.specs.declared.plans.Plan.{Plan}
 use Rattle.clr_plan.specs.declared.plans.Plan.TheVariants as plan
 use Rattle.clr_plan.specs.Promises.{is_out_of_memory}
-use Rattle.clr_plan_lines.specs.Plans.{plan_text}
+use Rattle.clr_plan.specs.PlanLines.{plan_text}
 use Rattle.clr_office.specs.Outcomes.{IsPlanned}
 use Rattle.clr_prints.specs.Printing.{PrintoutOrFault, printout_of}
 

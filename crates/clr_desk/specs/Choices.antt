@@ -12,7 +12,7 @@ use Rattle.clr_merge_sets.specs.MergeSetNames.{merge_set}
 use Rattle.clr_plan.specs.declared.plans.Plan.{Plan}
 use Rattle.clr_plan.specs.declared.plans.Plan.TheVariants as plan
 use Rattle.clr_plan.specs.Promises.{is_cleared, is_out_of_memory}
-use Rattle.clr_plan_lines.specs.Plans.{plan_text}
+use Rattle.clr_plan.specs.PlanLines.{plan_text}
 use Rattle.clr_office.specs.Outcomes.{IsPlanned}
 use Rattle.clr_desk.specs.Certificates.{plan_print}
 use Rattle.clr_prints.specs.Printing.{PrintoutOrFault, printout_of}

@@ -2,7 +2,7 @@
 use Rattle.std.specs.Prelude.{◌≡◌, ◌==◌, ℕ, not, false, List, [], filter, Ok}
 use Rattle.clr_steps.specs.Offices.{Office}
 use Rattle.clr_drafts.specs.Drafts.{draft_in}
-use Rattle.clr_office_writer.specs.Writing.{bytes_of}
+use Rattle.clr_drafts.specs.Writing.{bytes_of}
 use Rattle.clr_prints.specs.Printing.{PrintoutOrFault, printout_of}
 
 -- a text without its line ends

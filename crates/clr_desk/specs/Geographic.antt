@@ -6,9 +6,9 @@ use Rattle.clr_desk_command_line.specs.declared.asks.GeographicAsk.{GeographicAs
 use Rattle.clr_desk_command_line.specs.declared.asks.GeographicAsk.TheVariants as ask
 use Rattle.clr_layer_changes.specs.declared.options.GivenLayer.{GivenLayer}
 use Rattle.clr_layer_changes.specs.declared.options.LayerOptions.{LayerOptions}
-use Rattle.clr_desk_designs.specs.Designs.{IsDesignPrint, IsDesignScriptPrint, IsOfficePrint}
-use Rattle.clr_desk_features.specs.Features.{IsFeaturesAnswer}
-use Rattle.clr_desk_layers.specs.Layers.{IsLayerPrint}
+use Rattle.clr_prints.specs.Designs.{IsDesignPrint, IsDesignScriptPrint, IsOfficePrint}
+use Rattle.clr_prints.specs.Features.{IsFeaturesAnswer}
+use Rattle.clr_prints.specs.Layers.{IsLayerPrint}
 use Rattle.clr_prints.specs.NameHints.{IsHinted}
 use Rattle.clr_prints.specs.Printing.{IsPrintoutIn, PrintoutOrFault}
 

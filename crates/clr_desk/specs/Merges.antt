@@ -10,7 +10,7 @@ use Rattle.clr_cert.specs.declared.certificates.Certificate.{Certificate}
 use Rattle.clr_check.specs.Answers.{IsRefusingVerdict}
 use Rattle.clr_merge_sets.specs.Certificates.{entries_in, merge_set_of}
 use Rattle.clr_lines.specs.Replies.{reply_text}
-use Rattle.clr_verdict_lines.specs.Verdicts.{verdict_text}
+use Rattle.clr_lines.specs.Verdicts.{verdict_text}
 use Rattle.clr_office.specs.Clearances.{AreMerged, is_clear, is_without_memory, stop_text}
 use Rattle.clr_reports.specs.Outcomes.{dump_text, is_refused}
 use Rattle.clr_prints.specs.NameHints.{IsHinted}

@@ -16,10 +16,8 @@ use crate::merges::answer_merge;
 use crate::orders::answer_work_order;
 use crate::whys::answer_why;
 use clr_desk_command_line::Ask;
-use clr_desk_designs::GivenLayer;
-use clr_desk_pages::{answer_map, answer_report};
 use clr_office::{MOST_INPUT_BYTES, RunFault, Sink};
-use clr_prints::Print;
+use clr_prints::{GivenLayer, Print, answer_map, answer_report};
 use std::alloc::Global;
 
 /// Returns what is printed for what is asked of two texts and of layers.

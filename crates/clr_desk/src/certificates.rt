@@ -10,7 +10,7 @@ ghost use Rattle.clr_prints.specs.Printing.{IsMadePrintout, IsPrintoutIn, printe
 use clr_cert::write_certificate;
 use clr_engine::Office;
 use clr_office::{Plan, RunFault, Words, open_office, texts};
-use clr_plan_lines::plan_lines;
+use clr_plan::plan_lines;
 use clr_prints::{Print, is_out_of_memory, notes_of, plan_members, with_hints};
 use std::alloc::{AllocError, Global};
 

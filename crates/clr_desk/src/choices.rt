@@ -16,7 +16,7 @@ use crate::names_lines::names_line;
 use clr_cert::{Certificate, write_certificate};
 use clr_engine::Office;
 use clr_office::{Plan, RunFault, Words, open_office, texts};
-use clr_plan_lines::plan_lines;
+use clr_plan::plan_lines;
 use clr_prints::{Print, notes_of, plan_members, with_hints};
 use clr_rows::Schema;
 use std::alloc::{AllocError, Global};

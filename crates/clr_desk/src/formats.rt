@@ -4,9 +4,9 @@ ghost use Rattle.clr_drafts.specs.Drafts.{draft_in};
 ghost use Rattle.clr_desk.specs.Formats.{IsFormatPrint, IsInLines, without_line_ends};
 ghost use Rattle.clr_prints.specs.Printing.{IsMadePrintout, IsPrintoutIn, printed};
 
+use clr_drafts::write_office;
 use clr_engine::Office;
 use clr_office::{RunFault, open_office};
-use clr_office_writer::write_office;
 use clr_prints::{Print, notes_of};
 use std::alloc::{AllocError, Global};
 

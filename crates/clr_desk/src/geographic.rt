@@ -4,13 +4,11 @@ ghost use Rattle.clr_desk.specs.Geographic.{IsGeographicAnswer};
 ghost use Rattle.clr_prints.specs.Printing.{IsMadePrintout};
 
 use clr_desk_command_line::GeographicAsk;
-use clr_desk_designs::{
-    GivenLayer, LayerOptions, answer_design, answer_design_script, answer_office,
-};
-use clr_desk_features::answer_geojson;
-use clr_desk_layers::answer_layer;
 use clr_office::RunFault;
-use clr_prints::Print;
+use clr_prints::{
+    GivenLayer, LayerOptions, Print, answer_design, answer_design_script, answer_geojson,
+    answer_layer, answer_office,
+};
 use std::alloc::Global;
 
 /// Returns what is printed for what is asked of an office text and layers in the texts of geographic information systems.

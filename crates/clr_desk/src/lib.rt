@@ -42,5 +42,5 @@ mod whys;
 
 pub use answers::answer;
 pub use clr_desk_command_line::{Ask, AskFault, GeographicAsk, ask_of};
-pub use clr_desk_designs::GivenLayer;
+pub use clr_prints::GivenLayer;
 pub use fault_places::fault_place;

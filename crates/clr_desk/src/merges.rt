@@ -1,12 +1,11 @@
 //! Merges that a certificate clears, and the office that they leave.
 ghost use Rattle.std.specs.Prelude.{◌≡◌, IfOk};
-ghost use Rattle.clr_check_texts.specs.Cases.{case_of};
+ghost use Rattle.clr_check.specs.Cases.{case_of};
 ghost use Rattle.clr_desk.specs.Merges.{IsHintedMerge, IsMergePrintout, merge_print};
 ghost use Rattle.clr_prints.specs.Printing.{IsMadePrintout, IsPrintoutOfCase, printed};
 
 use clr_cert::Certificate;
-use clr_check::{ClearedRun, perform_cleared};
-use clr_check_texts::read_case;
+use clr_check::{ClearedRun, perform_cleared, read_case};
 use clr_engine::Office;
 use clr_office::{
     RunFault, Words, dump_text, fault_output, merge_commands, replies_output, stop_output,

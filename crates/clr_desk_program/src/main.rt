@@ -6,7 +6,7 @@
 
 use clr_desk::{Ask, AskFault, GeographicAsk, GivenLayer, answer, ask_of, fault_place};
 use clr_office::{Port, RunFault, Sink, Words};
-use clr_terminal::{BAD_WORDS, read_files, refuse, refuse_words, text_at, texts, words};
+use clr_reports::{BAD_WORDS, read_files, refuse, refuse_words, text_at, texts_of_words, words};
 use std::io::ErrorKind;
 use std::process::ExitCode;
 
@@ -78,7 +78,7 @@ fn answer_files(rt: &HostRuntime, ask: &Ask, files: &[Words]) -> Result<u8, RunF
 
 /// Does what the words ask for, and gives the exit status.
 fn run_words(rt: &HostRuntime, words: &[String]) -> Result<u8, RunFault> {
-    let texts = texts(rt, words)?;
+    let texts = texts_of_words(rt, words)?;
     match ask_of(rt.alloc(), texts.as_slice()) {
         Ok((ask, files)) => answer_files(rt, &ask, files.as_slice()),
         Err(AskFault::Refused(error)) => Ok(refuse_words(rt, &error)),

@@ -10,8 +10,8 @@ use Rattle.clr_rows.specs.declared.tables.TableDef.{TableDef}
 use Rattle.clr_rows.specs.Contents.{Content, no_rows, row_at}
 use Rattle.clr_rows.specs.Schemas.{FitsSchema, row_fault}
 use Rattle.clr_rows.proofs.FitLemmas.{none_fit}
-use Rattle.clr_differences.specs.Differences.{Differences, seen_over}
-use Rattle.clr_differences.proofs.DifferenceLemmas.{row-seen_over}
+use Rattle.clr_deltas.specs.Differences.{Differences, seen_over}
+use Rattle.clr_deltas.proofs.DifferenceLemmas.{row-seen_over}
 use Rattle.clr_deltas.specs.Deltas.{Delta, grow, content_by_name, whole_mark, whole_of, workspaces_over}
 use Rattle.clr_workspaces.specs.Marks.{Name, mark_at, saved_content}
 use Rattle.clr_workspaces.specs.Workspaces.{Workspace, live_workspace, workspace_at}

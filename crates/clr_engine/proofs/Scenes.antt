@@ -15,14 +15,14 @@ use Rattle.clr_needs.specs.Broken.{view_after_merge}
 use Rattle.clr_foot.specs.Scenes.{IsReady, SceneModel, setting_of}
 use Rattle.clr_steps.specs.Refusals.{first_broken}
 use Rattle.clr_rules.specs.declared.rules.Rule.{Rule}
-use Rattle.clr_row_maps.specs.RowMaps.{FiledRows}
+use Rattle.clr_finders.specs.RowMaps.{FiledRows}
 use Rattle.clr_needs.specs.declared.needs.VersionId.{VersionId}
 use Rattle.clr_needs.specs.Members.{after_in, after_of, setting}
 use Rattle.clr_needs.specs.Settings.{Lived, changer, held_row, new_row, new_version, old_version, version}
 use Rattle.clr_versions.specs.Versions.{FitsSetting}
 use Rattle.clr_workspaces.specs.Workspaces.{Workspace}
-use Rattle.clr_kept_finders.specs.Finders.{IsFinderAt, IsFinderOf, kept_content}
-use Rattle.clr_kept_finders.specs.Fitting.{FitBoth}
+use Rattle.clr_grid.specs.Finders.{IsFinderAt, IsFinderOf, kept_content}
+use Rattle.clr_grid.specs.Fitting.{FitBoth}
 
 module _ (book : List Rule) (content : Content) (changed : Changes) (fit : FitBoth book content (taken_over content changed)) where
   old_fits : (q : CellId) (row : Option Row) (n : Option ℕ) (l : Lived ℕ) → row_at content q ≡ row → old_version n row ≡ Some l → FitsCell fit.tables (q, l.row)

@@ -4,7 +4,7 @@ ghost use Rattle.std.specs.Prelude.{◌≡◌, None, option_map, IfOk, IfErr, On
 ghost use Rattle.clr_steps.specs.Offices.{office_of};
 ghost use Rattle.clr_steps.specs.Readings.{name_at};
 ghost use Rattle.clr_parts.specs.Parts.{first_fault, IsFirstPartFault};
-ghost use Rattle.clr_kept_finders.specs.Fitting.{IsFitting};
+ghost use Rattle.clr_grid.specs.Fitting.{IsFitting};
 ghost use Rattle.clr_engine.specs.Drafts.{IsUnheld, office_of_parts, unheld_in};
 
 use crate::judges::Judge;
@@ -17,16 +17,26 @@ use std::marker::Model;
 
 /// A database whose rules aren't yet known to hold: its schema, its rules, LIVE's content and the
 /// workspaces under LIVE. The rules and each row of each content fit the schema.
-#[derive(Drop)]
 pub struct Draft {
     schema: Schema,
     judge: Judge,
     tree: Tree,
 }
 
+// (so that who lets a draft go calls this, and needn't prove anew how each of its parts is dropped)
+impl Drop for Draft {
+    fn drop(self) {
+        let Draft {
+            schema: _schema,
+            judge: _judge,
+            tree: _tree,
+        } = self;
+    }
+}
+
 impl Model for Draft {
     ghost use Rattle.clr_steps.specs.Offices.{Office as Whole, office_code, office_of};
-    ghost use Rattle.clr_kept_finders.specs.Fitting.{IsFitting};
+    ghost use Rattle.clr_grid.specs.Fitting.{IsFitting};
 
     ghost Value = { Whole };
 
@@ -132,9 +142,13 @@ impl Draft {
     {
         match self.judge.finders(&self.tree) {
             Ok(Ok(finders)) => {
-                let mut tree = self.tree;
+                let Draft {
+                    schema,
+                    judge,
+                    mut tree,
+                } = self;
                 tree.sweep();
-                Ok(Office::of_parts(self.schema, self.judge, tree, finders))
+                Ok(Office::of_parts(schema, judge, tree, finders))
             }
             Ok(Err((position, need))) => Err((self, AdmitFault::Broken { position, need })),
             Err(_) => Err((self, AdmitFault::OutOfMemory)),

@@ -9,17 +9,16 @@ ghost use Rattle.clr_workspaces.specs.Soundness.{IsSound};
 ghost use Rattle.clr_steps.specs.Offices.{content_of, is_kept, office_of, stands};
 ghost use Rattle.clr_steps.specs.Readings.{changes_in, conflicts_in, if_stands, name_at, parent_in, stored_in};
 ghost use Rattle.clr_steps.specs.Steps.{is_lost, lost_in, run, IsAnswer, TakesNoMemory};
-ghost use Rattle.clr_kept_finders.specs.Fitting.{IsAdmitted};
+ghost use Rattle.clr_grid.specs.Fitting.{IsAdmitted};
 ghost use Rattle.clr_engine.specs.Drafts.{delta_in, part_at};
-ghost use Rattle.clr_kept_finders.specs.Finders.{AreFinders, IsFinderAt, IsPositionOf, current_at, kept_content_at, kept_contents};
+ghost use Rattle.clr_grid.specs.Finders.{AreFinders, IsFinderAt, IsPositionOf, current_at, kept_content_at, kept_contents};
 ghost use Rattle.clr_engine.specs.Trees.{IsSwept};
 
 use crate::commands::perform;
 use crate::conflicts::conflicting_cells;
 use crate::judges::Judge;
 use clr_change::ChangeSet;
-use clr_grid::SpotIndex;
-use clr_kept_finders::Finders;
+use clr_grid::{Finders, SpotIndex};
 use clr_rows::{CellId, Row, Schema, Sheet};
 use clr_rules::RuleBook;
 use clr_steps::{Command, Reply};
@@ -30,7 +29,6 @@ use std::marker::Model;
 /// A database: its schema, its rules, LIVE's content and the workspaces under LIVE. The rules and
 /// each row of each content fit the schema, and every rule holds in LIVE and in each workspace that
 /// is kept.
-#[derive(Drop)]
 pub struct Office {
     schema: Schema,
     judge: Judge,
@@ -38,10 +36,22 @@ pub struct Office {
     finders: Finders,
 }
 
+// (so that who lets an office go calls this, and needn't prove anew how each of its parts is dropped)
+impl Drop for Office {
+    fn drop(self) {
+        let Office {
+            schema: _schema,
+            judge: _judge,
+            tree: _tree,
+            finders: _finders,
+        } = self;
+    }
+}
+
 impl Model for Office {
     ghost use Rattle.clr_steps.specs.Offices.{Office as Whole, office_code, office_of};
-    ghost use Rattle.clr_kept_finders.specs.Fitting.{IsAdmitted};
-    ghost use Rattle.clr_kept_finders.specs.Finders.{AreFinders, kept_contents};
+    ghost use Rattle.clr_grid.specs.Fitting.{IsAdmitted};
+    ghost use Rattle.clr_grid.specs.Finders.{AreFinders, kept_contents};
     ghost use Rattle.clr_engine.specs.Trees.{IsSwept};
 
     ghost Value = { Whole };

@@ -8,7 +8,7 @@ use Rattle.clr_rule_text.specs.Fields.{text_lacks_memory}
 use Rattle.clr_office_text.specs.Offices.{OfficeText, office_in}
 use Rattle.clr_rule_text.specs.declared.faults.TextFault.{TextFault}
 use Rattle.clr_rule_text.specs.declared.faults.TextFault.TheVariants as fault
-use Rattle.clr_item_faults.proofs.Lost.{fails_exactly}
+use Rattle.clr_faults.proofs.Lost.{fails_exactly}
 use Rattle.clr_explanations.specs.Standing.{IsStandingFault, standing_fault}
 use Rattle.clr_explanations.proofs.NamedFaults.{of_ok}
 

@@ -11,7 +11,7 @@ use Rattle.clr_office_text.specs.Offices.{format_of, schema_of}
 use Rattle.clr_rule_text.specs.declared.faults.TextFault.{TextFault}
 use Rattle.clr_rule_text.specs.declared.faults.TextFault.TheVariants as fault
 use Rattle.clr_office_text.specs.declared.formats.Format.{Format}
-use Rattle.clr_item_faults.specs.InnerFaults.{book_fault_of, put_fault_of, tables_fault_of}
+use Rattle.clr_faults.specs.InnerFaults.{book_fault_of, put_fault_of, tables_fault_of}
 use Rattle.clr_item_explanations.specs.FaultNames.{BeginsWithName, rule_fault_name, schema_fault_name}
 use Rattle.clr_faults.specs.Spots.{IsFoundIn, value_in}
 use Rattle.clr_faults.specs.declared.spots.Spot.{Spot}

@@ -4,8 +4,7 @@ ghost use Rattle.serde_json.specs.View.{view};
 ghost use Rattle.clr_faults.specs.Stages.{list_item_of};
 ghost use Rattle.clr_explanations.specs.Items.{item_at_spot, item_in_workspace, saved_item};
 
-use clr_faults::Spot;
-use clr_item_faults::unless_lost;
+use clr_faults::{Spot, unless_lost};
 use clr_office_text::fields::optional_list;
 use serde_json::Value as Json;
 use std::alloc::AllocError;

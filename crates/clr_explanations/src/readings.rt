@@ -4,7 +4,7 @@ ghost use Rattle.serde_json.specs.View.{view};
 ghost use Rattle.clr_office_text.specs.Offices.{format_of};
 ghost use Rattle.clr_explanations.specs.Remarks.{tables_in};
 
-use clr_item_faults::unless_lost;
+use clr_faults::unless_lost;
 use clr_office_text::formats::{Format, read_format};
 use clr_office_text::reading::schema;
 use clr_rows::Schema;

@@ -6,9 +6,8 @@ ghost use Rattle.clr_item_explanations.specs.FaultNames.{BeginsWithName, part_fa
 
 use crate::places::remark_of;
 use clr_fault_lines::Remark;
-use clr_faults::Spot;
+use clr_faults::{Spot, unless_lost};
 use clr_item_explanations::{Slip, explain_part, items_at};
-use clr_item_faults::unless_lost;
 use clr_office_text::read_office;
 use clr_places::Key;
 use clr_tree::{PartFault, Tree};

@@ -1,3 +1,6 @@
+pub mod FirstLaws
+pub mod Firsts
 pub mod InWorkspaces
+pub mod Lost
 pub mod PlacedItems
 pub mod Values

@@ -8,7 +8,7 @@ use Rattle.serde_json.specs.Find.{get}
 use Rattle.serde_json.specs.View.{view, items_view}
 use Rattle.serde_json.specs.declared.value.Value.{Value as Json}
 use Rattle.clr_rule_text.specs.Fields.{list_or_none}
-use Rattle.clr_item_faults.specs.FirstFaults.{item_at}
+use Rattle.clr_faults.specs.FirstFaults.{item_at}
 use Rattle.clr_faults.specs.Stages.{list_item_of}
 
 item_got : (vs : List Json) (i : ℕ) → item_at (items_view vs) i ≡ option_map view (slice_get vs i)

@@ -13,7 +13,7 @@ use Rattle.clr_office_text.specs.Offices.{format_of, schema_of}
 use Rattle.clr_office_text.specs.Patches.{differences_at}
 use Rattle.clr_rule_text.specs.Rules.{rules_of}
 use Rattle.clr_office_text.specs.Workspaces.{head_of}
-use Rattle.clr_item_faults.specs.FirstFaults.{item_at}
+use Rattle.clr_faults.specs.FirstFaults.{item_at}
 use Rattle.clr_faults.specs.Parts.{cell_fault_at, live_fault, mark_fault, first_rule_fault, table_fault, workspace_fault}
 
 -- what can be read

@@ -6,12 +6,12 @@ ghost use Rattle.clr_office_text.specs.Offices.{office_in};
 ghost use Rattle.clr_faults.specs.Behind.{BehindLive, BehindRules, BehindTables};
 ghost use Rattle.clr_faults.specs.Spots.{IsFaultAt, IsFoundIn};
 
+use crate::memory::unless_lost;
 use crate::parts::{live_fault, rule_fault, table_fault, workspace_fault};
 use crate::read_parts::{has_live, has_rules, known_format, known_schema};
 use crate::spots::Spot;
 use crate::texts::{FaultyText, place_with};
 use crate::workspaces::spot_at_workspace;
-use clr_item_faults::unless_lost;
 use clr_office_text::{TextFault, read_office};
 use serde_json::Value as Json;
 use std::alloc::{AllocError, Global};

@@ -4,7 +4,7 @@ ghost use Rattle.std.specs.Prelude.{◌≡◌, Ok, IfOk, IsErr, MatchOption};
 ghost use Rattle.serde_json.specs.View.{view};
 ghost use Rattle.clr_faults.specs.Stages.{list_item_of};
 
-use clr_item_faults::unless_lost;
+use crate::memory::unless_lost;
 use clr_office_text::fields::optional_list;
 use serde_json::Value as Json;
 use std::alloc::AllocError;

@@ -9,7 +9,7 @@ ghost use Rattle.clr_rule_text.specs.Rules.{rules_of};
 ghost use Rattle.clr_office_text.specs.Workspaces.{head_of};
 ghost use Rattle.clr_faults.specs.Stages.{known, savepoint_of};
 
-use clr_item_faults::unless_lost;
+use crate::memory::unless_lost;
 use clr_office_text::fields::words_in;
 use clr_office_text::formats::{Format, read_format};
 use clr_office_text::live::live;

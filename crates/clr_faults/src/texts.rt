@@ -2,7 +2,7 @@
 
 ghost use Rattle.std.specs.Prelude.{◌≡◌, ◌≢◌, ℕ, Some, MatchOption};
 
-use clr_item_faults::FirstFault;
+use crate::first_faults::FirstFault;
 use clr_office_text::TextFault;
 use clr_office_text::formats::Format;
 use clr_rows::Schema;

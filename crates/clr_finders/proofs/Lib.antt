@@ -1,5 +1,8 @@
 pub mod CommonSpots
 pub mod CountedLists
+pub mod FoundLemmas
+pub mod MapLemmas
+pub mod NextInTree
 pub mod NextLemmas
 pub mod PassingCells
 pub mod SharingLemmas

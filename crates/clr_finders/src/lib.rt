@@ -1,4 +1,5 @@
-//! What finders of rows promise: the cells of the rows that share a spot with a row under a rule.
+//! What finders of rows promise: the cells of the rows that share a spot with a row under a rule; and
+//! the spots of rows by cell, from which a finder is made.
 //!
 //! - `RowFinder` is the contract of every finder; `clr_grid` has two bodies of it. `without_rows`
 //!   [`settled`, `pending`] makes one without rows. `sharing` answers which rows share a spot with a
@@ -13,18 +14,30 @@
 //!   `lesser_cell`: the lesser of two cells, or the one that there is.
 //! - `finders_find_what_shares` and `finders_find_servers` say what is found where a finder has the
 //!   rows of a content.
+//! - `RowMap` keeps the spots of rows by cell, for one book of rules: those that are settled, and
+//!   pending changes. `new` makes one without rows. `put` [`ok`, `err`] adds a settled row; `note`
+//!   [`ok`, `err`] adds a pending change, or nothing, and makes room for its row. So `settle` and
+//!   `settle_at` [`before`, `after`], which take changes over, and `forget` and `forget_at` [`before`,
+//!   `after`], which drop them, take no memory. `settled_row`, `pending_row` and `first_pending` read.
+//!   `find_all` answers the cells whose rows share with a row under a rule, ascending and each once;
+//!   `find_among` looks for them among cells that are given. `next_cell` goes over the cells with
+//!   rows one by one, without memory; `bound_behind` is where such a search goes on.
 #![tactic(auto)]
 
+mod bounds;
 mod finders;
 mod laws;
 mod meetings;
 mod next_cells;
+mod row_maps;
 mod row_spots;
 mod sides;
 
+pub use bounds::bound_behind;
 pub use finders::RowFinder;
 pub use laws::{finders_find_servers, finders_find_what_shares};
 pub use meetings::is_met;
 pub use next_cells::lesser_cell;
+pub use row_maps::RowMap;
 pub use row_spots::{RowSpots, RuleSpots, row_spots_at};
 pub use sides::may_serve;

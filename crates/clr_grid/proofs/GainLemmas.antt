@@ -16,7 +16,7 @@ use Rattle.clr_spots.specs.declared.spots.Spot.{Spot}
 use Rattle.clr_finders.specs.declared.row_spots.RuleSpots.{RuleSpots}
 use Rattle.clr_grid.specs.declared.side_index.SideIndex.{SideIndex}
 use Rattle.clr_grid.specs.CellSets.{Cells, with_listed_cells}
-use Rattle.clr_row_maps.specs.CellLists.{is_one_of}
+use Rattle.clr_finders.specs.CellLists.{is_one_of}
 use Rattle.clr_grid.specs.Filing.{At, ByNumber, Wide, has_cell}
 use Rattle.clr_grid.specs.Gains.{GainsCells, IsFoundFor}
 use Rattle.clr_grid.proofs.FilingLemmas.{any_more, number_itself}

@@ -17,18 +17,18 @@ use Rattle.clr_spots.specs.declared.spots.Spot.{Spot}
 use Rattle.clr_spots.specs.Spots.{have_common_spot}
 use Rattle.clr_rules.proofs.Elements.{some_of, any_by}
 use Rattle.clr_grid.specs.CellSets.{is_one}
-use Rattle.clr_row_maps.specs.CellLists.{is_one_of}
+use Rattle.clr_finders.specs.CellLists.{is_one_of}
 use Rattle.clr_grid.specs.Filing.{Key, Wide, At, has_key, is_filed, is_filed_under, is_looked_at, side_index_of, keeps_number, keeps_wide, same_side, of_side}
 use Rattle.clr_grid.specs.Filing.{spots_at, stays, IsFiledRow, IsFiledIfAny, AreFiled, AreOfRows, AreGone, GainNone, GainOnly, HasRowFor, HoldCells}
 use Rattle.clr_grid.specs.Filing.{AllHoldCells}
 use Rattle.clr_grid.specs.Filing.{StayFiled, StayFiledBut, AreNear, has_key_of, has_key_under}
-use Rattle.clr_row_maps.specs.RowMaps.{FiledRows, RowOrNone, IsRowAt, no_filed_rows, with_pending, with_settled_row, with_settled, without_pending}
+use Rattle.clr_finders.specs.RowMaps.{FiledRows, RowOrNone, IsRowAt, no_filed_rows, with_pending, with_settled_row, with_settled, without_pending}
 use Rattle.clr_finders.specs.Sharing.{are_meeting, is_met, is_met_at}
 use Rattle.clr_finders.specs.declared.row_spots.RuleSpots.{RuleSpots}
 use Rattle.clr_grid.specs.declared.rule_index.RuleIndex.{RuleIndex}
 use Rattle.clr_grid.specs.SpotNumbers.{has_number, spot_number_of}
 use Rattle.clr_grid.proofs.FilingLemmas.{number_itself}
-use Rattle.clr_row_maps.proofs.MapLemmas.{get_set_at}
+use Rattle.clr_finders.proofs.MapLemmas.{get_set_at}
 
 -- ---- lists of indexes
 pub filed_append : (xs : List RuleIndex) (x : RuleIndex) → StayFiled xs (xs ++ x ∷ [])

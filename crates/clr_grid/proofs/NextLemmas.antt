@@ -20,16 +20,16 @@ use Rattle.clr_finders.specs.declared.row_spots.RuleSpots.{RuleSpots}
 use Rattle.clr_finders.specs.NextCells.{IsBehind, IsNextOf, lesser_cell}
 use Rattle.clr_finders.specs.Sharing.{found_cells}
 use Rattle.clr_finders.proofs.NextLemmas.{found_met, next_as, next_of_two}
-use Rattle.clr_row_maps.specs.CellLists.{is_one_of}
+use Rattle.clr_finders.specs.CellLists.{is_one_of}
 use Rattle.clr_grid.specs.Filing.{Wide, At, has_cell}
 use Rattle.clr_grid.specs.Gains.{IsFoundFor}
-use Rattle.clr_row_maps.specs.NextCells.{bound_behind}
-use Rattle.clr_row_maps.specs.RowMaps.{FiledRows}
+use Rattle.clr_finders.specs.CellBounds.{bound_behind}
+use Rattle.clr_finders.specs.RowMaps.{FiledRows}
 use Rattle.clr_grid.specs.SpotNumbers.{has_number, spot_number_of}
 use Rattle.clr_grid.specs.declared.side_index.SideIndex.{SideIndex}
 use Rattle.clr_grid.proofs.FilingLemmas.{any_more, tied_number}
-use Rattle.clr_row_maps.proofs.FoundLemmas.{met_there}
-use Rattle.clr_row_maps.proofs.NextLemmas.{from_bound, to_bound}
+use Rattle.clr_finders.proofs.FoundLemmas.{met_there}
+use Rattle.clr_finders.proofs.NextInTree.{from_bound, to_bound}
 
 -- ---- the first key of a range of a tree
 first_key : (after : Option CellId) (s : BTreeSet CellId) (r : List CellId) → IsKeyRangeOf cell_cmp (bound_behind after) Unbounded s r

@@ -17,7 +17,7 @@ use Rattle.clr_rows.proofs.CellOrder.{cell_cmp_total, cell_cmp_exact}
 use Rattle.clr_rules.proofs.Elements.{among, any_by, contained}
 use Rattle.clr_finders.proofs.PassingCells.{one_among}
 use Rattle.clr_grid.specs.CellSets.{Cells, with_listed_cells}
-use Rattle.clr_row_maps.specs.CellLists.{is_one_of}
+use Rattle.clr_finders.specs.CellLists.{is_one_of}
 
 or_cond : (b c : Bool) → cond b true c ≡ (b || c)
 or_cond true c = refl

@@ -7,11 +7,11 @@ use Rattle.std.specs.declared.hash.BuildHasherDefault.{BuildHasherDefault}
 use Rattle.std.specs.declared.hash.FoldHasher.{FoldHasher}
 use Rattle.clr_rows.specs.declared.cells.CellId.{CellId}
 use Rattle.clr_grid.specs.CellSets.{Cells, is_one}
-use Rattle.clr_row_maps.specs.CellLists.{is_one_of}
+use Rattle.clr_finders.specs.CellLists.{is_one_of}
 use Rattle.clr_finders.specs.declared.row_spots.RuleSpots.{RuleSpots}
 use Rattle.clr_grid.specs.declared.side_index.SideIndex.{SideIndex}
 use Rattle.clr_grid.specs.declared.rule_index.RuleIndex.{RuleIndex}
-use Rattle.clr_row_maps.specs.RowMaps.{FiledRows, IsRowAt}
+use Rattle.clr_finders.specs.RowMaps.{FiledRows, IsRowAt}
 use Rattle.clr_grid.specs.SpotNumbers.{has_number}
 
 -- where a cell is filed: among the wide rows, at the number of a spot

@@ -6,7 +6,7 @@ ghost use Rattle.std.specs.List.Sorted.{IsStrictlySortedBy};
 ghost use Rattle.clr_rows.specs.Cells.{cell_cmp};
 ghost use Rattle.clr_rows.specs.declared.cells.CellId.{CellId as Cell};
 ghost use Rattle.clr_grid.specs.CellSets.{with_listed_cells};
-ghost use Rattle.clr_row_maps.specs.CellLists.{is_one_of};
+ghost use Rattle.clr_finders.specs.CellLists.{is_one_of};
 ghost use Rattle.clr_grid.specs.Gains.{GainsCells};
 
 use clr_rows::CellId;

@@ -3,11 +3,10 @@
 ghost use Rattle.std.specs.Prelude.{◌≡◌, ◌<◌, ◌∷◌, [], length, IfOk};
 ghost use Rattle.clr_rows.specs.Held.{held_of};
 ghost use Rattle.clr_rules.specs.Books.{FitTogether};
-ghost use Rattle.clr_row_maps.specs.RowMaps.{no_filed_rows};
+ghost use Rattle.clr_finders.specs.RowMaps.{no_filed_rows};
 ghost use Rattle.clr_finders.specs.Sharing.{found_cells, rule_spots};
 
-use clr_finders::{RowFinder, RowSpots, RuleSpots, row_spots_at};
-use clr_row_maps::RowMap;
+use clr_finders::{RowFinder, RowMap, RowSpots, RuleSpots, row_spots_at};
 use clr_rows::{CellId, Held, Row};
 use clr_rules::RuleBook;
 use std::alloc::{AllocError, Global};
@@ -21,7 +20,7 @@ pub struct ListFinder {
 }
 
 impl Model for ListFinder {
-    ghost use Rattle.clr_row_maps.specs.RowMaps.{FiledRows, coded_rows};
+    ghost use Rattle.clr_finders.specs.RowMaps.{FiledRows, coded_rows};
 
     ghost Value = { FiledRows };
 

@@ -2,9 +2,9 @@
 
 ghost use Rattle.std.specs.Prelude.{◌≡◌, true, option_to_list};
 ghost use Rattle.clr_finders.specs.NextCells.{IsNextOf};
-ghost use Rattle.clr_row_maps.specs.CellLists.{is_one_of};
+ghost use Rattle.clr_finders.specs.CellLists.{is_one_of};
 
-use clr_row_maps::bound_behind;
+use clr_finders::bound_behind;
 use clr_rows::CellId;
 use std::collections::BTreeSet;
 use std::ops::Bound;

@@ -6,7 +6,7 @@ ghost use Rattle.std.specs.Ordering.{eq_by_cmp};
 ghost use Rattle.clr_rows.specs.Cells.{cell_cmp};
 ghost use Rattle.clr_rows.specs.declared.cells.CellId.{CellId as Cell};
 ghost use Rattle.clr_finders.specs.NextCells.{IsNextOf};
-ghost use Rattle.clr_row_maps.specs.CellLists.{is_one_of};
+ghost use Rattle.clr_finders.specs.CellLists.{is_one_of};
 ghost use Rattle.clr_grid.specs.Gains.{GainsCells};
 
 use crate::cell_lists::CellList;

@@ -4,12 +4,11 @@ ghost use Rattle.std.specs.Prelude.{◌≡◌, ◌<◌, ◌∷◌, [], length, t
 ghost use Rattle.std.specs.FinMap as finite;
 ghost use Rattle.clr_rows.specs.Held.{held_of};
 ghost use Rattle.clr_rules.specs.Books.{FitTogether};
-ghost use Rattle.clr_row_maps.specs.RowMaps.{no_filed_rows, with_pending, with_settled_row, with_settled, without_pending};
+ghost use Rattle.clr_finders.specs.RowMaps.{no_filed_rows, with_pending, with_settled_row, with_settled, without_pending};
 ghost use Rattle.clr_finders.specs.Sharing.{found_cells, row_spots, rule_spots};
 
 use crate::rule_index::{RuleIndex, cells_near, file_row, next_server_near, unfile_row};
-use clr_finders::{RowFinder, RowSpots, RuleSpots, row_spots_at};
-use clr_row_maps::RowMap;
+use clr_finders::{RowFinder, RowMap, RowSpots, RuleSpots, row_spots_at};
 use clr_rows::{CellId, Held, Row};
 use clr_rules::RuleBook;
 use std::alloc::{AllocError, Global};
@@ -25,7 +24,7 @@ pub struct SpotIndex {
 }
 
 impl Model for SpotIndex {
-    ghost use Rattle.clr_row_maps.specs.RowMaps.{FiledRows, coded_rows};
+    ghost use Rattle.clr_finders.specs.RowMaps.{FiledRows, coded_rows};
 
     ghost Value = { FiledRows };
 

@@ -2,3 +2,4 @@ pub mod Pieces
 pub mod Replies
 pub mod Reports
 pub mod Rows
+pub mod Verdicts

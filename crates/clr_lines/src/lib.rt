@@ -1,16 +1,19 @@
-//! Lines of replies and reports.
+//! Lines of replies, reports and verdicts.
 //!
-//! - `reply_line`, `rows_lines`, `changes_lines`, `conflicts_lines`, `audit_lines` and
-//!   `unheld_line` each give the exact bytes, memory aside.
+//! - `reply_line`, `rows_lines`, `changes_lines`, `conflicts_lines`, `audit_lines`,
+//!   `unheld_line` and `verdict_line` each give the exact bytes, memory aside; the last is that of a
+//!   certificate or of a plan, with the names of members and cells.
 //! - `add_count`, `add_cell`, `add_rule`, `add_need` and `add_workspace` [`ok`, `begun`] add their
 //!   bytes to a line or to lines. If memory runs out, what stood there still stands there, and behind it at
 //!   most a beginning of these bytes; of a count, nothing.
 #![tactic(auto)]
 
+mod needs;
 mod pieces;
 mod reply_lines;
 mod report_lines;
 mod row_lines;
+mod verdict_lines;
 
 pub use pieces::{add_cell, add_count, add_need, add_rule};
 pub use reply_lines::reply_line;
@@ -18,3 +21,4 @@ pub use report_lines::{
     add_workspace, audit_lines, changes_lines, conflicts_lines, count_line, unheld_line,
 };
 pub use row_lines::rows_lines;
+pub use verdict_lines::{member_name, verdict_line};

@@ -4,10 +4,10 @@ use Rattle.std.specs.Option.{IfSome, IsSome, is_some, option_copied}
 use Rattle.std.proofs.lemmas.Bool.{false≢true}
 use Rattle.clr_rows.specs.Contents.{Content}
 use Rattle.clr_workspaces.specs.Marks.{Name}
-use Rattle.clr_row_maps.specs.RowMaps.{FiledRows}
+use Rattle.clr_finders.specs.RowMaps.{FiledRows}
 use Rattle.clr_finders.specs.Sharing.{IsSettledFor}
 use Rattle.clr_steps.specs.Offices.{Office, content_of, is_kept, stands}
-use Rattle.clr_kept_finders.specs.Finders.{IsFinderAt, IsPositionOf, current_at, kept_content_at}
+use Rattle.clr_grid.specs.Finders.{IsFinderAt, IsPositionOf, current_at, kept_content_at}
 use Rattle.clr_merge_sets.proofs.NameLemmas.{not_kept}
 
 module _ (o : Office) (name : Name) where

@@ -26,9 +26,9 @@ use Rattle.clr_spots.specs.RoleSpots.{subject_spots_under}
 use Rattle.clr_spots.specs.Spots.{are_many, unless_many}
 use Rattle.clr_spots.proofs.RoleLaws.{subjects_meet}
 use Rattle.clr_spots.proofs.SharedSpots.{Common}
-use Rattle.clr_spot_maps.specs.declared.spot_maps.FiledPart.{FiledPart}
-use Rattle.clr_spot_maps.specs.Filing.{Filed, IsFiled, near}
-use Rattle.clr_spot_maps.proofs.Filed.{new_part_filed, part_stays, found_near}
+use Rattle.clr_spots.specs.declared.spot_maps.FiledPart.{FiledPart}
+use Rattle.clr_spots.specs.Filing.{Filed, IsFiled, near}
+use Rattle.clr_spots.proofs.Filed.{new_part_filed, part_stays, found_near}
 use Rattle.clr_needs.specs.declared.needs.Need.{Need}
 use Rattle.clr_needs.specs.Needs.{ask_of, is_fresh}
 use Rattle.clr_needs.specs.Orders.{need_cmp, version_cmp}

@@ -11,8 +11,8 @@ use Rattle.clr_rules.specs.Calls.{part_count}
 use Rattle.clr_rules.specs.Sides.{sides}
 use Rattle.clr_spots.specs.RoleSpots.{subject_spots_under}
 use Rattle.clr_spots.specs.Spots.{are_many, unless_many}
-use Rattle.clr_spot_maps.specs.declared.spot_maps.FiledPart.{FiledPart}
-use Rattle.clr_spot_maps.specs.Filing.{Filed, IsFiled, with_filed}
+use Rattle.clr_spots.specs.declared.spot_maps.FiledPart.{FiledPart}
+use Rattle.clr_spots.specs.Filing.{Filed, IsFiled, with_filed}
 use Rattle.clr_needs.specs.declared.needs.Need.{Need}
 use Rattle.clr_needs.specs.Needs.{is_fresh}
 use Rattle.clr_needs.specs.Orders.{need_cmp}

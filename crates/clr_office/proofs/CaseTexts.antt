@@ -14,11 +14,11 @@ use Rattle.clr_clearance.specs.Verdicts.{IsVerdict}
 use Rattle.clr_cert.specs.declared.certificates.Certificate.{Certificate}
 use Rattle.clr_check.specs.Answers.{IsRefusingVerdict}
 use Rattle.clr_merge_sets.specs.Certificates.{entries_in, merge_set_of}
-use Rattle.clr_check_texts.specs.Cases.{Case, IsCaseFault}
-use Rattle.clr_check_texts.specs.Checks.{IsCheckedVerdict}
-use Rattle.clr_check_texts.specs.declared.cases.CaseFault.{CaseFault}
-use Rattle.clr_check_texts.specs.declared.cases.CaseFault.TheVariants as no_case
-use Rattle.clr_verdict_lines.specs.Verdicts.{verdict_text}
+use Rattle.clr_check.specs.Cases.{Case, IsCaseFault}
+use Rattle.clr_check.specs.TextChecks.{IsCheckedVerdict}
+use Rattle.clr_check.specs.declared.cases.CaseFault.{CaseFault}
+use Rattle.clr_check.specs.declared.cases.CaseFault.TheVariants as no_case
+use Rattle.clr_lines.specs.Verdicts.{verdict_text}
 use Rattle.clr_reports.specs.declared.faults.RunFault.{RunFault}
 use Rattle.clr_reports.specs.declared.faults.RunFault.TheVariants as run_fault
 use Rattle.clr_reports.specs.declared.outputs.Output.{Output}

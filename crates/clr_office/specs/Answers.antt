@@ -7,7 +7,7 @@ use Rattle.clr_steps.specs.Offices.{Office}
 use Rattle.clr_steps.specs.Quiet.{MergeSet}
 use Rattle.clr_merge_sets.specs.MergeSetNames.{merge_set}
 use Rattle.clr_lines.specs.Reports.{audit_text}
-use Rattle.clr_check_texts.specs.Cases.{case_of}
+use Rattle.clr_check.specs.Cases.{case_of}
 use Rattle.clr_drafts.specs.Drafts.{draft_in}
 use Rattle.clr_rule_text.specs.declared.faults.TextFault.{TextFault}
 use Rattle.clr_command_line.specs.declared.asks.Ask.{Ask}

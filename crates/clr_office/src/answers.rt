@@ -14,7 +14,7 @@ use crate::merges::merge_members;
 use crate::plans::plan_members;
 use crate::run_script::run_text;
 use clr_audit::audit;
-use clr_check_texts::read_case;
+use clr_check::read_case;
 use clr_command_line::Ask;
 use clr_devices::Sink;
 use clr_engine::Draft;

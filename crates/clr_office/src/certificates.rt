@@ -1,17 +1,16 @@
 //! Verdicts on certificates, and what is printed where texts don't give an office with one.
 ghost use Rattle.std.specs.Prelude.{◌≡◌, not, IfOk};
-ghost use Rattle.clr_check_texts.specs.Cases.{case_of};
-ghost use Rattle.clr_verdict_lines.specs.Verdicts.{verdict_text};
+ghost use Rattle.clr_check.specs.Cases.{case_of};
+ghost use Rattle.clr_lines.specs.Verdicts.{verdict_text};
 ghost use Rattle.clr_office.specs.Clearances.{IsCheckPrint, fault_print, is_clear as is_clear_verdict, is_without_memory as is_lost_verdict};
 ghost use Rattle.clr_reports.specs.Printing.{IsOutput};
 
 use crate::disposals::Disposal;
 use clr_cert::Certificate;
-use clr_check::Verdict;
-use clr_check_texts::{CaseFault, judge_texts};
+use clr_check::{CaseFault, Verdict, judge_texts};
+use clr_lines::verdict_line;
 use clr_reports::{Output, RunFault, texts, unheld_output};
 use clr_rows::Schema;
-use clr_verdict_lines::verdict_line;
 use std::alloc::{AllocError, Global};
 
 fn is_clear(verdict: &Verdict) -> bool

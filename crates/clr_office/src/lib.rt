@@ -55,7 +55,7 @@ mod run_script;
 pub use answers::answer;
 pub use certificates::{fault_output, verdict_output};
 pub use clr_cert::{CertFault, Certificate, Entries, Entry};
-pub use clr_check_texts::{Checked, check_texts};
+pub use clr_check::{Checked, check_texts};
 pub use clr_clearance::Verdict;
 pub use clr_command_line::{Ask, AskFault, ask_of};
 pub use clr_devices::{DeviceFault, Page, Port, Sink, Source, Text};

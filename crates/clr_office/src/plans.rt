@@ -6,8 +6,7 @@ ghost use Rattle.clr_office.specs.Outcomes.{IsPlanOutcome};
 ghost use Rattle.clr_reports.specs.Outcomes.{outcome_of};
 
 use clr_engine::Office;
-use clr_plan::{Plan, plan};
-use clr_plan_lines::plan_lines;
+use clr_plan::{Plan, plan, plan_lines};
 use clr_reports::{Output, texts};
 use clr_rows::Words;
 use std::alloc::{AllocError, Global};

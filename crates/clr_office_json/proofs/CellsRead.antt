@@ -22,7 +22,7 @@ use Rattle.clr_rows.specs.Ranges.{is_place_within}
 use Rattle.clr_rows.specs.Schemas.{FitsSchema, is_number, has_coordinates, is_coordinate, is_of_form, is_place, row_fault, schema_fault, table_named}
 use Rattle.clr_rows.specs.Schemas.{name_of_table}
 use Rattle.clr_rows.proofs.SchemaLemmas.{cell_parts, fits_table, table_of_name}
-use Rattle.clr_differences.specs.Differences.{Differences}
+use Rattle.clr_deltas.specs.Differences.{Differences}
 use Rattle.clr_office_text.specs.declared.cells.NamedRow.{NamedRow}
 use Rattle.clr_office_text.specs.declared.named_cells.NamedCell.{NamedCell}
 use Rattle.clr_office_text.specs.Cells.{

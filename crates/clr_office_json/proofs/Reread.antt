@@ -27,7 +27,7 @@ use Rattle.clr_rows.specs.Ranges.{is_place_within}
 use Rattle.clr_rows.specs.Schemas.{FitsSchema, is_number, schema_fault}
 use Rattle.clr_rules.specs.declared.rules.Rule.{Rule}
 use Rattle.clr_rules.specs.Books.{FitsBook}
-use Rattle.clr_differences.specs.Differences.{Differences}
+use Rattle.clr_deltas.specs.Differences.{Differences}
 use Rattle.clr_deltas.specs.Deltas.{Delta}
 use Rattle.clr_deltas.specs.declared.stored_marks.StoredMark.{StoredMark}
 use Rattle.clr_deltas.specs.declared.stored_marks.StoredMark.TheVariants as stored

@@ -10,8 +10,7 @@ ghost use Rattle.clr_office_json.specs.WorkspaceData.{delta_data, marks_data, na
 use crate::cells::{write_gone, write_row};
 use crate::json_texts::JsonText;
 use crate::lists::write_each;
-use clr_deltas::{DeltaView, StoredMark};
-use clr_differences::Differences;
+use clr_deltas::{DeltaView, Differences, StoredMark};
 use clr_office_text::named_marks::NamedMark;
 use clr_rows::{CellId, Row, Schema};
 use std::alloc::AllocError;

@@ -5,8 +5,7 @@ use crate::answers::{Asked, Known, STEP};
 use clr_call_test_kit::{Hoard, first_with_memory, first_wrong_while_scarce};
 use clr_engine::Office;
 use clr_office_test_kit::members_of;
-use clr_plan::plan;
-use clr_plan_lines::plan_lines;
+use clr_plan::{plan, plan_lines};
 use std::alloc::Global;
 use std::test::Fail;
 

@@ -5,11 +5,10 @@ use crate::answers::{Asked, Known, STEP};
 use crate::settings::setting_of;
 use clr_call_test_kit::{Hoard, first_wrong_while_scarce, refusals};
 use clr_cert::{read_certificate, write_certificate};
-use clr_check::Verdict;
-use clr_check_texts::{Checked, check_texts};
+use clr_check::{Checked, Verdict, check_texts};
+use clr_drafts::write_office;
 use clr_engine::Office;
 use clr_office_test_kit::{certificate_of, office_after};
-use clr_office_writer::write_office;
 use std::alloc::Global;
 use std::test::Fail;
 

@@ -2,8 +2,8 @@
 
 use clr_cert::{Certificate, read_certificate};
 use clr_check::Verdict;
+use clr_lines::verdict_line;
 use clr_rows::Schema;
-use clr_verdict_lines::verdict_line;
 use std::alloc::Global;
 
 /// Returns the certificate of a text.

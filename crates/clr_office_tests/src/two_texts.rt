@@ -1,8 +1,7 @@
 //! Checks of an office text and a certificate.
 
 use clr_cert::CertFault;
-use clr_check::Verdict;
-use clr_check_texts::{Checked, TextFault, check_texts, judge_texts};
+use clr_check::{Checked, TextFault, Verdict, check_texts, judge_texts};
 use clr_needs::{Need, VersionId};
 use clr_office_test_kit::line_of;
 use clr_rows::CellId;

@@ -9,7 +9,7 @@ use Rattle.clr_rows.specs.Contents.{Content, no_rows, row_at, set_cell}
 use Rattle.clr_rows.specs.Schemas.{FitsSchema, row_fault, schema_fault}
 use Rattle.clr_rows.proofs.FitLemmas.{none_fit, none_keeps, put_keeps}
 use Rattle.clr_rules.specs.Books.{book_fault}
-use Rattle.clr_differences.specs.Differences.{Differences}
+use Rattle.clr_deltas.specs.Differences.{Differences}
 use Rattle.clr_deltas.specs.Deltas.{Delta}
 use Rattle.clr_deltas.specs.declared.stored_marks.StoredMark.{StoredMark}
 use Rattle.clr_deltas.specs.declared.stored_marks.StoredMark.TheVariants as stored

@@ -8,7 +8,7 @@ use Rattle.clr_rows.specs.declared.faults.RowFault.{RowFault}
 use Rattle.clr_rows.specs.declared.rows.Row.{Row}
 use Rattle.clr_rows.specs.declared.tables.TableDef.{TableDef}
 use Rattle.clr_rows.specs.Schemas.{cell_fault, row_fault}
-use Rattle.clr_differences.specs.Differences.{Differences, no_differences}
+use Rattle.clr_deltas.specs.Differences.{Differences, no_differences}
 use Rattle.clr_rule_text.specs.declared.faults.TextFault.{TextFault}
 use Rattle.clr_rule_text.specs.declared.faults.TextFault.TheVariants.{BadRow, RepeatedCell}
 use Rattle.clr_office_text.specs.declared.named_cells.NamedCell.{NamedCell}

@@ -8,7 +8,7 @@ use Rattle.serde_json.specs.Data.{Data, Items, no_items, item}
 use Rattle.serde_json.specs.Find.{get}
 use Rattle.clr_rows.specs.declared.tables.TableDef.{TableDef}
 use Rattle.clr_rows.specs.Names.{live_name}
-use Rattle.clr_differences.specs.Differences.{Differences}
+use Rattle.clr_deltas.specs.Differences.{Differences}
 use Rattle.clr_deltas.specs.Deltas.{Delta}
 use Rattle.clr_workspaces.specs.Marks.{Name}
 use Rattle.clr_deltas.specs.declared.stored_marks.StoredMark.{StoredMark}

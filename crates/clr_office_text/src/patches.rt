@@ -2,14 +2,14 @@
 
 ghost use Rattle.std.specs.Prelude.{◌≡◌, is_none, OnErr};
 ghost use Rattle.std.specs.FinMap as finite;
-ghost use Rattle.clr_differences.specs.Differences.{no_differences};
+ghost use Rattle.clr_deltas.specs.Differences.{no_differences};
 ghost use Rattle.clr_readings.specs.Readings.{Gives};
 ghost use Rattle.clr_rule_text.specs.Fields.{text_lacks_memory};
 ghost use Rattle.clr_office_text.specs.Patches.{differences_at, differences_of, put_fault, with_cell, with_named_cells};
 
 use crate::live::cell;
 use crate::named_cells::{NamedCell, NamedCells, named_cells};
-use clr_differences::Differences;
+use clr_deltas::Differences;
 use clr_rows::{CellId, Row, Schema};
 use clr_rule_text::TextFault;
 use clr_rule_text::json_values::JsonValue;

@@ -8,8 +8,8 @@ use Rattle.std.specs.FinMap as finite
 use Rattle.std.specs.Prelude.{remove}
 use Rattle.clr_rows.specs.Contents.{Content, Changes, no_rows, over, rows_after}
 use Rattle.clr_rows.specs.Names.{is_good_name}
-use Rattle.clr_differences.specs.Differences.{RowsByCell, no_differences, seen_over, put_each, cells_in}
-use Rattle.clr_differences.proofs.DifferenceLemmas.{seen_over-none}
+use Rattle.clr_deltas.specs.Differences.{RowsByCell, no_differences, seen_over, put_each, cells_in}
+use Rattle.clr_deltas.proofs.DifferenceLemmas.{seen_over-none}
 use Rattle.clr_workspaces.specs.Marks.{Name, without_saved, mark_last}
 use Rattle.clr_workspaces.specs.Workspaces.{Workspace, no_workspace, workspace_at, find, parent_of}
 use Rattle.clr_deltas.specs.Deltas.{Delta, delta_at, delta_changed, leaf, whole_of, content_by_name, wholes, is_stored_child}

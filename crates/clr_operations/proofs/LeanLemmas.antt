@@ -11,8 +11,8 @@ use Rattle.clr_rows.specs.declared.rows.Row.{Row}
 use Rattle.clr_rows.specs.Cells.{cell_cmp}
 use Rattle.clr_rows.specs.Contents.{Content, no_rows, row_at, set_cell, over, rows_after}
 use Rattle.clr_rows.proofs.ChangeLemmas.{row-set_cell}
-use Rattle.clr_differences.specs.Differences.{Differences, RowsByCell, no_differences, put_each, cells_in, is_among, IsOwnOver}
-use Rattle.clr_differences.proofs.DifferenceLemmas.{row-seen_over, not_among, put_elsewhere, put_each_elsewhere, taken_elsewhere}
+use Rattle.clr_deltas.specs.Differences.{Differences, RowsByCell, no_differences, put_each, cells_in, is_among, IsOwnOver}
+use Rattle.clr_deltas.proofs.DifferenceLemmas.{row-seen_over, not_among, put_elsewhere, put_each_elsewhere, taken_elsewhere}
 use Rattle.clr_workspaces.specs.Marks.{Name, Mark, is_saved, mark_at, saved_content, mark_last, without_mark_of}
 use Rattle.clr_contents.proofs.MarkLemmas.{saved_there}
 use Rattle.clr_workspaces.proofs.FindLemmas.{find_more}

@@ -11,9 +11,9 @@ use Rattle.clr_rows.specs.declared.cells.CellId.{CellId}
 use Rattle.clr_rows.specs.declared.rows.Row.{Row}
 use Rattle.clr_rows.specs.Contents.{Content, Changes, row_at, set_cell, over, rows_after, taken_over}
 use Rattle.clr_rows.proofs.ChangeLemmas.{taken_over-own}
-use Rattle.clr_differences.specs.Differences.{Differences, RowsByCell, no_differences, seen_over, put_each, cells_in, HasDifference, HasDifferences}
-use Rattle.clr_differences.proofs.DifferenceLemmas.{seen_over-none, seen_over-fresh, seen_over-insert, seen_over-put_each, seen_over-remove, seen_outside}
-use Rattle.clr_differences.proofs.DifferenceLemmas.{over_outside, hidden, set_outside}
+use Rattle.clr_deltas.specs.Differences.{Differences, RowsByCell, no_differences, seen_over, put_each, cells_in, HasDifference, HasDifferences}
+use Rattle.clr_deltas.proofs.DifferenceLemmas.{seen_over-none, seen_over-fresh, seen_over-insert, seen_over-put_each, seen_over-remove, seen_outside}
+use Rattle.clr_deltas.proofs.DifferenceLemmas.{over_outside, hidden, set_outside}
 use Rattle.clr_workspaces.specs.Marks.{Name, Mark, Saved, ChildMark, mark_at, is_child_mark, is_saved, is_mark_of, saved_content, is_held, without_saved}
 use Rattle.clr_workspaces.specs.Marks.{without_mark_of, mark_last}
 use Rattle.clr_workspaces.specs.Workspaces.{Workspace, workspace_at, parent_of}

@@ -3,7 +3,7 @@ use Rattle.std.specs.Prelude.{ℕ, zero, suc, List, [], ◌∷◌, ◌++◌, Opt
 use Rattle.clr_rows.specs.declared.cells.CellId.{CellId}
 use Rattle.clr_rows.specs.declared.rows.Row.{Row}
 use Rattle.clr_rows.specs.Contents.{row_at, set_cell, over}
-use Rattle.clr_differences.specs.Differences.{RowsByCell}
+use Rattle.clr_deltas.specs.Differences.{RowsByCell}
 use Rattle.clr_workspaces.specs.Marks.{Name}
 use Rattle.clr_workspaces.specs.Workspaces.{Workspace, workspace_at}
 use Rattle.clr_deltas.specs.Deltas.{Delta, delta_changed, stored_without_mark_of}

@@ -2,7 +2,7 @@
 
 ghost use Rattle.std.specs.Prelude.{◌≡◌, ◌<◌, ◌++◌, [], ◌∷◌, false, None, Some, true, length, OnOk, OnErr, IfOk};
 ghost use Rattle.clr_rows.specs.Names.{is_good_name};
-ghost use Rattle.clr_differences.specs.Differences.{cells_in};
+ghost use Rattle.clr_deltas.specs.Differences.{cells_in};
 ghost use Rattle.std.specs.FinMap as finite;
 ghost use Rattle.clr_deltas.specs.Deltas.{delta_at, saved_differences, stored_at, wholes};
 ghost use Rattle.clr_workspaces.specs.Marks.{is_saved, is_held, mark_at};
@@ -23,8 +23,7 @@ use clr_contents::{
     base_row_of, cells_of, changes_of, parent_of, pin_children, pin_own, pin_row, row_of, saved_at,
     sweep_at,
 };
-use clr_deltas::{StoredMark, WorkspaceMap, push_leaf};
-use clr_differences::Differences;
+use clr_deltas::{Differences, StoredMark, WorkspaceMap, push_leaf};
 use clr_rows::{CellId, Row, Sheet, Words};
 use clr_workspaces::{Keep, Rebase};
 use std::alloc::{AllocError, Global};

@@ -5,8 +5,8 @@ use Rattle.std.specs.Option.{option_or}
 use Rattle.std.proofs.Math.Seq.{take-length}
 use Rattle.clr_rows.specs.Contents.{Content, no_rows, over, rows_after, changes}
 use Rattle.clr_rows.proofs.ChangeLemmas.{taken_over-own}
-use Rattle.clr_differences.specs.Differences.{Differences, RowsByCell, no_differences, seen_over, put_each}
-use Rattle.clr_differences.proofs.DifferenceLemmas.{seen_over-fresh}
+use Rattle.clr_deltas.specs.Differences.{Differences, RowsByCell, no_differences, seen_over, put_each}
+use Rattle.clr_deltas.proofs.DifferenceLemmas.{seen_over-fresh}
 use Rattle.clr_deltas.specs.Deltas.{Delta, find_delta, whole_of, whole_mark, wholes, content_by_name}
 use Rattle.clr_workspaces.specs.Workspaces.{Workspace, live_workspace, workspace_at, find}
 use Rattle.clr_workspaces.proofs.FindLemmas.{find_within}

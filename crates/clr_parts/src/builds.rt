@@ -2,7 +2,7 @@
 
 ghost use Rattle.std.specs.Prelude.{◌≡◌, ◌<◌, ◌++◌, [], ◌∷◌, suc, None, Some, map, take, length, OnOk, IfOk, IfErr};
 ghost use Rattle.clr_rows.specs.Names.{live_name};
-ghost use Rattle.clr_differences.specs.Differences.{seen_over};
+ghost use Rattle.clr_deltas.specs.Differences.{seen_over};
 ghost use Rattle.clr_deltas.specs.NamedDeltas.{delta_of};
 ghost use Rattle.clr_deltas.specs.Deltas.{leaf, whole_mark, whole_of, wholes};
 ghost use Rattle.clr_workspaces.specs.Workspaces.{workspace_at, find};
@@ -14,8 +14,7 @@ ghost use Rattle.clr_workspaces.specs.Roots.{IsRooted};
 use crate::part_checks::judge_place;
 use crate::parts::{MarkPart, Part, PartFault};
 use clr_change::ChangeSet;
-use clr_deltas::{Delta, StoredMark, WorkspaceMap, live_alone};
-use clr_differences::Differences;
+use clr_deltas::{Delta, Differences, StoredMark, WorkspaceMap, live_alone};
 use clr_rows::Sheet;
 use std::alloc::{AllocError, Global};
 

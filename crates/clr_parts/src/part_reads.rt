@@ -13,7 +13,7 @@ use clr_rows::{LIVE, Sheet, Words};
 use std::alloc::{AllocError, Global};
 
 /// Returns a mark of a workspace other than LIVE. A savepoint has its whole content.
-#[tactic(auto, unfolding(clr_differences::specs::Differences::seen_over))]
+#[tactic(auto, unfolding(clr_deltas::specs::Differences::seen_over))]
 fn mark_part(
     live: &Sheet,
     map: &WorkspaceMap,

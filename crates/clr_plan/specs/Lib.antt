@@ -1,5 +1,6 @@
 pub mod GroupNeeds
 pub mod OnePlan
 pub mod Picked
+pub mod PlanLines
 pub mod Plans
 pub mod Promises

@@ -16,6 +16,8 @@
 //! - Where members fall into groups, witnesses are picked in the scene of each group, by
 //!   `groups_split_needs`; the answer is the same, word for word.
 //! - `plans_of_a_merge_set_are_alike`: what `plan` promises is true of one answer alone, memory aside.
+//! - `plan_lines` gives exactly the bytes of a plan's lines, with the names of members and cells, memory aside. A certificate
+//!   stands there as `write_certificate` writes it.
 #![tactic(auto)]
 
 mod certificates;
@@ -23,11 +25,13 @@ mod faults;
 mod group_picks;
 mod group_scenes;
 mod laws;
+mod lines;
 mod picked;
 mod planner;
 mod plans;
 mod scene_plans;
 
 pub use laws::plans_of_a_merge_set_are_alike;
+pub use lines::plan_lines;
 pub use planner::plan;
 pub use plans::Plan;

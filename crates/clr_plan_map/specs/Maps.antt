@@ -4,7 +4,7 @@ use Rattle.clr_rows.specs.declared.tables.TableDef.{TableDef}
 use Rattle.clr_workspaces.specs.Marks.{Name}
 use Rattle.clr_plan.specs.declared.plans.Plan.{Plan}
 use Rattle.clr_plan.specs.declared.plans.Plan.TheVariants as plan
-use Rattle.clr_plan_lines.specs.Plans.{plan_text}
+use Rattle.clr_plan.specs.PlanLines.{plan_text}
 use Rattle.clr_svg.specs.declared.elements.Element.{Element}
 use Rattle.clr_svg.specs.declared.elements.Element.TheVariants.{Words}
 use Rattle.clr_svg.specs.declared.elements.Label.{Label}

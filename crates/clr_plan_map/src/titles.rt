@@ -1,13 +1,12 @@
 //! The words of a map: its verdict, its title and its description.
 
 ghost use Rattle.std.specs.Prelude.{◌≡◌, ◌++◌, codes, map, string_bytes, IfOk};
-ghost use Rattle.clr_plan_lines.specs.Plans.{plan_text};
+ghost use Rattle.clr_plan.specs.PlanLines.{plan_text};
 ghost use Rattle.clr_plan_map.specs.Maps.{ShowsFirst, plan_word};
 
 use clr_drawing::{ALARM, CAUTION, CLEAR};
 use clr_map_frames::VERDICT_SIZE;
-use clr_plan::Plan;
-use clr_plan_lines::plan_lines;
+use clr_plan::{Plan, plan_lines};
 use clr_plan_scenes::LEFT;
 use clr_rows::Schema;
 use clr_svg::{Anchor, Colour, Element, Label, Layer, Pixels, Spot, Weight};

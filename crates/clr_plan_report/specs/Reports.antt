@@ -10,7 +10,7 @@ use Rattle.clr_workspaces.specs.Marks.{Name}
 use Rattle.clr_steps.specs.Offices.{Office}
 use Rattle.clr_steps.specs.Quiet.{MergeSet}
 use Rattle.clr_plan.specs.declared.plans.Plan.{Plan}
-use Rattle.clr_plan_lines.specs.Plans.{plan_text}
+use Rattle.clr_plan.specs.PlanLines.{plan_text}
 use Rattle.clr_html.specs.declared.blocks.Block.{Block}
 use Rattle.clr_html.specs.declared.blocks.Block.TheVariants as block
 use Rattle.clr_html.specs.declared.blocks.Tone.{Tone}

@@ -2,12 +2,11 @@
 
 ghost use Rattle.std.specs.Prelude.{◌≡◌, ◌++◌, map, IfOk, OnOk};
 ghost use Rattle.std.specs.List.{flat_map};
-ghost use Rattle.clr_plan_lines.specs.Plans.{plan_text};
+ghost use Rattle.clr_plan.specs.PlanLines.{plan_text};
 ghost use Rattle.clr_plan_report.specs.Reports.{EndsWith, command_text, under_text, word_text};
 
 use clr_html::{Block, Section, Text};
-use clr_plan::Plan;
-use clr_plan_lines::plan_lines;
+use clr_plan::{Plan, plan_lines};
 use clr_rows::{LIVE, Schema};
 use std::alloc::{AllocError, Global};
 

@@ -5,7 +5,7 @@ ghost use Rattle.std.specs.Option.{option_copied, option_map};
 ghost use Rattle.std.specs.Prelude.{slice_get};
 ghost use Rattle.clr_drawing.specs.Palette.{colours_of};
 ghost use Rattle.clr_steps.specs.Quiet.{MergeSet};
-ghost use Rattle.clr_verdict_lines.specs.Verdicts.{member_name};
+ghost use Rattle.clr_lines.specs.Verdicts.{member_name};
 ghost use Rattle.clr_plan_words.specs.Versions.{AreMembers};
 ghost use Rattle.clr_plan_scenes.specs.Designs.{change_of, changer_of, counts_at, follower, index_of_design, is_among, leaders_of, newest_at, order_of};
 ghost use Rattle.clr_plan_scenes.specs.Designs.{rank_of, sets_of};

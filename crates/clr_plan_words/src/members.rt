@@ -9,14 +9,14 @@ ghost use Rattle.clr_needs.specs.Settings.{first_changer};
 ghost use Rattle.clr_steps.specs.Offices.{content_of};
 ghost use Rattle.clr_steps.specs.Readings.{changes_in};
 ghost use Rattle.clr_steps.specs.Quiet.{MergeSet};
-ghost use Rattle.clr_verdict_lines.specs.Verdicts.{member_name as name_of_member};
+ghost use Rattle.clr_lines.specs.Verdicts.{member_name as name_of_member};
 ghost use Rattle.clr_plan_words.specs.Versions.{AreMembers, new_row_at, row_in, set_row, standing_of};
 
 use clr_change::ChangeSet;
 use clr_engine::Office;
+use clr_lines::member_name;
 use clr_needs::VersionId;
 use clr_rows::{CellId, Row};
-use clr_verdict_lines::member_name;
 use std::alloc::{AllocError, Global};
 
 /// Where a row of a cause stands. Members are numbered by position.

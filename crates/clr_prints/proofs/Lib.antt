@@ -1,2 +1,7 @@
+pub mod Codes
 pub mod HintLemmas
+pub mod LayerLemmas
+pub mod LineEnds
+pub mod Made
 pub mod PrintLemmas
+pub mod ScriptLemmas

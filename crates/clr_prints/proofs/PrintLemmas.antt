@@ -2,9 +2,9 @@
 use Rattle.std.proofs.Common.{◌≡◌, Bool, true, false, [], Result, Ok, Err, ap, refl, subst, sym}
 use Rattle.clr_steps.specs.Offices.{Office}
 use Rattle.clr_cert.specs.declared.certificates.Certificate.{Certificate}
-use Rattle.clr_check_texts.specs.Cases.{Case, IsCaseFault}
-use Rattle.clr_check_texts.specs.declared.cases.CaseFault.{CaseFault}
-use Rattle.clr_check_texts.specs.declared.cases.CaseFault.TheVariants as no_case
+use Rattle.clr_check.specs.Cases.{Case, IsCaseFault}
+use Rattle.clr_check.specs.declared.cases.CaseFault.{CaseFault}
+use Rattle.clr_check.specs.declared.cases.CaseFault.TheVariants as no_case
 use Rattle.clr_rule_text.specs.declared.faults.TextFault.{TextFault}
 use Rattle.clr_office.specs.Clearances.{fault_print}
 use Rattle.clr_reports.specs.Printing.{IsNoPrint}

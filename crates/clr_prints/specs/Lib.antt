@@ -1,2 +1,8 @@
+pub mod Designs
+pub mod Faults
+pub mod Features
+pub mod Layers
+pub mod Maps
 pub mod NameHints
 pub mod Printing
+pub mod Reports

@@ -3,8 +3,8 @@ use Rattle.std.specs.Prelude.{◌≡◌, ℕ, Bool, true, false, List, [], None,
 use Rattle.clr_steps.specs.Offices.{Office}
 use Rattle.clr_engine.specs.Drafts.{unheld_in}
 use Rattle.clr_cert.specs.declared.certificates.Certificate.{Certificate}
-use Rattle.clr_check_texts.specs.Cases.{Case}
-use Rattle.clr_check_texts.specs.declared.cases.CaseFault.{CaseFault}
+use Rattle.clr_check.specs.Cases.{Case}
+use Rattle.clr_check.specs.declared.cases.CaseFault.{CaseFault}
 use Rattle.clr_rule_text.specs.declared.faults.TextFault.{TextFault}
 use Rattle.clr_office.specs.Clearances.{fault_print}
 use Rattle.clr_reports.specs.Printing.{IsNoPrint, status_of}

@@ -4,13 +4,34 @@
 //!   found no memory shows no text.
 //! - `notes_of`: the lines of an office text that is refused, as notes.
 //! - `with_hints`, `hint_lines`: hints at names that no workspace has. Each names a workspace that stands (`IsHinted`).
-//! - `plan_members`: the plan of members, with what it promises (`IsPlanned`).
+//! - `plan_members`: the plan of members, with what it promises (`IsPlanned`). Over the office of a text, `answer_map` gives the map of such a
+//!   plan (`IsMapPrint`), `answer_report` its report (`IsReportPrint`), and `answer_geojson` its features, in a system of coordinates if one is
+//!   named (`IsFeaturesAnswer`).
+//! - `answer_layer`: the layer of a table's rows in LIVE or in a workspace of the office of a text (`IsLayerPrint`).
+//! - `answer_design`: the office of a text with one more workspace, which has the rows of layers (`IsDesignPrint`); `answer_design_script`: the
+//!   script that makes this design (`IsDesignScriptPrint`); `answer_office`: the office of a text with the rows of layers in LIVE
+//!   (`IsOfficePrint`).
 #![tactic(auto)]
 
+mod answers;
+mod design_prints;
+mod fault_lines;
+mod features;
+mod layers;
+mod maps;
 mod name_hints;
 mod plans;
 mod prints;
+mod reports;
+mod systems;
+mod unfits;
 
+pub use answers::{answer_design, answer_design_script, answer_office};
+pub use clr_layer_changes::{GivenLayer, LayerOptions};
+pub use features::answer_geojson;
+pub use layers::answer_layer;
+pub use maps::answer_map;
 pub use name_hints::{hint_lines, with_hints};
 pub use plans::{is_cleared, is_out_of_memory, plan_members};
 pub use prints::{Ending, Print, notes_of};
+pub use reports::answer_report;

@@ -6,7 +6,9 @@
 #![tactic(auto)]
 
 use clr_office::{Ask, AskFault, Disposal, Port, RunFault, Words, answer, ask_of, run_office};
-use clr_terminal::{BAD_WORDS, has_words, read_files, refuse, refuse_words, text_at, texts, words};
+use clr_reports::{
+    BAD_WORDS, has_words, read_files, refuse, refuse_words, text_at, texts_of_words, words,
+};
 use std::io::ErrorKind;
 use std::process::ExitCode;
 
@@ -27,7 +29,7 @@ fn answer_files(rt: &HostRuntime, ask: &Ask, files: &[Words]) -> Result<u8, RunF
 
 /// Does what the words ask for, and gives the exit status.
 fn run_words(rt: &HostRuntime, words: &[String]) -> Result<u8, RunFault> {
-    let texts = texts(rt, words)?;
+    let texts = texts_of_words(rt, words)?;
     match ask_of(rt.alloc(), texts.as_slice()) {
         Ok((ask, files)) => answer_files(rt, &ask, files.as_slice()),
         Err(AskFault::Refused(error)) => Ok(refuse_words(rt, &error)),

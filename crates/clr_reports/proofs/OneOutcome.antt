@@ -14,13 +14,13 @@ use Rattle.clr_clearance.specs.MergeSets.{change_sets, setting_by_position}
 use Rattle.clr_clearance.specs.Verdicts as verdicts
 use Rattle.clr_clearance.specs.Verdicts.{IsVerdict, member_fault}
 use Rattle.clr_clearance.proofs.VerdictLemmas.{not_apart, not_both, one_verdict}
-use Rattle.clr_verdict_lines.specs.Verdicts.{verdict_text}
-use Rattle.clr_independence.specs.declared.independences.Independence.{Independence}
-use Rattle.clr_independence.specs.declared.independences.Independence.TheVariants as said
-use Rattle.clr_independence.specs.declared.member_pairs.Pair.{Pair}
-use Rattle.clr_independence.specs.Independences.{IsIndependenceOf, IsUnfitFor, of_cell, of_member}
-use Rattle.clr_independence.specs.Lines.{independence_line, independence_text}
-use Rattle.clr_independence.specs.Pairs.{pair_members}
+use Rattle.clr_lines.specs.Verdicts.{verdict_text}
+use Rattle.clr_reports.specs.declared.independent_members.Independence.{Independence}
+use Rattle.clr_reports.specs.declared.independent_members.Independence.TheVariants as said
+use Rattle.clr_reports.specs.declared.member_pairs.Pair.{Pair}
+use Rattle.clr_reports.specs.Independences.{IsIndependenceOf, IsUnfitFor, of_cell, of_member}
+use Rattle.clr_reports.specs.IndependenceLines.{independence_line, independence_text}
+use Rattle.clr_reports.specs.Pairs.{pair_members}
 use Rattle.clr_reports.specs.Outcomes.{IsIndependenceOutcome, Outcome}
 use Rattle.clr_reports.specs.Outcomes.{has_dependence}
 use Rattle.clr_reports.proofs.Outcomes.{parts_are}

@@ -9,14 +9,14 @@ use Rattle.clr_steps.specs.Names.{is_live}
 use Rattle.clr_steps.specs.Offices.{Office, content_of, stands}
 use Rattle.clr_steps.specs.Quiet.{MergeSet}
 use Rattle.clr_steps.specs.Readings.{changes_in, conflicts_in}
-use Rattle.clr_independence.specs.declared.independences.Independence.{Independence}
-use Rattle.clr_independence.specs.declared.independences.Independence.TheVariants as said
-use Rattle.clr_independence.specs.Independences.{IsIndependenceOf}
-use Rattle.clr_independence.specs.Lines.{independence_text}
+use Rattle.clr_reports.specs.declared.independent_members.Independence.{Independence}
+use Rattle.clr_reports.specs.declared.independent_members.Independence.TheVariants as said
+use Rattle.clr_reports.specs.Independences.{IsIndependenceOf}
+use Rattle.clr_reports.specs.IndependenceLines.{independence_text}
 use Rattle.clr_lines.specs.Replies.{reply_text}
 use Rattle.clr_lines.specs.Reports.{audit_text, changes_text, conflicts_text}
 use Rattle.clr_lines.specs.Rows.{rows_text}
-use Rattle.clr_office_writer.specs.Writing.{bytes_of}
+use Rattle.clr_drafts.specs.Writing.{bytes_of}
 use Rattle.clr_reports.specs.Workspaces.{workspaces_text}
 use Rattle.clr_reports.specs.declared.outputs.Output.{Output}
 

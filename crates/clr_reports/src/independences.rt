@@ -4,10 +4,12 @@ ghost use Rattle.std.specs.List.{list_any};
 ghost use Rattle.clr_merge_sets.specs.MergeSetNames.{merge_set};
 ghost use Rattle.clr_reports.specs.Outcomes.{IsIndependenceOutcome, has_dependence, outcome_of};
 
+use crate::independent_members::{Independence, independence_of};
+use crate::lines_of_pairs::lines_of_independence;
+use crate::member_pairs::Pair;
 use crate::name_texts::texts;
 use crate::outputs::Output;
 use clr_engine::Office;
-use clr_independence::{Independence, Pair, independence_of, lines_of_independence};
 use clr_rows::Words;
 use std::alloc::{AllocError, Global};
 

@@ -12,24 +12,51 @@
 //!   doesn't.
 //! - `read_input` [`whole`, `good`, `fault`] reads a whole input. `RunFault` says why a run ends without
 //!   an exit status. `texts` are the texts of names.
+//!
+//! What programs share of the command line and of standard error:
+//!
+//! - `texts_of_words`, `text_at`: exactly the words, and the bytes at a position; `read_files` [`each`,
+//!   `within`]: one text for each file, none too long.
+//! - `refuse`, `refuse_words` [`either`, `bad`]: the exit status. What is printed, and what a file holds, no contract says.
+//!
+//! Which members of a root are independent, pair by pair. Two are independent where no possible need involves both.
+//!
+//! - `pairs` gives each pair of a scene's members once, in the order of the list, and whether no
+//!   possible need, touched or not, involves both. `independence_of` gives the first test of
+//!   members that fails (the root, names, conflicts, shared cells), or these pairs of an office's
+//!   members. `independence_lines` and `lines_of_independence` give exactly the lines of that. All
+//!   fail only if memory runs out.
 #![tactic(auto)]
 
+mod arguments;
 mod faults;
+mod files;
 mod independences;
+mod independent_members;
+mod lines_of_pairs;
+mod member_needs;
+mod member_pairs;
 mod name_texts;
 mod offices;
 mod outputs;
 mod reading;
+mod refusals;
 mod replies;
 mod reports;
 mod workspaces;
 
+pub use arguments::{has_words, texts_of_words, words};
 pub use faults::RunFault;
+pub use files::{read_files, text_at};
 pub use independences::independence_output;
+pub use independent_members::{Independence, independence_of};
+pub use lines_of_pairs::{independence_lines, lines_of_independence};
+pub use member_pairs::{Pair, pairs};
 pub use name_texts::texts;
 pub use offices::{draft_of, open_office, unheld_output};
 pub use outputs::Output;
 pub use reading::{MOST_INPUT_BYTES, read_input};
+pub use refusals::{BAD_WORDS, refuse, refuse_words};
 pub use replies::reply_output;
 pub use reports::{
     audit_output, changes_output, conflicts_output, dump_output, dump_text, rows_output,

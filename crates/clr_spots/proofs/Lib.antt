@@ -1,5 +1,8 @@
+pub mod Beginnings
 pub mod DistinctSpots
+pub mod Filed
 pub mod ListedSquares
+pub mod MapLemmas
 pub mod PathSquares
 pub mod RoleLaws
 pub mod ShareLaws

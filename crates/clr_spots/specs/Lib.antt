@@ -1,3 +1,4 @@
+pub mod Filing
 pub mod Laws
 pub mod Listing
 pub mod Reach

@@ -5,8 +5,8 @@ use Rattle.std.specs.FinMap as finite
 use Rattle.clr_rows.specs.declared.cells.CellId.{CellId}
 use Rattle.clr_rows.specs.declared.rows.Row.{Row}
 use Rattle.clr_rows.specs.Contents.{Content, row_at}
-use Rattle.clr_differences.specs.Differences.{differences_from, IsOwnOver}
-use Rattle.clr_differences.proofs.SweepLemmas.{own_differences, swept_own}
+use Rattle.clr_deltas.specs.Differences.{differences_from, IsOwnOver}
+use Rattle.clr_deltas.proofs.SweepLemmas.{own_differences, swept_own}
 use Rattle.clr_deltas.specs.Differing.{mark_from}
 use Rattle.clr_workspaces.specs.Workspaces.{Workspace, workspace_at}
 use Rattle.clr_deltas.specs.Deltas.{Delta, delta_at, stored_in, whole_mark, wholes, stored_in_mark, AreOwnOver}

@@ -6,8 +6,8 @@ use Rattle.clr_rows.specs.Cells.{cell_cmp}
 use Rattle.clr_rows.specs.Contents.{Content}
 use Rattle.clr_rows.proofs.CellOrder.{cell_cmp_total, cell_cmp_exact}
 use Rattle.clr_rows.proofs.SortedMaps.{from_sorted-empty}
-use Rattle.clr_differences.specs.Differences.{Differences, RowsByCell, no_differences, without_neutral}
-use Rattle.clr_differences.proofs.SweepLemmas.{count-swept}
+use Rattle.clr_deltas.specs.Differences.{Differences, RowsByCell, no_differences, without_neutral}
+use Rattle.clr_deltas.proofs.SweepLemmas.{count-swept}
 use Rattle.clr_workspaces.specs.Marks.{Mark}
 use Rattle.clr_workspaces.specs.Workspaces.{Workspace, workspace_at}
 use Rattle.clr_deltas.specs.Deltas.{Delta, delta_at, whole_mark, wholes, stored_in_mark}

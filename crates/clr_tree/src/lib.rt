@@ -19,7 +19,7 @@
 //!   as the base.
 //! - No operation makes a difference neutral where none was before: this is an invariant of `Tree` from
 //!   its first sweep on. So a later sweep keeps its promise without a look at any difference.
-//!   `clr_contents::sweep_at` [`seen`, `lean`] and `clr_differences::Differences::sweep_at` take
+//!   `clr_contents::sweep_at` [`seen`, `lean`] and `clr_deltas::Differences::sweep_at` take
 //!   exactly the neutral differences at some cells away.
 #![tactic(auto)]
 

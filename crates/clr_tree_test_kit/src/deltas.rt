@@ -1,8 +1,7 @@
 //! Parts by their differences, of which some are neutral, and deeds that make the same workspaces.
 
 use crate::fixtures::{cell, numbered_sheet, row_of, words};
-use clr_deltas::{Delta, StoredMark, StoredPart};
-use clr_differences::Differences;
+use clr_deltas::{Delta, Differences, StoredMark, StoredPart};
 use clr_rows::Row;
 use clr_tree::Tree;
 use std::alloc::{AllocError, Global};

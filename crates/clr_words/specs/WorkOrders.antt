@@ -5,7 +5,7 @@ use Rattle.clr_steps.specs.Offices.{Office}
 use Rattle.clr_steps.specs.Quiet.{MergeSet}
 use Rattle.clr_plan.specs.declared.plans.Plan.{Plan}
 use Rattle.clr_plan.specs.Promises.{is_cleared, is_out_of_memory}
-use Rattle.clr_plan_lines.specs.Plans.{plan_text}
+use Rattle.clr_plan.specs.PlanLines.{plan_text}
 use Rattle.clr_words.specs.declared.trials.Trial.{Trial}
 use Rattle.clr_words.specs.declared.work_orders.WorkOrder.{WorkOrder}
 use Rattle.clr_words.specs.Trials.{IsAnswered, IsTrial}

@@ -9,8 +9,7 @@ use crate::sentences::plan_sentences;
 use crate::trial_lines::add_trials;
 use crate::trials::{Trial, try_remedies};
 use clr_engine::Office;
-use clr_plan::{Plan, plan};
-use clr_plan_lines::plan_lines;
+use clr_plan::{Plan, plan, plan_lines};
 use std::alloc::{AllocError, Global};
 
 /// A plan in words: the text, whether the members are cleared, and whether the plan found no memory.

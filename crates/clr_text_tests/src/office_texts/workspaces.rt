@@ -2,8 +2,7 @@
 
 use crate::questions::check;
 use crate::texts::{add_part, change_text};
-use clr_deltas::StoredMark;
-use clr_differences::Differences;
+use clr_deltas::{Differences, StoredMark};
 use clr_office_text::{StoredPart, read_office};
 use clr_rows::{CellId, Row};
 use std::alloc::Global;

@@ -1,6 +1,6 @@
 use Rattle.std.proofs.Common.{ap, sym, ◌∙◌}
 use Rattle.std.specs.FinMap as finite
-use Rattle.clr_differences.specs.Differences.{Differences}
+use Rattle.clr_deltas.specs.Differences.{Differences}
 use Rattle.clr_deltas.specs.Deltas.{saved_differences}
 use Rattle.clr_contents.proofs.comparisons.cells_of_mark.Goals as goal
 

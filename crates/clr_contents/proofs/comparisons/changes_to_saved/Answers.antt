@@ -4,7 +4,7 @@ use Rattle.std.specs.FinMap as finite
 use Rattle.clr_rows.specs.declared.cells.CellId.{CellId}
 use Rattle.clr_rows.specs.declared.rows.Row.{Row}
 use Rattle.clr_rows.specs.Contents.{no_changes, row_at}
-use Rattle.clr_differences.specs.Differences.{is_among}
+use Rattle.clr_deltas.specs.Differences.{is_among}
 use Rattle.clr_deltas.specs.Deltas.{Delta, delta_at, saved_differences, stored_at, wholes}
 use Rattle.clr_workspaces.specs.Marks.{mark_at, saved_content}
 use Rattle.clr_workspaces.specs.Workspaces.{workspace_at}

@@ -1,7 +1,7 @@
 use Rattle.std.proofs.Common.{ap, sym, subst, ◌∙◌, ◌∷◌, []}
 use Rattle.std.specs.FinMap as finite
-use Rattle.clr_differences.specs.Differences.{Differences}
-use Rattle.clr_differences.proofs.DifferenceLemmas.{nothing_found}
+use Rattle.clr_deltas.specs.Differences.{Differences}
+use Rattle.clr_deltas.proofs.DifferenceLemmas.{nothing_found}
 use Rattle.clr_deltas.specs.Deltas.{wholes}
 use Rattle.clr_contents.specs.Pinning.{StayOwnBut}
 use Rattle.clr_contents.proofs.PinLemmas.{base_pinned, but_base}

@@ -1,5 +1,5 @@
 use Rattle.std.proofs.Common.{◌≡◌, take}
-use Rattle.clr_differences.specs.Differences.{HasDifferences}
+use Rattle.clr_deltas.specs.Differences.{HasDifferences}
 use Rattle.clr_deltas.specs.Deltas.{wholes, delta_at}
 use Rattle.clr_contents.specs.Pinning.{Extends, StayOwnBut}
 use Rattle.clr_contents.proofs.pins.pin_bases.Given as goal

@@ -1,7 +1,7 @@
 use Rattle.std.proofs.Common.{◌≡◌, ◌≢◌, ⊎_elim, ◌∙◌, sym, subst, arith}
 use Rattle.std.proofs.lemmas.Bool.{cases_eq}
-use Rattle.clr_differences.specs.Differences.{HasDifferences}
-use Rattle.clr_differences.proofs.DifferenceLemmas.{differences_keep}
+use Rattle.clr_deltas.specs.Differences.{HasDifferences}
+use Rattle.clr_deltas.proofs.DifferenceLemmas.{differences_keep}
 use Rattle.clr_deltas.specs.Deltas.{delta_at, IsUnder}
 use Rattle.clr_contents.proofs.PinLemmas.{extends_both, but_children_both}
 use Rattle.clr_contents.proofs.pins.pin_children.Goals as goal

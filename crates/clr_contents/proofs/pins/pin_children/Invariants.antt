@@ -1,5 +1,5 @@
 use Rattle.std.proofs.Common.{◌≡◌, ◌<◌, ℕ}
-use Rattle.clr_differences.specs.Differences.{HasDifferences}
+use Rattle.clr_deltas.specs.Differences.{HasDifferences}
 use Rattle.clr_deltas.specs.Deltas.{wholes, delta_at, IsUnder}
 use Rattle.clr_contents.specs.Pinning.{Extends, StayOwnButChildren}
 use Rattle.clr_contents.proofs.pins.pin_children.Given as goal

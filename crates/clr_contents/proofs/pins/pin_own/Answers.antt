@@ -1,5 +1,5 @@
 use Rattle.std.proofs.Common.{◌∙◌, arith}
-use Rattle.clr_differences.proofs.DifferenceLemmas.{differences_keep, differences_next}
+use Rattle.clr_deltas.proofs.DifferenceLemmas.{differences_keep, differences_next}
 use Rattle.clr_deltas.specs.Deltas.{delta_at}
 use Rattle.clr_contents.proofs.PinLemmas.{extends_both, own_both, apart_at}
 use Rattle.clr_contents.proofs.pins.pin_own.Goals as goal

@@ -1,5 +1,5 @@
 use Rattle.std.proofs.Common.{◌≡◌, List, refl, ap, sym, subst, ◌∙◌, slice_set}
-use Rattle.clr_differences.specs.Differences.{Differences, swept_at}
+use Rattle.clr_deltas.specs.Differences.{Differences, swept_at}
 use Rattle.clr_deltas.specs.Deltas.{Delta, delta_at, delta_changed, wholes}
 use Rattle.clr_workspaces.specs.Workspaces.{workspace_at}
 use Rattle.clr_workspaces.specs.Roots.{IsRooted}

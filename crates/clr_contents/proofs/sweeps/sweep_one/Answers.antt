@@ -1,6 +1,6 @@
 use Rattle.std.proofs.Common.{sym, subst}
-use Rattle.clr_differences.specs.Differences.{without_neutral}
-use Rattle.clr_differences.proofs.SweepLemmas.{seen-swept}
+use Rattle.clr_deltas.specs.Differences.{without_neutral}
+use Rattle.clr_deltas.proofs.SweepLemmas.{seen-swept}
 use Rattle.clr_deltas.specs.Deltas.{wholes}
 use Rattle.clr_contents.specs.Lean.{IsLeanOver}
 use Rattle.clr_contents.specs.Lean.{swept_marks}

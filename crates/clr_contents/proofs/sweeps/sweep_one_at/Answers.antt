@@ -1,5 +1,5 @@
-use Rattle.clr_differences.specs.Differences.{swept_at}
-use Rattle.clr_differences.proofs.SweepLemmas.{seen-swept_at}
+use Rattle.clr_deltas.specs.Differences.{swept_at}
+use Rattle.clr_deltas.proofs.SweepLemmas.{seen-swept_at}
 use Rattle.clr_contents.specs.Lean.{swept_marks_at}
 use Rattle.clr_contents.proofs.LeanLemmas.{seen-swept_marks_at}
 use Rattle.clr_contents.proofs.SweepLemmas.{rooted_one, rooted_two, seen_three, here_three, others_three}

@@ -1,7 +1,7 @@
 use Rattle.std.proofs.Common.{◌∙◌, ap}
 use Rattle.std.specs.FinMap as finite
 use Rattle.clr_rows.specs.Contents.{over}
-use Rattle.clr_differences.specs.Differences.{Differences}
+use Rattle.clr_deltas.specs.Differences.{Differences}
 use Rattle.clr_contents.proofs.ReadLemmas.{base_parts}
 use Rattle.clr_contents.proofs.wholes.base_rows.Goals as goal
 

@@ -1,5 +1,5 @@
 use Rattle.std.proofs.Common.{◌≡◌, take}
-use Rattle.clr_differences.specs.Differences.{cells_in}
+use Rattle.clr_deltas.specs.Differences.{cells_in}
 use Rattle.clr_contents.proofs.wholes.cells_of.Given as goal
 
 abbrev pub invariant-loop-cell : goal.invariant-loop-cell

@@ -1,7 +1,7 @@
 use Rattle.std.proofs.Common.{ap, sym, ◌∙◌}
 use Rattle.std.specs.FinMap as finite
 use Rattle.clr_rows.specs.Contents.{changes, no_changes}
-use Rattle.clr_differences.specs.Differences.{Differences, RowsByCell}
+use Rattle.clr_deltas.specs.Differences.{Differences, RowsByCell}
 use Rattle.clr_deltas.specs.Deltas.{delta_at, wholes}
 use Rattle.clr_workspaces.specs.Workspaces.{workspace_at}
 use Rattle.clr_contents.specs.Pinning.{set_each}

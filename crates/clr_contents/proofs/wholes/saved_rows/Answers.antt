@@ -1,7 +1,7 @@
 use Rattle.std.proofs.Common.{◌≡◌, ◌∙◌, refl, ap, sym}
 use Rattle.std.specs.FinMap as finite
 use Rattle.clr_rows.specs.Contents.{Content, over}
-use Rattle.clr_differences.specs.Differences.{Differences, seen_over}
+use Rattle.clr_deltas.specs.Differences.{Differences, seen_over}
 use Rattle.clr_deltas.specs.Deltas.{wholes, delta_at, stored_at, saved_differences}
 use Rattle.clr_workspaces.specs.Workspaces.{workspace_at}
 use Rattle.clr_contents.proofs.MarkLemmas.{content-saved}

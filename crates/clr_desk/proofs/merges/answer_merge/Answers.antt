@@ -1,6 +1,6 @@
 use Rattle.std.proofs.Common.{◌≡◌, ◌∷◌, subst}
 use Rattle.clr_workspaces.specs.Marks.{Name}
-use Rattle.clr_check_texts.specs.Cases.{case_of}
+use Rattle.clr_check.specs.Cases.{case_of}
 use Rattle.clr_desk.specs.Merges.{IsHintedMerge}
 use Rattle.clr_prints.specs.NameHints.{AreNameHints, with_lines}
 use Rattle.clr_prints.specs.Printing.{of_case, printed}

@@ -4,7 +4,7 @@ use Rattle.clr_steps.specs.Offices.{Office}
 use Rattle.clr_clearance.specs.ClearedRuns.{IsClearedRun, IsQuietStart}
 use Rattle.clr_clearance.specs.Plans.{merges}
 use Rattle.clr_merge_sets.specs.Certificates.{merge_set_of}
-use Rattle.clr_verdict_lines.specs.Verdicts.{verdict_text}
+use Rattle.clr_lines.specs.Verdicts.{verdict_text}
 use Rattle.clr_office.specs.Clearances.{AreMerged}
 use Rattle.clr_desk.specs.Merges.{of_merges, of_verdict}
 use Rattle.clr_desk.proofs.merges.merge_members.Goals as goal

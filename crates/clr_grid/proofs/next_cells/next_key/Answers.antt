@@ -2,7 +2,7 @@ use Rattle.std.proofs.Common.{◌≡◌, true, List, subst}
 use Rattle.std.specs.Prelude.{slice_get}
 use Rattle.clr_rows.specs.declared.cells.CellId.{CellId}
 use Rattle.clr_finders.specs.NextCells.{IsNextOf}
-use Rattle.clr_row_maps.specs.CellLists.{is_one_of}
+use Rattle.clr_finders.specs.CellLists.{is_one_of}
 use Rattle.clr_grid.proofs.NextLemmas.{first_key_at}
 use Rattle.clr_grid.proofs.next_cells.next_key.Goals as goal
 

@@ -1,6 +1,6 @@
 use Rattle.std.proofs.Common.{◌≡◌}
-use Rattle.clr_check_texts.specs.Cases.{case_of}
-use Rattle.clr_verdict_lines.specs.Verdicts.{verdict_text}
+use Rattle.clr_check.specs.Cases.{case_of}
+use Rattle.clr_lines.specs.Verdicts.{verdict_text}
 use Rattle.clr_office.specs.Clearances.{IsVerdictOutcome}
 use Rattle.clr_office.proofs.CaseTexts.{case_made, checked, fault_made}
 use Rattle.clr_office.proofs.certificates.check_output.Goals as goal

@@ -4,7 +4,7 @@ use Rattle.clr_workspaces.specs.Marks.{Name}
 use Rattle.clr_merge_sets.specs.MergeSetNames.{merge_set}
 use Rattle.clr_plan.specs.Plans.{IsPlan}
 use Rattle.clr_plan.specs.Promises.{IsExact, Promises}
-use Rattle.clr_plan_lines.specs.Plans.{plan_text}
+use Rattle.clr_plan.specs.PlanLines.{plan_text}
 use Rattle.clr_office.specs.Outcomes.{IsPlanned}
 use Rattle.clr_reports.proofs.Outcomes.{parts_are}
 use Rattle.clr_office.proofs.plans.plan_members.Goals as goal

@@ -1,7 +1,7 @@
 use Rattle.std.proofs.Common.{◌∙◌, ◌<◌, ap, sym, subst, refl, arith, List, length}
 use Rattle.clr_rows.specs.declared.cells.CellId.{CellId}
 use Rattle.clr_rows.specs.Contents.{Changes, rows_after}
-use Rattle.clr_differences.specs.Differences.{RowsByCell, cells_in}
+use Rattle.clr_deltas.specs.Differences.{RowsByCell, cells_in}
 use Rattle.clr_deltas.specs.Deltas.{wholes}
 use Rattle.clr_workspaces.specs.Workspaces.{workspace_at}
 use Rattle.clr_deltas.proofs.Answered.{on_ok, on_err}

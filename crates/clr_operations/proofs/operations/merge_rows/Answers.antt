@@ -1,7 +1,7 @@
 use Rattle.std.proofs.Common.{◌∙◌, ap, sym, subst, refl, arith, filter, length, List}
 use Rattle.std.proofs.lemmas.List.{length-set}
 use Rattle.clr_rows.specs.Contents.{over, rows_after}
-use Rattle.clr_differences.specs.Differences.{RowsByCell, no_differences, put_each, cells_in, HasDifferences}
+use Rattle.clr_deltas.specs.Differences.{RowsByCell, no_differences, put_each, cells_in, HasDifferences}
 use Rattle.clr_deltas.specs.Deltas.{Delta, wholes, delta_at, delta_changed, is_stored_child, IsUnder}
 use Rattle.clr_workspaces.specs.Workspaces.{workspace_at}
 use Rattle.clr_contents.specs.Pinning.{StayOwnBut}

@@ -1,7 +1,7 @@
 use Rattle.std.proofs.Common.{◌≡◌, refl, ◌∙◌, ap, sym, subst, arith, List}
 use Rattle.clr_rows.specs.declared.cells.CellId.{CellId}
 use Rattle.clr_rows.specs.Contents.{Content}
-use Rattle.clr_differences.specs.Differences.{cells_in, HasDifferences}
+use Rattle.clr_deltas.specs.Differences.{cells_in, HasDifferences}
 use Rattle.clr_deltas.specs.Deltas.{wholes, delta_at}
 use Rattle.clr_contents.specs.Pinning.{Extends, ChildrenPin}
 use Rattle.clr_operations.specs.Moves.{put_into}

@@ -2,7 +2,7 @@ use Rattle.std.proofs.Common.{◌≡◌, ◌∙◌, ◌++◌, ap, sym, subst, re
 use Rattle.std.specs.FinMap as finite
 use Rattle.clr_rows.specs.declared.cells.CellId.{CellId}
 use Rattle.clr_rows.specs.Contents.{Changes, rows_after}
-use Rattle.clr_differences.specs.Differences.{Differences, cells_in, is_among}
+use Rattle.clr_deltas.specs.Differences.{Differences, cells_in, is_among}
 use Rattle.clr_deltas.specs.Deltas.{delta_at, wholes}
 use Rattle.clr_workspaces.specs.Marks.{mark_last}
 use Rattle.clr_workspaces.specs.Workspaces.{workspace_at}

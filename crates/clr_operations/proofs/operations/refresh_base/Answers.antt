@@ -1,7 +1,7 @@
 use Rattle.std.proofs.Common.{◌<◌, ◌≡◌, ◌++◌, None, false, refl, ap, sym, subst, ◌∙◌, [], arith, List, length, filter}
 use Rattle.std.specs.FinMap as finite
 use Rattle.clr_rows.specs.declared.cells.CellId.{CellId}
-use Rattle.clr_differences.specs.Differences.{Differences, no_differences, cells_in, is_among}
+use Rattle.clr_deltas.specs.Differences.{Differences, no_differences, cells_in, is_among}
 use Rattle.clr_deltas.specs.Deltas.{Delta, wholes, delta_at, delta_changed, is_stored_child}
 use Rattle.clr_workspaces.specs.Marks.{mark_last}
 use Rattle.clr_deltas.proofs.Meaning.{name-wholes}

@@ -1,7 +1,7 @@
 use Rattle.std.proofs.Common.{◌≡◌, ◌++◌, refl, false, None, ◌<◌, suc, ◌∙◌, ap, sym, subst, arith, List, length, take}
 use Rattle.std.specs.FinMap as finite
 use Rattle.clr_rows.specs.declared.cells.CellId.{CellId}
-use Rattle.clr_differences.specs.Differences.{Differences, seen_over}
+use Rattle.clr_deltas.specs.Differences.{Differences, seen_over}
 use Rattle.clr_deltas.specs.Deltas.{Delta, wholes, delta_at, delta_changed, stored_at, saved_differences}
 use Rattle.clr_workspaces.specs.Workspaces.{Workspace, workspace_at}
 use Rattle.clr_contents.specs.Pinning.{ChildrenPin}
@@ -12,7 +12,7 @@ use Rattle.clr_contents.proofs.MarkLemmas.{length-marks, saved_within}
 use Rattle.clr_contents.proofs.ReadLemmas.{marks-wholes}
 use Rattle.clr_operations.proofs.OperationLemmas.{children_both, rolled, rolled_is}
 use Rattle.clr_contents.specs.Pinning.{StayOwnBut}
-use Rattle.clr_differences.specs.Differences.{is_among}
+use Rattle.clr_deltas.specs.Differences.{is_among}
 use Rattle.std.proofs.lemmas.List.{length-set}
 use Rattle.clr_contents.proofs.ComparedLemmas.{among_neither, no_difference}
 use Rattle.clr_operations.proofs.LeanLemmas.{but_rolled, near_children, near_own}

@@ -1,7 +1,7 @@
 use Rattle.std.proofs.Common.{◌≡◌, ◌∙◌, ◌++◌, ap, sym, subst, refl, arith, false, None, List}
 use Rattle.std.specs.FinMap as finite
 use Rattle.clr_rows.specs.declared.cells.CellId.{CellId}
-use Rattle.clr_differences.specs.Differences.{Differences, is_among}
+use Rattle.clr_deltas.specs.Differences.{Differences, is_among}
 use Rattle.clr_deltas.specs.Deltas.{delta_at, saved_differences, stored_at, wholes}
 use Rattle.clr_workspaces.specs.Workspaces.{workspace_at}
 use Rattle.clr_deltas.proofs.Answered.{on_ok, on_err}

@@ -1,7 +1,7 @@
 use Rattle.std.proofs.Common.{◌∙◌, ap, sym, subst, refl, arith, List}
 use Rattle.clr_rows.specs.declared.cells.CellId.{CellId}
 use Rattle.clr_rows.specs.Contents.{over}
-use Rattle.clr_differences.specs.Differences.{cells_in}
+use Rattle.clr_deltas.specs.Differences.{cells_in}
 use Rattle.clr_deltas.specs.Deltas.{wholes}
 use Rattle.clr_workspaces.specs.Workspaces.{workspace_at}
 use Rattle.clr_deltas.proofs.Answered.{on_ok, on_err}

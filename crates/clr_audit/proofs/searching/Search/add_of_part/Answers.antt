@@ -1,7 +1,7 @@
 use Rattle.std.proofs.Common.{◌≡◌, ◌∙◌, ◌++◌, ap, map, refl, sym, subst, List}
 use Rattle.clr_rows.specs.Held.{held_of}
 use Rattle.clr_rules.proofs.Elements.{Among, among, contained}
-use Rattle.clr_spot_maps.specs.declared.spot_maps.FiledPart.{FiledPart}
+use Rattle.clr_spots.specs.declared.spot_maps.FiledPart.{FiledPart}
 use Rattle.clr_audit.specs.RoleFiling.{partners}
 use Rattle.clr_rows.proofs.BeginningLaws.{on_err}
 use Rattle.clr_audit.proofs.Gaining.{gains_no_more}

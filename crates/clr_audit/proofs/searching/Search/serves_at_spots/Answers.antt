@@ -3,7 +3,7 @@ use Rattle.std.specs.List.{list_any}
 use Rattle.std.specs.Option.{option_map}
 use Rattle.clr_rows.specs.Held.{held_of}
 use Rattle.clr_rules.proofs.Elements.{among}
-use Rattle.clr_spot_maps.specs.Filing.{parts_at}
+use Rattle.clr_spots.specs.Filing.{parts_at}
 use Rattle.clr_audit.specs.Searches.{serves_at}
 use Rattle.clr_audit.proofs.NeedLaws.{any_flat}
 use Rattle.clr_audit.proofs.searching.Search.serves_at_spots.Goals as goal

@@ -2,7 +2,7 @@ use Rattle.std.proofs.Common.{◌≡◌, false, map, take}
 use Rattle.std.specs.List.{list_any, flat_map}
 use Rattle.std.specs.Option.{option_map}
 use Rattle.clr_rows.specs.Held.{held_of}
-use Rattle.clr_spot_maps.specs.Filing.{parts_at}
+use Rattle.clr_spots.specs.Filing.{parts_at}
 use Rattle.clr_audit.specs.Searches.{serves_at}
 use Rattle.clr_audit.proofs.searching.Search.serves_at_spots.Given as goal
 

@@ -1,4 +1,4 @@
-use Rattle.clr_differences.specs.Differences.{put_each}
+use Rattle.clr_deltas.specs.Differences.{put_each}
 use Rattle.clr_deltas.specs.Deltas.{Delta}
 use Rattle.clr_deltas.specs.NamedDeltas.{delta_of}
 use Rattle.clr_deltas.proofs.NamedDeltaLemmas.{changed}

@@ -1,5 +1,5 @@
 use Rattle.std.specs.Prelude.{filter}
-use Rattle.clr_differences.specs.Differences.{put_each, no_differences}
+use Rattle.clr_deltas.specs.Differences.{put_each, no_differences}
 use Rattle.clr_deltas.specs.Deltas.{is_stored_child}
 use Rattle.clr_deltas.specs.Deltas.{Delta}
 use Rattle.clr_deltas.specs.NamedDeltas.{delta_of}

@@ -1,7 +1,7 @@
 use Rattle.std.proofs.Common.{◌≡◌, ◌∙◌, ◌++◌, ◌∷◌, [], List, map, Bor, ap, sym, subst}
 use Rattle.clr_change.specs.declared.change_sets.ChangeSet.{ChangeSet}
 use Rattle.clr_workspaces.specs.Workspaces.{workspace_at}
-use Rattle.clr_row_maps.specs.RowMaps.{FiledRows}
+use Rattle.clr_finders.specs.RowMaps.{FiledRows}
 use Rattle.clr_foot.specs.Scenes.{IsReady, SceneModel}
 use Rattle.clr_engine.proofs.Scenes.{fits_scene, listed, ready}
 use Rattle.clr_engine.proofs.judges.Judge.first_broken_after.Goals as goal

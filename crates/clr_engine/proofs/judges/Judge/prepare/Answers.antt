@@ -4,10 +4,10 @@ use Rattle.clr_workspaces.specs.Workspaces.{workspace_at}
 use Rattle.clr_rows.specs.Contents.{taken_over}
 use Rattle.clr_steps.specs.declared.commands.Reply.TheVariants.{RuleBroken}
 use Rattle.clr_steps.specs.Refusals.{broken_where}
-use Rattle.clr_kept_finders.specs.Finders.{FitAfter, HasNoted, IsChangedAt}
-use Rattle.clr_kept_finders.proofs.Fits.{next_fits}
-use Rattle.clr_kept_finders.proofs.Indexes.{fit_after}
-use Rattle.clr_kept_finders.proofs.Prepared.{free, not_kept, one_is, prepared, within}
+use Rattle.clr_grid.specs.Finders.{FitAfter, HasNoted, IsChangedAt}
+use Rattle.clr_grid.proofs.Fits.{next_fits}
+use Rattle.clr_grid.proofs.Indexes.{fit_after}
+use Rattle.clr_grid.proofs.Prepared.{free, not_kept, one_is, prepared, within}
 use Rattle.clr_engine.proofs.Scenes.{served_at, unserved}
 use Rattle.clr_engine.proofs.judges.Judge.prepare.Goals as goal
 

@@ -2,7 +2,7 @@ use Rattle.std.proofs.Common.{◌≡◌, ◌∙◌, ◌∷◌, List, ap, rules, 
 use Rattle.std.specs.FinSet as set
 use Rattle.clr_rows.specs.declared.cells.CellId.{CellId}
 use Rattle.clr_grid.specs.CellSets.{Cells, with_listed_cells}
-use Rattle.clr_row_maps.specs.CellLists.{is_one_of}
+use Rattle.clr_finders.specs.CellLists.{is_one_of}
 use Rattle.clr_grid.specs.Gains.{GainsCells}
 use Rattle.clr_rows.proofs.BeginningLaws.{on_err}
 use Rattle.clr_grid.proofs.GainLemmas.{IsAddedTo, added_gains, added_next}

@@ -2,7 +2,7 @@ use Rattle.std.proofs.Common.{◌≡◌, ◌∙◌, ◌&&◌, ◌||◌, ap, sym,
 use Rattle.std.specs.FinSet as set
 use Rattle.clr_rows.proofs.CellOrder.{cell_cmp_total}
 use Rattle.clr_grid.specs.CellSets.{Cells}
-use Rattle.clr_row_maps.specs.CellLists.{is_one_of}
+use Rattle.clr_finders.specs.CellLists.{is_one_of}
 use Rattle.clr_rows.proofs.BeginningLaws.{on_err}
 use Rattle.clr_grid.proofs.GainLemmas.{gains_as}
 use Rattle.clr_grid.proofs.cell_sets.CellSet.add_to.Goals as goal

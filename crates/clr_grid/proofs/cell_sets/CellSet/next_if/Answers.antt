@@ -4,7 +4,7 @@ use Rattle.std.specs.FinSet as set
 use Rattle.clr_rows.proofs.CellOrder.{cell_cmp_total}
 use Rattle.clr_finders.proofs.NextLemmas.{next_as, next_none}
 use Rattle.clr_grid.specs.CellSets.{Cells}
-use Rattle.clr_row_maps.specs.CellLists.{is_one_of}
+use Rattle.clr_finders.specs.CellLists.{is_one_of}
 use Rattle.clr_grid.proofs.cell_sets.CellSet.next_if.Goals as goal
 
 pub returns-then-test : goal.returns-then-test

@@ -1,7 +1,7 @@
 use Rattle.std.proofs.Common.{Contains, List, subst, sym}
 use Rattle.clr_rows.specs.declared.cells.CellId.{CellId}
 use Rattle.clr_finders.specs.Sharing.{found_cells}
-use Rattle.clr_row_maps.specs.RowMaps.{FiledRows}
+use Rattle.clr_finders.specs.RowMaps.{FiledRows}
 use Rattle.clr_grid.proofs.list_finder.ListFinderRowFinder.candidates.Goals as goal
 
 pub returns : goal.returns

@@ -7,7 +7,7 @@ use Rattle.clr_rows.specs.Cells.{cell_cmp}
 use Rattle.clr_rows.proofs.CellOrder.{cell_cmp_total}
 use Rattle.clr_finders.proofs.NextLemmas.{next_of_two}
 use Rattle.clr_grid.specs.CellSets.{Cells}
-use Rattle.clr_row_maps.specs.CellLists.{is_one_of}
+use Rattle.clr_finders.specs.CellLists.{is_one_of}
 use Rattle.clr_grid.proofs.spot_cells.SpotCells.next.Goals as goal
 
 pub returns : goal.returns

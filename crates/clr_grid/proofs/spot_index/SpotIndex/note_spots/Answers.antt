@@ -2,7 +2,7 @@ use Rattle.std.proofs.Common.{◌≡◌, ◌∙◌, ap, sym, subst, None}
 use Rattle.std.specs.FinMap as finite
 use Rattle.std.specs.Option.{option_copied, option_flatten}
 use Rattle.clr_grid.specs.Filing.{GainOnly, IsFiledExactly, IsFiledIfAny}
-use Rattle.clr_row_maps.specs.RowMaps.{FiledRows, RowOrNone}
+use Rattle.clr_finders.specs.RowMaps.{FiledRows, RowOrNone}
 use Rattle.clr_grid.proofs.IndexLemmas.{filed_noted, filed_refused, noted_row, noted_dropped, others_noted, others_refused}
 use Rattle.clr_grid.proofs.spot_index.SpotIndex.note_spots.Goals as goal
 

@@ -1,6 +1,6 @@
 use Rattle.std.proofs.Common.{◌≡◌, ◌∙◌, None, ap}
 use Rattle.std.specs.FinMap as finite
-use Rattle.clr_row_maps.specs.RowMaps.{FiledRows, with_settled_row}
+use Rattle.clr_finders.specs.RowMaps.{FiledRows, with_settled_row}
 use Rattle.clr_grid.proofs.IndexLemmas.{filed_put, others_put}
 use Rattle.clr_grid.proofs.spot_index.SpotIndex.with_row.Goals as goal
 

@@ -5,7 +5,7 @@ use Rattle.clr_finders.specs.Sharing.{found_cells}
 use Rattle.clr_finders.proofs.PassingCells.{one_among}
 use Rattle.clr_finders.proofs.NextLemmas.{found_met}
 use Rattle.clr_grid.specs.Filing.{AreNear}
-use Rattle.clr_row_maps.specs.RowMaps.{FiledRows}
+use Rattle.clr_finders.specs.RowMaps.{FiledRows}
 use Rattle.clr_grid.specs.declared.rule_index.RuleIndex.{RuleIndex}
 use Rattle.clr_grid.proofs.IndexLemmas.{met_near}
 use Rattle.clr_grid.proofs.spot_index.SpotIndexRowFinder.candidates.Goals as goal

@@ -1,7 +1,7 @@
 use Rattle.std.proofs.Common.{◌<◌, sym, subst}
 use Rattle.std.specs.FinMap as finite
-use Rattle.clr_row_maps.specs.RowMaps.{FiledRows}
-use Rattle.clr_row_maps.proofs.MapLemmas.{fewer_left}
+use Rattle.clr_finders.specs.RowMaps.{FiledRows}
+use Rattle.clr_finders.proofs.MapLemmas.{fewer_left}
 use Rattle.clr_grid.proofs.spot_index.SpotIndexRowFinder.forget.Goals as goal
 
 pub loop-cell-smaller : goal.loop-cell-smaller

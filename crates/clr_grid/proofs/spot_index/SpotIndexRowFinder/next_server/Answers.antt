@@ -4,7 +4,7 @@ use Rattle.clr_finders.specs.NextCells.{IsNextOf}
 use Rattle.clr_finders.specs.Sharing.{found_cells}
 use Rattle.clr_finders.proofs.NextLemmas.{found_met, next_as}
 use Rattle.clr_grid.specs.Filing.{is_filed_under}
-use Rattle.clr_row_maps.specs.RowMaps.{FiledRows}
+use Rattle.clr_finders.specs.RowMaps.{FiledRows}
 use Rattle.clr_grid.specs.NextCells.{IsServerFoundFor}
 use Rattle.clr_grid.specs.declared.rule_index.RuleIndex.{RuleIndex}
 use Rattle.clr_grid.proofs.IndexLemmas.{met_holds}

@@ -1,9 +1,9 @@
 use Rattle.std.proofs.Common.{◌∙◌, ◌<◌, ap, sym, subst}
 use Rattle.std.specs.FinMap as finite
 use Rattle.clr_rows.specs.Cells.{cell_cmp}
-use Rattle.clr_row_maps.specs.RowMaps.{FiledRows}
+use Rattle.clr_finders.specs.RowMaps.{FiledRows}
 use Rattle.clr_finders.specs.Sharing.{Pending, next_of, next_at}
-use Rattle.clr_row_maps.proofs.MapLemmas.{next_kept, fewer_left}
+use Rattle.clr_finders.proofs.MapLemmas.{next_kept, fewer_left}
 use Rattle.clr_grid.proofs.spot_index.SpotIndexRowFinder.settle.Goals as goal
 
 pub loop-cell-preserved : goal.loop-cell-preserved

@@ -1,8 +1,8 @@
 use Rattle.std.proofs.Common.{◌≡◌, ◌∙◌, ◌++◌, List, None, ap, subst, sym}
 use Rattle.clr_spots.specs.RoleSpots.{subject_spots_under}
 use Rattle.clr_spots.specs.Spots.{are_many, unless_many}
-use Rattle.clr_spot_maps.specs.declared.spot_maps.FiledPart.{FiledPart}
-use Rattle.clr_spot_maps.specs.Filing.{with_filed, near}
+use Rattle.clr_spots.specs.declared.spot_maps.FiledPart.{FiledPart}
+use Rattle.clr_spots.specs.Filing.{with_filed, near}
 use Rattle.clr_versions.specs.Candidates.{IsNeedAmong}
 use Rattle.clr_versions.specs.Gains.{OfSome}
 use Rattle.clr_new_pairs.specs.NewPairs.{IsNeedOfFiledPart, IsNeedWithPart, UpTo, filed_part}

@@ -1,5 +1,5 @@
 use Rattle.std.proofs.Common.{ap, sym, subst, ◌∙◌}
-use Rattle.clr_differences.specs.Differences.{RowsByCell}
+use Rattle.clr_deltas.specs.Differences.{RowsByCell}
 use Rattle.clr_operations.specs.Moves.{put_into}
 use Rattle.clr_workspaces.specs.Operations.{after_write}
 use Rattle.clr_workspaces.proofs.TreeLemmas.{sound_current}

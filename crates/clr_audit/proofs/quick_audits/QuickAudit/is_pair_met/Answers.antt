@@ -1,0 +1,28 @@
+use Rattle.std.proofs.Common.{◌∷◌, ◌≤◌, arith}
+use Rattle.clr_rows.specs.Contents.{row_at}
+use Rattle.clr_rows.specs.Held.{held_of}
+use Rattle.clr_rules.specs.Calls.{part_count}
+use Rattle.clr_rules.specs.Needs.{rows_in}
+use Rattle.clr_audit.proofs.FitLaws.{fit_first}
+use Rattle.clr_audit.proofs.MeetingLaws.{all_first, fit_second}
+use Rattle.clr_audit.proofs.quick_audits.QuickAudit.is_pair_met.Goals as goal
+
+pub part_count-count-requires-clause-fit : goal.part_count-count-requires-clause-fit
+part_count-count-requires-clause-fit g c =
+    fit_first c.args.self.now.book.now (held_of c.args.first) (held_of c.args.second ∷ rows_in c.args.self.now.sheet.now) c.requires.fit
+
+pub part_count-requires-clause-fit : goal.part_count-requires-clause-fit
+part_count-requires-clause-fit g c =
+    fit_second c.args.self.now.book.now (held_of c.args.first) (held_of c.args.second) (rows_in c.args.self.now.sheet.now) c.requires.fit
+
+pub returns : goal.returns
+returns g c =
+    let rules = c.args.self.now.book.now in
+    let count : part_count rules c.args.rule (held_of c.args.first) ≤ c.loop-part.part = omega (
+      arith,
+      c.loop-part-test.false,
+      c.part_count-count.ensures,
+      c.loop-part.auto.part-end,
+    ) in
+    λ _. all_first rules (row_at c.args.self.now.sheet.now) c.args.rule (held_of c.args.first) (held_of c.args.second) c.loop-part.part count
+    c.loop-part.invariant

@@ -1,0 +1,12 @@
+use Rattle.std.proofs.Common.{◌≡◌, ◌++◌, [], take}
+use Rattle.std.specs.List.{flat_map}
+use Rattle.csv.specs.Records.{fields_of, partial_of}
+use Rattle.clr_lines.specs.Rows.{place_fields}
+use Rattle.clr_designs.proofs.fields.add_vertices.Given as goal
+
+-- the vertices so far are added
+abbrev pub invariant-loop-vertex : goal.invariant-loop-vertex
+invariant-loop-vertex l = record {
+  added : fields_of l.fields ≡ fields_of l.initial.fields ++ flat_map place_fields (take l.vertex-index l.vertices);
+  whole : partial_of l.fields ≡ [];
+}

@@ -1,0 +1,114 @@
+//! The fields of a record, added one behind another.
+
+ghost use Rattle.std.specs.Prelude.{◌≡◌, ◌++◌, ◌∷◌, [], map, OnOk};
+ghost use Rattle.std.specs.Fmt.{signed_decimal};
+ghost use Rattle.std.specs.List.{All, flat_map};
+ghost use Rattle.csv.specs.Records.{fields_of, partial_of};
+ghost use Rattle.clr_lines.specs.Rows.{place_fields, shape_fields, value_field};
+ghost use Rattle.clr_designs.specs.Scripts.{cell_fields};
+ghost use Rattle.clr_designs.specs.ReadBack.{IsText};
+
+use clr_rows::{CellId, Place, Row, Schema, Shape, Value};
+use csv::ByteRecord;
+use itoa::Buffer;
+use std::alloc::AllocError;
+
+/// Adds a field to a record that ends with a whole field.
+pub(crate) fn add(fields: &mut ByteRecord, field: &[u8]) -> Result<(), AllocError>
+    requires { partial_of fields.old ≡ [] }
+    ensures added { OnOk result (fields_of fields.new ≡ fields_of fields.old ++ field.now ∷ []) }
+    ensures whole { OnOk result (partial_of fields.new ≡ []) }
+{
+    fields.push_field(field)
+}
+
+fn add_number(fields: &mut ByteRecord, number: i64) -> Result<(), AllocError>
+    requires { partial_of fields.old ≡ [] }
+    ensures added { OnOk result (fields_of fields.new ≡ fields_of fields.old ++ signed_decimal number ∷ []) }
+    ensures whole { OnOk result (partial_of fields.new ≡ []) }
+{
+    add(fields, Buffer::new().format(number).as_bytes())
+}
+
+fn add_value(fields: &mut ByteRecord, value: &Value) -> Result<(), AllocError>
+    requires { partial_of fields.old ≡ [] }
+    ensures text { OnOk result (IsText value.now) }
+    ensures added { OnOk result (fields_of fields.new ≡ fields_of fields.old ++ value_field value.now ∷ []) }
+    ensures whole { OnOk result (partial_of fields.new ≡ []) }
+{
+    match value {
+        Value::Int(number) => add_number(fields, *number),
+        Value::Words(text) => add(fields, text.as_str().as_bytes()),
+    }
+}
+
+fn add_values(fields: &mut ByteRecord, values: &[Value]) -> Result<(), AllocError>
+    requires { partial_of fields.old ≡ [] }
+    ensures texts { OnOk result (All IsText values.now) }
+    ensures added { OnOk result (fields_of fields.new ≡ fields_of fields.old ++ map value_field values.now) }
+    ensures whole { OnOk result (partial_of fields.new ≡ []) }
+{
+    for value in values {
+        add_value(fields, value)?;
+    }
+    Ok(())
+}
+
+fn add_place(fields: &mut ByteRecord, place: Place) -> Result<(), AllocError>
+    requires { partial_of fields.old ≡ [] }
+    ensures added { OnOk result (fields_of fields.new ≡ fields_of fields.old ++ place_fields place) }
+    ensures whole { OnOk result (partial_of fields.new ≡ []) }
+{
+    add_number(fields, place.x)?;
+    add_number(fields, place.y)
+}
+
+fn add_vertices(fields: &mut ByteRecord, vertices: &[Place]) -> Result<(), AllocError>
+    requires { partial_of fields.old ≡ [] }
+    ensures added { OnOk result (fields_of fields.new ≡ fields_of fields.old ++ flat_map place_fields vertices.now) }
+    ensures whole { OnOk result (partial_of fields.new ≡ []) }
+{
+    for vertex in vertices {
+        add_place(fields, *vertex)?;
+    }
+    Ok(())
+}
+
+fn add_shape(fields: &mut ByteRecord, shape: &Shape) -> Result<(), AllocError>
+    requires { partial_of fields.old ≡ [] }
+    ensures added { OnOk result (fields_of fields.new ≡ fields_of fields.old ++ shape_fields shape.now) }
+{
+    match shape {
+        Shape::Bare => Ok(()),
+        Shape::At(place) => add_place(fields, *place),
+        Shape::Line(first, second) => {
+            add_place(fields, *first)?;
+            add_place(fields, *second)
+        }
+        Shape::Chain(vertices) => add_vertices(fields, vertices.as_slice()),
+    }
+}
+
+/// Adds what names a cell: its table and its key.
+pub(crate) fn add_cell(
+    fields: &mut ByteRecord,
+    schema: &Schema,
+    cell: CellId,
+) -> Result<(), AllocError>
+    requires { partial_of fields.old ≡ [] }
+    ensures added { OnOk result (fields_of fields.new ≡ fields_of fields.old ++ cell_fields schema.now cell) }
+    ensures whole { OnOk result (partial_of fields.new ≡ []) }
+{
+    add(fields, schema.name_of_table(cell.table).as_bytes())?;
+    add_number(fields, cell.key)
+}
+
+/// Adds what stands in a row: its values and its coordinates.
+pub(crate) fn add_row(fields: &mut ByteRecord, row: &Row) -> Result<(), AllocError>
+    requires { partial_of fields.old ≡ [] }
+    ensures added { OnOk result (fields_of fields.new ≡ fields_of fields.old ++ map value_field row.now.values ++ shape_fields row.now.shape) }
+    ensures texts { OnOk result (All IsText row.now.values) }
+{
+    add_values(fields, row.values.as_slice())?;
+    add_shape(fields, &row.shape)
+}

@@ -1,3 +1,0 @@
-pub mod LayerLemmas
-pub mod LineEnds
-pub mod ScriptLemmas

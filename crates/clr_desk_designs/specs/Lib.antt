@@ -1,2 +1,0 @@
-pub mod Designs
-pub mod Faults

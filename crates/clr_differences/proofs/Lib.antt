@@ -1,2 +1,0 @@
-pub mod DifferenceLemmas
-pub mod SweepLemmas

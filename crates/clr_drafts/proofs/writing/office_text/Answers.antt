@@ -1,0 +1,32 @@
+use Rattle.std.proofs.Common.{◌≡◌, [], ◌∷◌, ◌++◌, map, ap, ◌∙◌}
+use Rattle.json.specs.Token.{Token, end_object}
+use Rattle.clr_engine.specs.Drafts.{delta_in}
+use Rattle.clr_office_json.specs.CellData.{live_data}
+use Rattle.clr_office_json.specs.OfficeData.{office_data}
+use Rattle.clr_office_json.specs.RuleData.{rules_data}
+use Rattle.clr_office_json.specs.TableData.{table_data}
+use Rattle.clr_office_json.specs.Tokens.{tokens_of}
+use Rattle.clr_office_json.specs.Values.{list_data}
+use Rattle.clr_office_json.proofs.ListsWritten.{after}
+use Rattle.clr_drafts.specs.Writing.{text_of}
+use Rattle.clr_drafts.proofs.writing.office_text.Goals as goal
+
+pub returns : goal.returns
+unfolding office_data
+returns c =
+    let s = c.schema-schema.ensures.value in
+    let live = c.in_ok-text-2.ensures ∙ (λ i. c.key-2.new.self ++ tokens_of (live_data (s i) (c.live.ensures.value i))) in
+    let rules = c.in_ok-text-3.ensures ∙ (λ i. c.key-3.new.self ++ tokens_of (rules_data (s i) (c.book.ensures.value i))) in
+    let tables = c.in_ok-text-4.ensures ∙ ap (λ x. c.key-4.new.self ++ tokens_of (list_data table_data x)) s in
+    after c.in_ok-text.text c.begin_object.new.self _ _ _ c.in_ok-begin_object.ensures.ok (
+    after c.begin_object.new.self c.key.new.self _ _ _ c.in_ok-key.ensures.ok (
+    after c.key.new.self c.number.new.self _ _ _ c.in_ok-number.ensures.ok (
+    after c.number.new.self c.key-2.new.self _ _ _ c.in_ok-key-2.ensures.ok (
+    after c.key-2.new.self c.in_ok-text-2.text _ _ _ live (
+    after c.in_ok-text-2.text c.key-3.new.self _ _ _ c.in_ok-key-3.ensures.ok (
+    after c.key-3.new.self c.in_ok-text-3.text _ _ _ rules (
+    after c.in_ok-text-3.text c.key-4.new.self _ _ _ c.in_ok-key-4.ensures.ok (
+    after c.key-4.new.self c.in_ok-text-4.text _ _ _ tables (
+    after c.in_ok-text-4.text c.key-5.new.self _ _ _ c.in_ok-key-5.ensures.ok (
+    after c.key-5.new.self c.in_ok-text-5.text _ _ _ c.in_ok-text-5.ensures c.in_ok-end_object.ensures.ok))))))))))
+    ∙ ap (λ before. before ++ tokens_of (office_data (text_of c.args.office.now))) c.in_ok-text.ensures

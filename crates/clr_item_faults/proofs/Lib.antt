@@ -1,3 +1,0 @@
-pub mod FirstLaws
-pub mod Firsts
-pub mod Lost

@@ -1,4 +1,0 @@
-pub mod FirstFaults
-pub mod InnerFaults
-pub mod ListFaults
-pub mod Readings

@@ -1,2 +1,0 @@
-pub mod Finders
-pub mod Fitting

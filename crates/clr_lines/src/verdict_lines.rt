@@ -1,0 +1,130 @@
+//! The lines of verdicts.
+
+ghost use Rattle.std.specs.Prelude.{◌≡◌, ◌++◌, codes, map, IfOk};
+ghost use Rattle.clr_lines.specs.Pieces.{cell_text};
+ghost use Rattle.clr_lines.specs.Verdicts.{conflict_text, member_name as name_of_member, name_text, shared_text, uncovered_text, verdict_text};
+
+use crate::needs::add_need_of_versions;
+use crate::pieces::{add_cell, add_count};
+use clr_clearance::Verdict;
+use clr_needs::Need;
+use clr_rows::{CellId, Schema};
+use std::alloc::{AllocError, Global};
+
+/// Returns the name of the member at a position, or no bytes past the end.
+pub fn member_name<'a>(members: &'a [&'a str], at: usize) -> &'a str
+    ensures { result.now ≡ name_of_member (map (λ name. name.now) members.entry.now) at }
+{
+    match members.get(at) {
+        Some(name) => name,
+        None => "",
+    }
+}
+
+/// Returns a line that ends with a name.
+fn name_line(alloc: Global, front: &str, name: &str) -> Result<Vec<u8>, AllocError>
+    ensures { IfOk result (λ line. line.items ≡ name_text front.now name.now) }
+{
+    let mut line = Vec::from_slice(alloc, front.as_bytes())?;
+    line.extend_from_slice(name.as_bytes())?;
+    line.extend_from_slice(b"\n")?;
+    Ok(line)
+}
+
+/// Returns the line of a member in conflict.
+fn conflict_line(
+    alloc: Global,
+    schema: &Schema,
+    name: &str,
+    cell: CellId,
+    count: usize,
+) -> Result<Vec<u8>, AllocError>
+    ensures { IfOk result (λ line. line.items ≡ conflict_text schema.now name.now cell count) }
+{
+    let mut line = Vec::from_slice(alloc, b"4 Conflict ")?;
+    line.extend_from_slice(name.as_bytes())?;
+    line.extend_from_slice(b" ")?;
+    add_cell(&mut line, schema, cell)?;
+    line.extend_from_slice(b" ")?;
+    add_count(&mut line, count)?;
+    line.extend_from_slice(b"\n")?;
+    Ok(line)
+}
+
+/// Returns the line of a cell that two members change.
+fn shared_line(
+    alloc: Global,
+    schema: &Schema,
+    cell: CellId,
+    first: &str,
+    second: &str,
+) -> Result<Vec<u8>, AllocError>
+    ensures { IfOk result (λ line. line.items ≡ shared_text schema.now cell first.now second.now) }
+{
+    let mut line = Vec::from_slice(alloc, b"5 SharedCell ")?;
+    add_cell(&mut line, schema, cell)?;
+    line.extend_from_slice(b" ")?;
+    line.extend_from_slice(first.as_bytes())?;
+    line.extend_from_slice(b" ")?;
+    line.extend_from_slice(second.as_bytes())?;
+    line.extend_from_slice(b"\n")?;
+    Ok(line)
+}
+
+/// Returns the line of a need that no entry covers.
+fn uncovered_line(alloc: Global, schema: &Schema, need: &Need) -> Result<Vec<u8>, AllocError>
+    ensures { IfOk result (λ line. line.items ≡ uncovered_text schema.now need.now) }
+{
+    let mut line = Vec::from_slice(alloc, b"6 Uncovered ")?;
+    add_need_of_versions(&mut line, schema, need)?;
+    line.extend_from_slice(b"\n")?;
+    Ok(line)
+}
+
+/// Returns the line of a verdict on members of a root, ended by `\n`. The line is `clear`, or the
+/// number and the name of the verdict with its details: the name of the member or of the root; the
+/// member, the least cell in conflict, as `main/20`, and how many there are; the shared cell and
+/// the members that change it; or the need that no entry covers, as `rule 1 main/20/old/3
+/// main/21/new`. A position past the members, and a table that the schema hasn't, have an empty
+/// name.
+/// For example, `5 SharedCell main/20 W1 W2` says that `W1` and `W2` both change main 20, and
+/// `6 Uncovered rule 1 main/1/old main/2/old` that no entry covers the need of the old mains 1 and 2 under rule 1.
+pub fn verdict_line(
+    alloc: Global,
+    schema: &Schema,
+    members: &[&str],
+    root: &str,
+    verdict: &Verdict,
+) -> Result<Vec<u8>, AllocError>
+    ensures { IfOk result (λ line. line.items ≡ verdict_text schema.now (map (λ name. name.now) members.now) root.now verdict.now) }
+{
+    match *verdict {
+        Verdict::Clear => Vec::from_slice(alloc, b"clear\n"),
+        Verdict::OutOfMemory => Vec::from_slice(alloc, b"0 OutOfMemory\n"),
+        Verdict::RepeatedMember(at) => name_line(
+            alloc,
+            "1 RepeatedMember ",
+            member_name(members, at),
+        ),
+        Verdict::NoWorkspace(at) => name_line(alloc, "2 NoWorkspace ", member_name(members, at)),
+        Verdict::NotUnderRoot(at) => name_line(alloc, "3 NotUnderRoot ", member_name(members, at)),
+        Verdict::Conflict {
+            member: at,
+            cell,
+            count,
+        } => conflict_line(alloc, schema, member_name(members, at), cell, count),
+        Verdict::SharedCell {
+            cell,
+            first,
+            second,
+        } => shared_line(
+            alloc,
+            schema,
+            cell,
+            member_name(members, first),
+            member_name(members, second),
+        ),
+        Verdict::Uncovered(need) => uncovered_line(alloc, schema, &need),
+        Verdict::NotKept => name_line(alloc, "7 NotKept ", root),
+    }
+}

@@ -1,3 +1,0 @@
-pub mod FoundLemmas
-pub mod MapLemmas
-pub mod NextLemmas

@@ -1,2 +1,0 @@
-mod EditAgain
-mod ScriptAgain
