@@ -26,7 +26,7 @@ add_crate() {
 }
 
 # The crate on which nearly all others stand, and the one at which their chains meet: once that is proved, what is left stands on it, and there is
-# work for one or two checks at a time.
+# work for one to three checks at a time.
 first_crate=clr_rows
 meeting_crate=clr_engine
 

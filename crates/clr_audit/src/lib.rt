@@ -1,4 +1,4 @@
-//! The broken needs of a content.
+//! The broken needs of a content, and a quicker look that may see that there are none.
 //!
 //! - `audit` [`list`, `lists`]: exactly the needs that no row serves, ascending, each once, memory
 //!   aside. Every rule holds exactly where there is none, and else the first is the least, which

@@ -1,4 +1,4 @@
-//! The needs of a row beside other rows.
+//! Needs of two rows that a quick audit sees to be met.
 
 ghost use Rattle.std.specs.Prelude.{◌≡◌, ◌<◌, ◌∷◌, true, length, IfOk, Some};
 ghost use Rattle.std.specs.declared.cmp.Ordering.TheVariants.{Less};

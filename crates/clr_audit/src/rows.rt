@@ -1,4 +1,4 @@
-//! The needs of each row of a content.
+//! A quick audit of a content, row by row.
 
 ghost use Rattle.std.specs.Prelude.{◌≡◌, ◌<◌, ◌||◌, true, length, IfOk, None};
 ghost use Rattle.clr_rows.specs.Contents.{row_at};
@@ -82,8 +82,9 @@ impl<F: RowFinder> QuickAudit<'_, F> {
 }
 
 /// Returns whether every rule is seen to hold in a content whose rows a finder has. Where it returns
-/// true, every rule holds. Where it returns false, a rule is broken, or a row has so many rows near it,
-/// or so many parts, that a whole audit is quicker. The book and the rows fit one schema.
+/// true, every rule holds. Where it returns false, a rule is broken, or it gave up: more than 256 rows are near one
+/// row under a rule, one of two rows has more than 8 parts, or none of the first 64 rows that may serve a need serves
+/// it. The book and the rows fit one schema.
 /// For example, where mains may cross only at nodes, and mains 1 and 2 cross at node 9 and no other mains cross, it returns true.
 pub fn is_seen_to_hold<F: RowFinder>(
     book: &RuleBook,

@@ -1,4 +1,4 @@
-//! The rows that may serve a need.
+//! Servers that a quick audit finds for a need.
 
 ghost use Rattle.std.specs.Prelude.{◌≡◌, ◌<◌, ◌∷◌, ◌++◌, true, length, option_to_list};
 ghost use Rattle.std.specs.Option.{option_map};

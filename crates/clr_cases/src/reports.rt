@@ -8,7 +8,7 @@ use clr_scripts::Word;
 use std::alloc::Global;
 
 /// Returns what is answered where there is no workspace of a name.
-fn unknown(alloc: Global) -> Option<Vec<u8>> {
+fn unknown_answer(alloc: Global) -> Option<Vec<u8>> {
     Vec::from_slice(alloc, b"unknown\n").ok()
 }
 
@@ -26,7 +26,7 @@ fn rows_of(alloc: Global, office: &Office, name: &str) -> Option<Vec<u8>> {
         Some(rows) if are_read(office, name, &rows) => {
             rows_lines(alloc, office.schema(), &rows).ok()
         }
-        None if !are_read(office, name, office.live()) => unknown(alloc),
+        None if !are_read(office, name, office.live()) => unknown_answer(alloc),
         _ => None,
     }
 }
@@ -35,7 +35,7 @@ fn rows_of(alloc: Global, office: &Office, name: &str) -> Option<Vec<u8>> {
 fn changes_of(alloc: Global, office: &Office, name: &str) -> Option<Vec<u8>> {
     match office.changes(name).ok()? {
         Some(changes) => changes_lines(alloc, office.schema(), &changes).ok(),
-        None => unknown(alloc),
+        None => unknown_answer(alloc),
     }
 }
 
@@ -43,7 +43,7 @@ fn changes_of(alloc: Global, office: &Office, name: &str) -> Option<Vec<u8>> {
 fn conflicts_of(alloc: Global, office: &Office, name: &str) -> Option<Vec<u8>> {
     match office.conflicts(name).ok()? {
         Some(cells) => conflicts_lines(alloc, office.schema(), cells.as_slice()).ok(),
-        None => unknown(alloc),
+        None => unknown_answer(alloc),
     }
 }
 

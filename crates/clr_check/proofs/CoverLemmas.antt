@@ -10,7 +10,6 @@ use Rattle.clr_versions.specs.Candidates.{are_opposed}
 use Rattle.clr_needs.specs.Covers.{CoverTogether, CoversAlone, IsLifeOf, Lasts, WitnessesCover}
 use Rattle.clr_needs.specs.Needs.{AreOpposed, AreServers, IsBesideIfAny, IsPossible, Serves}
 use Rattle.clr_needs.specs.Settings.{Setting, Lifetime, Always, With, Without, Lived, version}
-use Rattle.clr_needs.proofs.NeedSubjects.{subjects_once}
 use Rattle.clr_needs.proofs.Reading.{none_taken, one_more, all_taken}
 use Rattle.clr_needs.proofs.PickLaws.{listed_serves, serving_listed}
 use Rattle.clr_clearance.proofs.CheckLemmas.{one_lived}

@@ -1,14 +1,15 @@
 -- Needs judged one after another by the entries of each.
-use Rattle.std.proofs.Common.{◌≡◌, ℕ, ◌+◌, ◌<◌, ◌≤◌, ◌⊎◌, ◌↔◌, inl, inr, Bool, true, false, List, Contains, Option, Some, None, get_or, length, pos, sym, ap}
+use Rattle.std.proofs.Common.{◌≡◌, ℕ, ◌+◌, ◌<◌, ◌≤◌, ◌⊎◌, ◌↔◌, inl, inr, Bool, true, false, List, Contains, Option, Some, None, get_or, length, sym, ap}
 use Rattle.std.proofs.Common.{◌∙◌, subst, arith}
 use Rattle.std.specs.Prelude.{slice_get}
 use Rattle.std.proofs.lemmas.Option.{slice_get-get_or}
 use Rattle.clr_cert.specs.declared.certificates.Entry.{Entry}
 use Rattle.clr_needs.specs.declared.needs.Need.{Need}
-use Rattle.clr_needs.specs.declared.needs.VersionId.{VersionId}
 use Rattle.clr_needs.specs.Covers.{AreCovered, Entry as Witnesses}
 use Rattle.clr_needs.specs.Needs.{AreTouchedNeeds, IsPossible, IsPossibleNeed}
 use Rattle.clr_needs.specs.Settings.{Setting, Lived}
+use Rattle.clr_needs.proofs.NeedOrder.{unread}
+use Rattle.clr_needs.proofs.VersionOrder.{unread as unread_version}
 use Rattle.clr_clearance.specs.CheckLaws.{IsCovered}
 use Rattle.clr_clearance.proofs.CheckLemmas.{all_judged, first_judged}
 use Rattle.clr_merge_sets.specs.Certificates.{entries_in}
@@ -17,14 +18,8 @@ use Rattle.clr_merge_sets.specs.Tests.{IsTestOf}
 use Rattle.clr_check.proofs.EntryLemmas.{covered_has, has_covered}
 
 -- what a read past the end would give
-abbrev no_version : VersionId
-no_version = record { cell = record { table = 0; key = pos 0 }; fresh = false }
-
-abbrev pub no_need : Need
-no_need = record { rule = 0; first = no_version; second = None; first_part = 0; second_part = 0 }
-
 abbrev pub no_entry : Entry
-no_entry = record { need = no_need; one = no_version; two = None }
+no_entry = record { need = unread; one = unread_version; two = None }
 
 -- one need -----------------------------------------------------------------------------------------
 

@@ -8,7 +8,7 @@ use clr_cert::Entry;
 use clr_needs::Need;
 use std::alloc::{AllocError, Global};
 
-/// Entries by need.
+/// Returns the entries in the order of their needs.
 pub(crate) fn sort_entries(alloc: Global, entries: &[Entry]) -> Result<Vec<Entry>, AllocError>
     ensures same { IfOk result (λ list. (e : OneEntry) → Contains list.items e ↔ Contains entries.now e) }
     ensures rising { IfOk result (λ list. RiseByNeed list.items) }

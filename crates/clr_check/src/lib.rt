@@ -1,5 +1,5 @@
-//! The checker of certificates: whether children of a kept workspace may be merged into it in every
-//! order, between other work, and runs of commands where it says so.
+//! The checker of certificates, given as values or as texts: whether children of a kept workspace may be
+//! merged into it in every order, between other work, and runs of commands where it says so.
 //!
 //! - `check` [`answer`, `free`, `safe`, `headline`, `runs`] gives the verdict on the certificate's
 //!   root, members and entries, or want of memory; it is never want of memory where the root isn't
@@ -21,7 +21,7 @@
 //! - `name_fault`, `read_merge_set`, `MergeSetParts` and `NameList` are those of `clr_merge_sets`, which reads what
 //!   a check and a plan look at.
 //!
-//! The same check of a certificate in an office, where both are given as texts.
+//! A certificate and an office may also be given as texts, and are then checked in the same way:
 //!
 //! - `read_case` [`case`, `fault`] gives the office of a text, in which every rule holds that is to
 //!   hold, with the certificate of another; or why the texts don't give both, memory aside: the

@@ -1,5 +1,5 @@
-//! Whether a command is quiet for a merge set: one that leaves the root and the members, or a merge or a
-//! refresh of a member. It takes no memory.
+//! Whether a command is quiet for a merge set: one that leaves the root and the members alone, or a merge or a
+//! refresh of a member. The test takes no memory.
 
 ghost use Rattle.std.specs.Prelude.{◌≡◌, ◌||◌, ◌&&◌, not};
 ghost use Rattle.clr_steps.specs.Names.{has};

@@ -11,7 +11,7 @@ pub fn cleared_plans_cover()
 {}
 
 /// Where every rule holds in the root, the order of a blocked plan is refused: of the merges of its
-/// members in that order, from this office and with the workspaces kept, one is answered by a
+/// members in that order, from this office and with no workspace removed, one is answered by a
 /// conflict or a broken rule.
 pub fn blocked_plans_are_refused()
     ensures { BlockedPlanLaw }

@@ -1,11 +1,11 @@
-//! What is stored of the workspaces of a tree: a map of deltas by name, in order of creation.
+//! What is stored of the workspaces of a tree: a map of deltas by name, in order of creation, and the
+//! differences that a delta has.
 //!
 //! - A delta is what is stored of a workspace, by differences; specs/ says which whole contents it
 //!   means. The contract of each call says what becomes of the deltas; that of `pin_saved` says that
-//!   no content changes, also where memory runs out.
-//! - `Differences` are rows, or none, at some cells: in what one content differs from another that lies
-//!   below it. The contract of each call says what becomes of the stored differences; that of `pin` says
-//!   that no content changes, also where memory runs out.
+//!   no savepoint's content changes, also where memory runs out.
+//! - `Differences` have, at some cells, a row or none: that by which one content differs from another that
+//!   lies below it. The contract of each call says what becomes of the stored differences.
 #![tactic(auto)]
 
 mod delta_views;

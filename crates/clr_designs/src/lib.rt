@@ -1,4 +1,4 @@
-//! Designs that have a wanted content, made as the two commands that make them; LIVE with another content; and the script that makes a design.
+//! Designs that have a wanted content, each made by two commands; LIVE with another content; and the script that makes a design.
 //!
 //! - `make_design` creates a workspace under LIVE and makes the edits in it that lead to a content. The office is the same with one more
 //!   workspace, or the workspace can't be created, and nothing changes (`IsDesignMade`).
@@ -13,10 +13,8 @@
 mod designs;
 mod fields;
 mod laws;
-mod script_laws;
 mod writing;
 
 pub use designs::{make_design, replace_live};
-pub use laws::designs_are_made;
-pub use script_laws::design_script_is_read_back;
+pub use laws::{design_script_is_read_back, designs_are_made};
 pub use writing::write_design_script;

@@ -105,7 +105,7 @@ pub fn answer<W: Sink, N: Sink>(
     if notes.put(print.notes.as_slice()).is_err() {
         return Err(RunFault::WriteFailed);
     }
-    match writer.put(print.shown()) {
+    match writer.put(print.shown_text()) {
         Ok(()) => Ok(status),
         Err(_) => Err(RunFault::WriteFailed),
     }

@@ -11,7 +11,7 @@ use clr_cert::write_certificate;
 use clr_engine::Office;
 use clr_office::{Plan, RunFault, Words, open_office, texts};
 use clr_plan::plan_lines;
-use clr_prints::{Print, is_out_of_memory, notes_of, plan_members, with_hints};
+use clr_prints::{Print, notes_of, plan_members, with_hints};
 use std::alloc::{AllocError, Global};
 
 /// Returns the lines of a plan that isn't cleared, as notes.
@@ -27,7 +27,7 @@ fn refusal_print(
         ≡ plan_print office.now (merge_set root.now (map (λ name. name.now) members.now)) plan.now) }
 {
     let notes = plan_lines(alloc, office.schema(), members, root, plan)?;
-    Ok(Print::new(Vec::new(alloc), notes, true, is_out_of_memory(plan)))
+    Ok(Print::new(Vec::new(alloc), notes, true, plan.is_out_of_memory()))
 }
 
 /// Returns the certificate of a cleared plan alone, or the lines of another plan as notes.

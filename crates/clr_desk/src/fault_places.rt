@@ -1,5 +1,5 @@
 //! Where the fault of a text is that an answer fails with.
-ghost use Rattle.std.specs.Prelude.{◌≡◌, IfOk, slice_get, unwrap_or};
+ghost use Rattle.std.specs.Prelude.{◌≡◌, IfOk};
 ghost use Rattle.clr_desk.specs.FaultPlaces.{IsFaultPlace, file_name};
 
 use clr_drafts::read_office;

@@ -37,7 +37,7 @@ fn first_key(matches: &ArgMatches) -> Option<u64>
 }
 
 /// Returns files with others behind them.
-fn joined(mut files: Vec<Words>, mut others: Vec<Words>) -> Result<Vec<Words>, AllocError>
+fn append_files(mut files: Vec<Words>, mut others: Vec<Words>) -> Result<Vec<Words>, AllocError>
     ensures { IfOk result (λ all. all.items ≡ files.items ++ others.items) }
 {
     files.append(&mut others)?;
@@ -54,7 +54,7 @@ pub(crate) fn office(alloc: Global, matches: &ArgMatches) -> Result<Option<Asked
     let ask = GeographicAsk::Office(Names::new(tables), is_set(matches, "round"));
     let mut all = Vec::new(alloc);
     all.push(given_or(alloc, matches, "SCHEMA", "")?)?;
-    Ok(Some((ask, joined(all, files)?)))
+    Ok(Some((ask, append_files(all, files)?)))
 }
 
 /// Returns the script of a design, or the design.
@@ -85,5 +85,5 @@ pub(crate) fn design(alloc: Global, matches: &ArgMatches) -> Result<Option<Asked
         is_rounded: is_set(matches, "round"),
     };
     let ask = as_script_or_office(is_set(matches, "script"), design);
-    Ok(Some((ask, joined(database(alloc, matches)?, files)?)))
+    Ok(Some((ask, append_files(database(alloc, matches)?, files)?)))
 }

@@ -6,7 +6,7 @@ ghost use Rattle.clr_desk_command_line.specs.Asks.{features_of, geographic_asked
 
 use crate::asks::GeographicAsk;
 use crate::design_reading::{Asked, design, office};
-use crate::values::{given, given_or, root};
+use crate::values::{given_or, given_value, root};
 use clap::ArgMatches;
 use clr_command_line::{database, names};
 use clr_rows::{LIVE, Words};
@@ -18,7 +18,7 @@ fn features(alloc: Global, matches: &ArgMatches) -> Result<Asked, AllocError>
 {
     let root = root(alloc, matches)?;
     let names = names(alloc, matches)?;
-    let system = given(alloc, matches, "crs")?;
+    let system = given_value(alloc, matches, "crs")?;
     Ok((
         GeographicAsk::Features(root, names, system),
         database(alloc, matches)?,

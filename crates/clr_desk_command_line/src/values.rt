@@ -9,7 +9,7 @@ use clr_rows::{LIVE, Words};
 use std::alloc::{AllocError, Global};
 
 /// Returns the value that is given.
-pub(crate) fn given(
+pub(crate) fn given_value(
     alloc: Global,
     matches: &ArgMatches,
     id: &str,

@@ -4,6 +4,6 @@ use Rattle.clr_engine.specs.Drafts.{unheld_in}
 use Rattle.clr_steps.specs.Invariants.{HoldsWhereKept}
 use Rattle.clr_steps.specs.Offices.{Office}
 
--- every rule holds in LIVE and in each workspace that is kept; so it is of every office that a text gives
+-- where no workspace is unheld, every rule holds in LIVE and in each workspace that is kept
 abbrev pub HeldLaw : Type 0
 HeldLaw = (o : Office) → unheld_in o ≡ None → HoldsWhereKept o

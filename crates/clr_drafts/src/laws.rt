@@ -2,9 +2,8 @@
 
 ghost use Rattle.clr_drafts.specs.Laws.{HeldLaw};
 
-/// Every rule holds in LIVE and in each kept workspace of an office in which `unheld_in` finds none
-/// that breaks one. So it does in each office that a text gives and in which `unheld_in` finds
-/// none.
+/// Every rule holds in LIVE and in each kept workspace of an office in which `unheld_in` finds no
+/// workspace that breaks one.
 pub fn rules_hold_where_none_is_unheld()
     ensures { HeldLaw }
 {}

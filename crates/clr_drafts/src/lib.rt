@@ -3,8 +3,8 @@
 //!
 //! - `read_office` gives the draft that a text means, or its first fault, memory aside: schema,
 //!   rules, LIVE, and each workspace with whole contents, marks and flag. A fault of the workspaces
-//!   as a whole is BadPart. `rules_hold_where_none_is_unheld`: in an office in which no workspace
-//!   is told to break a rule, every rule holds in LIVE and in each kept workspace.
+//!   as a whole is BadPart. `rules_hold_where_none_is_unheld`: in an office of which `unheld_in` names
+//!   no workspace that breaks a rule, every rule holds in LIVE and in each kept workspace.
 //! - `write_office` [`text`, `again`] gives the text of an office in format 3, with exactly the
 //!   cells that differ, and the text is read as the same office. The contract speaks of contents,
 //!   not of how they are stored.

@@ -21,7 +21,7 @@ mod signs;
 mod sketches;
 mod widths;
 
-pub use clr_views::{Area, Detail, View, extent_of, grown, joined, longer_side};
+pub use clr_views::{Area, Detail, View, extent_of, grow_box, join_boxes, longer_side};
 pub use labels::{Labels, Placed};
 pub use metres::round_metres;
 pub use palette::{

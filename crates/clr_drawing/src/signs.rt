@@ -159,7 +159,7 @@ fn add_strokes(
     steps.push(Step::Line(offset(middle, radius, (100, -100))))?;
     sketch.add(Element::Path {
         steps,
-        ink: Ink::drawn(colour, width),
+        ink: Ink::of_line(colour, width),
     })
 }
 

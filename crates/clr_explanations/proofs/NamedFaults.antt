@@ -1,5 +1,5 @@
 -- The fault that the reader drops is told.
-use Rattle.std.proofs.Common.{◌≡◌, ℕ, List, Option, Some, None, Result, Ok, Err, sym, ◌∙◌}
+use Rattle.std.proofs.Common.{◌≡◌, ℕ, List, Option, Some, None, Result, Ok, Err}
 use Rattle.std.specs.Prelude.{IsErr}
 use Rattle.serde_json.specs.Data.{Data}
 use Rattle.clr_rows.specs.declared.tables.TableDef.{TableDef}

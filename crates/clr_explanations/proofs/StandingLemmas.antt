@@ -1,5 +1,5 @@
 -- What is found of the workspaces of a text as a whole.
-use Rattle.std.proofs.Common.{◌≡◌, ◌≢◌, ℕ, List, Option, Some, None, Result, Ok, Err, refl}
+use Rattle.std.proofs.Common.{◌≡◌, ◌≢◌, ℕ, List, Option, Some, Ok, Err, refl}
 use Rattle.clr_parts.specs.Parts.{IsFirstPartFault}
 use Rattle.clr_parts.specs.declared.parts.PartFault.{PartFault}
 use Rattle.clr_parts.specs.declared.parts.PartFault.TheVariants as part

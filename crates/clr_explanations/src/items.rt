@@ -1,27 +1,11 @@
 //! The item of an office text that a fault stands at.
 ghost use Rattle.std.specs.Prelude.{◌≡◌, Ok, IfOk, IsErr, MatchOption};
 ghost use Rattle.serde_json.specs.View.{view};
-ghost use Rattle.clr_faults.specs.Stages.{list_item_of};
 ghost use Rattle.clr_explanations.specs.Items.{item_at_spot, item_in_workspace, saved_item};
 
-use clr_faults::{Spot, unless_lost};
-use clr_office_text::fields::optional_list;
+use clr_faults::{Spot, item_in};
 use serde_json::Value as Json;
 use std::alloc::AllocError;
-
-/// Returns an item of the list at a key, or none.
-#[tactic(auto, unfolding(clr_faults::specs::Stages::list_item_of))]
-fn item_in<'a>(json: &'a Json, key: &str, at: usize) -> Result<Option<&'a Json>, AllocError>
-    ensures { let meant = list_item_of key.now at (view json.now) in IfOk result (λ found. MatchOption found (IsErr meant) (λ v. meant ≡ Ok (view v.now))) }
-{
-    match optional_list(json, key) {
-        Ok(items) => Ok(items.get(at)),
-        Err(fault) => {
-            unless_lost(fault, ())?;
-            Ok(None)
-        }
-    }
-}
 
 /// Returns an item of a list of a workspace, or none.
 fn item_in_workspace<'a>(

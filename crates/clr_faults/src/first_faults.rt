@@ -4,7 +4,7 @@ ghost use Rattle.std.specs.Prelude.{◌≡◌, IfOk};
 ghost use Rattle.serde_json.specs.View.{items_view};
 ghost use Rattle.clr_faults.specs.FirstFaults.{alone, first_fault_from};
 
-use crate::item_lists::Item;
+use crate::item_kinds::Item;
 use crate::memory::unless_lost;
 use clr_office_text::TextFault;
 use serde_json::Value as Json;

@@ -5,7 +5,7 @@ ghost use Rattle.serde_json.specs.View.{items_view};
 ghost use Rattle.clr_faults.specs.ListFaults.{mark_fault_in};
 
 use crate::first_faults::{FirstFault, first_fault};
-use crate::item_lists::{MarkItem, NamedMarkItem};
+use crate::item_kinds::{MarkItem, NamedMarkItem};
 use clr_rows::Schema;
 use serde_json::Value as Json;
 use std::alloc::{AllocError, Global};

@@ -1,6 +1,6 @@
 //! The cell of a savepoint that has a fault.
 
-ghost use Rattle.std.specs.Prelude.{◌≡◌, IfOk};
+ghost use Rattle.std.specs.Prelude.{IfOk};
 ghost use Rattle.serde_json.specs.View.{view};
 ghost use Rattle.clr_faults.specs.Behind.{HasMark};
 ghost use Rattle.clr_faults.specs.Spots.{IsFaultAt};

@@ -4,13 +4,13 @@ ghost use Rattle.std.specs.Prelude.{◌≡◌, IfOk};
 ghost use Rattle.serde_json.specs.View.{view};
 ghost use Rattle.clr_faults.specs.Parts.{cell_fault_at, live_fault, mark_fault, first_rule_fault, table_fault, workspace_fault};
 
-use crate::cells::{cell_fault_in, row_fault_in};
+use crate::cell_lists::{cell_fault_in, row_fault_in};
 use crate::first_faults::{FirstFault, first_fault};
 use crate::inner_faults::rule_fault_of;
-use crate::item_lists::TableItem;
+use crate::item_kinds::TableItem;
 use crate::mark_lists::mark_fault_in;
 use crate::memory::unless_lost;
-use crate::rules::rule_fault_in;
+use crate::rule_lists::rule_fault_in;
 use crate::workspace_lists::workspace_fault_in;
 use clr_office_text::TextFault;
 use clr_office_text::fields::{list_in, optional_list};

@@ -4,6 +4,7 @@
 /// whole text, where the fault is of no item.
 #[derive(Clone, Copy, Debug, PartialEq, Eq)]
 pub enum Spot {
+    /// The whole text.
     Whole,
     /// A table.
     Table(usize),

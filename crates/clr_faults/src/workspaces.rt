@@ -1,6 +1,6 @@
 //! The item of a workspace that has a fault.
 
-ghost use Rattle.std.specs.Prelude.{◌≡◌, codes, Ok, IfOk};
+ghost use Rattle.std.specs.Prelude.{Ok, IfOk};
 ghost use Rattle.serde_json.specs.View.{view};
 ghost use Rattle.clr_faults.specs.Behind.{BehindBase, BehindHead, BehindRows, HasWorkspace};
 ghost use Rattle.clr_faults.specs.Spots.{IsFaultAt};

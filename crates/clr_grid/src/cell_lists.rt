@@ -1,4 +1,4 @@
-//! Lists of cells that are gathered, of which it counts alone which cells they have.
+//! Lists in which cells are gathered; only which cells they have counts.
 
 ghost use Rattle.std.specs.Prelude.{◌≡◌, ◌||◌, true, option_to_list, OnOk, OnErr};
 ghost use Rattle.std.specs.FinSet as set;
@@ -62,7 +62,7 @@ impl CellList {
         }
     }
 
-    /// Adds the keys of a tree. If memory runs out, the list keeps its own cells, and has some of these keys besides.
+    /// Adds the cells of a set. If memory runs out, the list keeps its own cells, and has some of these cells besides.
     pub(crate) fn add_keys(&mut self, cells: &BTreeSet<CellId>) -> Result<(), AllocError>
         ensures ok { OnOk result ((q : Cell) → set.contains self.new q ≡ (set.contains self.old q || is_one_of cells.now.keys q)) }
         ensures err { OnErr result (GainsCells (λ q. is_one_of cells.now.keys q ≡ true) self.old self.new) }

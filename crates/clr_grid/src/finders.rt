@@ -52,7 +52,7 @@ fn note_changes(
     Ok(())
 }
 
-/// Returns the finder of the rows of a content.
+/// Returns the finder of the rows of a content. The book and the rows fit one schema.
 pub fn finder_of(alloc: Global, book: &RuleBook, rows: &Sheet) -> Result<SpotIndex, AllocError>
     requires { FitsContent book.now rows.now }
     ensures { IfOk result (IsFinderOf book.now rows.now) }
@@ -125,7 +125,9 @@ impl Finders {
         }
     }
 
-    /// Adds changes to the finder at a position, if there is one, all of them or none.
+    /// Adds changes to the finder at a position, if it has one, all of them or none. The position is one of those that there
+    /// are, nothing is pending in its finder, and the rules and each row that is to stand fit one schema. If memory runs out,
+    /// nothing changes.
     pub fn note(
         &mut self,
         book: &RuleBook,
@@ -141,7 +143,7 @@ impl Finders {
         note(&mut self.list[at], book, changed)
     }
 
-    /// Takes over what the finder at a position noted.
+    /// Takes over what the finder at a position noted. The position is one of those that there are.
     pub fn settle(&mut self, at: usize)
         requires { at < length self.old }
         ensures { IsChangedAt HasSettled at self.old self.new }
@@ -149,7 +151,7 @@ impl Finders {
         settle(&mut self.list[at]);
     }
 
-    /// Drops what the finder at a position noted.
+    /// Drops what the finder at a position noted. The position is one of those that there are.
     pub fn forget(&mut self, at: usize)
         requires { at < length self.old }
         ensures { IsChangedAt HasForgotten at self.old self.new }
@@ -157,7 +159,7 @@ impl Finders {
         forget(&mut self.list[at]);
     }
 
-    /// Puts a finder, or none, at a position in place of what stands there.
+    /// Puts a finder, or none, at a position in place of what stands there. The position is one of those that there are.
     pub fn put(&mut self, at: usize, finder: Option<SpotIndex>)
         requires { at < length self.old }
         ensures { self.new ≡ slice_set self.old at finder }
@@ -181,7 +183,7 @@ impl Finders {
         self.list.pop();
     }
 
-    /// Takes a position away; the later ones move up.
+    /// Takes a position away, which is one of those that there are; the later ones move up.
     pub fn remove(&mut self, at: usize)
         requires { at < length self.old }
         ensures { self.new ≡ remove self.old at }

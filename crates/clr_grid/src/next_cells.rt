@@ -9,7 +9,7 @@ use clr_rows::CellId;
 use std::collections::BTreeSet;
 use std::ops::Bound;
 
-/// Returns the first key of a tree behind a given cell, if there is one.
+/// Returns the first cell of a set behind a given cell, if there is one.
 pub(crate) fn next_key(cells: &BTreeSet<CellId>, after: Option<CellId>) -> Option<CellId>
     ensures { IsNextOf (λ q. is_one_of cells.now.keys q ≡ true) after result }
 {

@@ -1,4 +1,4 @@
-//! The cells at one number of spots.
+//! The cells at one number.
 
 ghost use Rattle.std.specs.Prelude.{◌≡◌, ◌||◌, ◌&&◌, not, true, false, option_to_list, OnOk, OnErr};
 ghost use Rattle.std.specs.FinSet as set;
@@ -17,7 +17,7 @@ use std::alloc::{AllocError, Global};
 use std::collections::BTreeSet;
 use std::marker::Model;
 
-/// The cells at a spot. Most spots have one cell alone, which takes no memory of its own.
+/// The cells at one number. Most numbers have one cell alone, which takes no memory of its own.
 #[derive(Drop)]
 pub(crate) struct SpotCells {
     first: Option<CellId>,

@@ -21,5 +21,5 @@ pub use encodings::{encoding_fault, has_byte_order_mark};
 pub use json_faults::json_fault;
 pub use metres::metres_hint;
 pub use names::{name_hint, nearest};
-pub use schema_names::{column_names, listed, table_names, table_of};
-pub use values::{kind_of, shortened, shown};
+pub use schema_names::{column_names, join_names, table_names, table_of};
+pub use values::{kind_of, shorten, shorten_value};

@@ -1,6 +1,6 @@
 //! Metres in place of millimetres.
 
-ghost use Rattle.std.specs.Prelude.{◌≡◌, IfOk, map, option_map, string_bytes};
+ghost use Rattle.std.specs.Prelude.{◌≡◌, IfOk, option_map, string_bytes};
 ghost use Rattle.std.specs.List.{list_all, list_any};
 ghost use Rattle.clr_hints.specs.Metres.{around_point, is_decimal, is_digit, metres_hint, millimetres_of, moved, whole_number};
 
@@ -38,7 +38,7 @@ fn is_decimal(whole: &str, decimals: &str) -> bool
 }
 
 /// Returns the digits with the point moved behind them, which is three places.
-fn moved(alloc: Global, whole: &str, decimals: &str) -> Result<String, AllocError>
+fn shift_point(alloc: Global, whole: &str, decimals: &str) -> Result<String, AllocError>
     ensures { IfOk result (λ digits. string_bytes digits ≡ moved whole.now decimals.now) }
 {
     let mut digits = String::from_str(alloc, whole)?;
@@ -75,7 +75,7 @@ fn millimetres_of(alloc: Global, text: &str) -> Result<Option<i64>, AllocError>
     if !is_decimal(whole, decimals) {
         return Ok(None);
     }
-    let digits = moved(alloc, whole, decimals)?;
+    let digits = shift_point(alloc, whole, decimals)?;
     Ok(whole_number(digits.as_str()))
 }
 

@@ -22,7 +22,7 @@ pub fn column_names<'a>(alloc: Global, table: &'a TableDef) -> Result<Vec<&'a st
 }
 
 /// Returns names, with commas between them.
-pub fn listed(alloc: Global, names: &[&str]) -> Result<String, AllocError> {
+pub fn join_names(alloc: Global, names: &[&str]) -> Result<String, AllocError> {
     let mut text = String::new(alloc);
     for (at, name) in names.iter().enumerate() {
         if at > 0 {

@@ -7,7 +7,7 @@ use std::alloc::{AllocError, Global};
 const MOST_SHOWN: usize = 40;
 
 /// Returns a text, cut behind its first characters where it is long.
-pub fn shortened(alloc: Global, text: &str) -> Result<String, AllocError> {
+pub fn shorten(alloc: Global, text: &str) -> Result<String, AllocError> {
     let mut short = String::new(alloc);
     for (count, character) in text.chars().enumerate() {
         if count == MOST_SHOWN {
@@ -20,9 +20,9 @@ pub fn shortened(alloc: Global, text: &str) -> Result<String, AllocError> {
 }
 
 /// Returns a value as it is written, cut behind its first characters where it is long.
-pub fn shown(alloc: Global, json: &Json) -> Result<String, AllocError> {
+pub fn shorten_value(alloc: Global, json: &Json) -> Result<String, AllocError> {
     let text = json.to_string(alloc)?;
-    shortened(alloc, text.as_str())
+    shorten(alloc, text.as_str())
 }
 
 /// Returns which kind of value this is, with its article.

@@ -1,7 +1,7 @@
 //! Fields of objects that are missing, or that aren't what must stand there.
 
 use crate::slips::Slip;
-use clr_hints::{metres_hint, name_hint, shown};
+use clr_hints::{metres_hint, name_hint, shorten_value};
 use clr_places::{Key, Step};
 use serde_json::Value as Json;
 use std::alloc::{AllocError, Global};
@@ -76,7 +76,7 @@ pub fn explain_value(
     if wanted.admits(json) {
         return Ok(None);
     }
-    let text = shown(alloc, json)?;
+    let text = shorten_value(alloc, json)?;
     let name = wanted.name();
     let sentence = format!(in alloc; "{text} isn't {name}")?;
     Ok(Some(Slip::new(alloc, &[], sentence)?))
@@ -87,7 +87,7 @@ pub fn explain_coordinate(alloc: Global, json: &Json) -> Result<Option<Slip>, Al
     if json.as_i64().is_some() {
         return Ok(None);
     }
-    let text = shown(alloc, json)?;
+    let text = shorten_value(alloc, json)?;
     let sentence = format!(in alloc;
         "{text} is no whole number; coordinates are whole millimetres"
     )?;
@@ -149,7 +149,7 @@ pub fn explain_word(
     if words.contains(&word) {
         return Ok(None);
     }
-    let text = shown(alloc, json)?;
+    let text = shorten_value(alloc, json)?;
     let sentence = format!(in alloc; "{text} is no word that may stand here")?;
     let hint = name_hint(alloc, word, words)?;
     Ok(Some(Slip::new(alloc, &[], sentence)?.with_hint(hint)))

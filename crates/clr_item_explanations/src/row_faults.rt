@@ -1,34 +1,21 @@
 //! Rows that don't fit their table.
-ghost use Rattle.std.specs.Prelude.{◌≡◌, string_bytes, IfOk};
+ghost use Rattle.std.specs.Prelude.{string_bytes, IfOk};
 ghost use Rattle.clr_lines.specs.Replies.{row_fault_name};
 ghost use Rattle.clr_item_explanations.specs.FaultNames.{BeginsWithName};
 
 use crate::fields::{items_at, text_at};
 use crate::rows::coordinates_of;
 use crate::slips::Slip;
-use clr_hints::{column_names, kind_of, listed, name_hint, shown, table_names, table_of};
+use clr_hints::{
+    column_names, join_names, kind_of, name_hint, shorten_value, table_names, table_of,
+};
+use clr_lines::row_fault_word;
 use clr_places::{Key, Step};
 use clr_rows::{
     GREATEST_COORDINATE, GREATEST_KEY, Kind, MOST_TEXT_BYTES, RowFault, Schema, TableDef,
 };
 use serde_json::Value as Json;
 use std::alloc::{AllocError, Global};
-
-/// Returns the name of a fault, as a refused edit has it.
-fn row_fault_word(fault: RowFault) -> &'static str
-    ensures { result.now ≡ row_fault_name fault }
-{
-    match fault {
-        RowFault::NoTable => "NoTable",
-        RowFault::WrongCount => "WrongCount",
-        RowFault::WrongKind => "WrongKind",
-        RowFault::WordsTooLong => "WordsTooLong",
-        RowFault::WrongShape => "WrongShape",
-        RowFault::OutOfRange => "OutOfRange",
-        RowFault::ZeroSegment => "ZeroSegment",
-        RowFault::BadPath => "BadPath",
-    }
-}
 
 /// Returns the name of a column, and whether it has numbers or texts.
 fn column_at(table: &TableDef, at: usize) -> Option<(&str, Kind)> {
@@ -47,7 +34,7 @@ fn kind_word(kind: Kind) -> &'static str {
 fn wrong_count(alloc: Global, json: &Json, table: &TableDef) -> Result<Slip, AllocError> {
     let count = items_at(json, Key::V).len();
     let columns = column_names(alloc, table)?;
-    let names = listed(alloc, columns.as_slice())?;
+    let names = join_names(alloc, columns.as_slice())?;
     let name = table.name.as_str();
     let sentence = if columns.is_empty() {
         format!(in alloc; "{count} values; table {name} has no columns")?
@@ -64,7 +51,7 @@ fn wrong_kind(alloc: Global, json: &Json, table: &TableDef) -> Result<Slip, Allo
             break;
         };
         if value.is_string() != (kind == Kind::Words) {
-            let text = shown(alloc, value)?;
+            let text = shorten_value(alloc, value)?;
             let wanted = kind_word(kind);
             let is = kind_of(value);
             let sentence = format!(in alloc; "column {name} is {wanted}, and {text} is {is}")?;
@@ -175,7 +162,7 @@ pub fn explain_row_fault(
         Some(table) => of_fault(alloc, json, table, fault)?,
         None => no_table(alloc, json, schema)?,
     };
-    slip.named(alloc, row_fault_word(fault))
+    slip.with_name(alloc, row_fault_word(fault))
 }
 
 /// Returns the slip that the table of an item isn't known, or none where it is.
@@ -186,6 +173,6 @@ pub fn explain_unknown_table(
 ) -> Result<Option<Slip>, AllocError> {
     match table_of(schema, text_at(json, Key::T)) {
         Some(_) => Ok(None),
-        None => Ok(Some(no_table(alloc, json, schema)?.named(alloc, "NoTable")?)),
+        None => Ok(Some(no_table(alloc, json, schema)?.with_name(alloc, "NoTable")?)),
     }
 }

@@ -178,5 +178,5 @@ pub fn explain_rule_fault(alloc: Global, fault: RuleFault) -> Result<Slip, Alloc
     ensures { IfOk result (λ slip. BeginsWithName (rule_fault_name fault) (string_bytes slip.sentence)) }
 {
     let slip = Slip::of_words(alloc, &[], sentence_of(fault))?;
-    slip.named(alloc, rule_fault_word(fault))
+    slip.with_name(alloc, rule_fault_word(fault))
 }

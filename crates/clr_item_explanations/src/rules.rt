@@ -4,7 +4,7 @@ use crate::fields::{
     Wanted, explain_field, explain_fields, explain_value, explain_word_at, items_at, text_at,
 };
 use crate::slips::Slip;
-use clr_hints::shown;
+use clr_hints::shorten_value;
 use clr_places::{Key, Step};
 use serde_json::Value as Json;
 use std::alloc::{AllocError, Global};
@@ -54,7 +54,7 @@ fn explain_literal(alloc: Global, json: &Json) -> Result<Option<Slip>, AllocErro
         return explain_value(alloc, json, Wanted::List);
     };
     let [name, value] = items.as_slice() else {
-        let text = shown(alloc, json)?;
+        let text = shorten_value(alloc, json)?;
         let sentence = format!(in alloc; "{text} is no pair of a column and a value")?;
         return Ok(Some(Slip::new(alloc, &[], sentence)?));
     };

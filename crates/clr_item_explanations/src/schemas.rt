@@ -140,5 +140,5 @@ pub fn explain_schema(alloc: Global, json: &Json, fault: SchemaFault) -> Result<
         SchemaFault::BadName => bad_name(alloc, json)?,
         SchemaFault::NameTaken => name_taken(alloc, json)?,
     };
-    slip.named(alloc, schema_fault_word(fault))
+    slip.with_name(alloc, schema_fault_word(fault))
 }

@@ -55,7 +55,7 @@ impl Slip {
     }
 
     /// Returns this slip with the name of a fault and a colon before its sentence.
-    pub fn named(self, alloc: Global, name: &str) -> Result<Slip, AllocError>
+    pub fn with_name(self, alloc: Global, name: &str) -> Result<Slip, AllocError>
         ensures { IfOk result (λ slip. string_bytes slip.sentence ≡ name.now ++ codes ": " ++ string_bytes self.sentence) }
     {
         let told = self.sentence.as_str();

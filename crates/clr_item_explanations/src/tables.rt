@@ -4,7 +4,7 @@ use crate::fields::{
     Wanted, explain_fields, explain_value, explain_word, explain_word_at, items_at,
 };
 use crate::slips::Slip;
-use clr_hints::shown;
+use clr_hints::shorten_value;
 use clr_office_text::formats::Format;
 use clr_places::{Key, Step};
 use serde_json::Value as Json;
@@ -20,7 +20,7 @@ fn explain_column(alloc: Global, json: &Json) -> Result<Option<Slip>, AllocError
         return explain_value(alloc, json, Wanted::List);
     };
     let [name, kind] = items.as_slice() else {
-        let text = shown(alloc, json)?;
+        let text = shorten_value(alloc, json)?;
         let sentence = format!(in alloc; "{text} is no pair of a name and a kind")?;
         return Ok(Some(Slip::new(alloc, &[], sentence)?));
     };

@@ -134,5 +134,5 @@ pub fn explain_part(alloc: Global, workspace: &Json, fault: PartFault) -> Result
     } else {
         Slip::new(alloc, &[], sentence)?
     };
-    slip.named(alloc, part_fault_word(fault))
+    slip.with_name(alloc, part_fault_word(fault))
 }

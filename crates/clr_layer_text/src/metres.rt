@@ -97,7 +97,7 @@ fn behind_point(rounded: bool, digits: &str) -> Result<u64, LayerFault>
 
 /// Returns the millimetres of a number of metres without a sign.
 #[tactic(auto, unfolding(crate::specs::Metres::unsigned_of))]
-fn unsigned(rounded: bool, text: &str) -> Result<u64, LayerFault>
+fn unsigned_millimetres(rounded: bool, text: &str) -> Result<u64, LayerFault>
     ensures value { result ≡ unsigned_of rounded text.now }
     ensures small { IfOk result (λ n. n < 2 ^ 62) }
 {
@@ -120,8 +120,10 @@ pub(crate) fn millimetres(rounded: bool, text: &str) -> Result<i64, LayerFault>
     ensures { result ≡ millimetres_of rounded text.now }
 {
     match cut(text, '-') {
-        None => Ok(unsigned(rounded, text)? as i64),
-        Some((front, behind)) if front.is_empty() => Ok(-(unsigned(rounded, behind)? as i64)),
+        None => Ok(unsigned_millimetres(rounded, text)? as i64),
+        Some((front, behind)) if front.is_empty() => Ok(
+            -(unsigned_millimetres(rounded, behind)? as i64),
+        ),
         Some(_) => Err(LayerFault::NotDecimal),
     }
 }

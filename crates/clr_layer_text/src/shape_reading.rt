@@ -17,7 +17,7 @@ use std::alloc::Global;
 /// Returns what stands before the first `)`. Fails with `NotWkt` where there is none, or where other bytes
 /// than spaces stand behind it.
 #[tactic(auto, unfolding(crate::specs::Wkt::closed_of))]
-fn closed(text: &str) -> Result<&str, LayerFault>
+fn inside_brackets(text: &str) -> Result<&str, LayerFault>
     ensures { Gives layer_lacks_memory (λ inside. inside.now) result (closed_of text.now) }
 {
     let (inside, behind) = cut(text, ')').ok_or(LayerFault::NotWkt)?;
@@ -35,7 +35,7 @@ fn single(text: &str) -> Result<&str, LayerFault>
     if contains_byte(text, b',') {
         return Err(LayerFault::SeveralParts);
     }
-    closed(text)
+    inside_brackets(text)
 }
 
 /// Returns the one part in parentheses of its own, of what stands before its `(` and behind it. Fails with
@@ -140,8 +140,8 @@ fn shape_by(
     ensures { Gives layer_lacks_memory (λ x. x) result (shape_by rounded form text.now geometry) }
 {
     match geometry {
-        Geometry::Point => point(alloc, rounded, closed(text)?),
-        Geometry::Line => line(alloc, rounded, form, closed(text)?),
+        Geometry::Point => point(alloc, rounded, inside_brackets(text)?),
+        Geometry::Line => line(alloc, rounded, form, inside_brackets(text)?),
         Geometry::Points => point(alloc, rounded, one_part(text)?),
         Geometry::Lines => line(alloc, rounded, form, one_part(text)?),
     }

@@ -11,7 +11,7 @@ use Rattle.clr_rows.specs.Contents.{Changes}
 use Rattle.clr_rules.specs.declared.needs.Broken.{Broken}
 use Rattle.clr_lines.specs.Pieces.{cell_text, need_text}
 
--- the first line of a report: its word, and how many lines follow
+-- a first line: a word and a count
 abbrev pub count_line : List ℕ → ℕ → List ℕ
 count_line word count = word ++ codes " " ++ decimal count ++ codes "\n"
 

@@ -11,7 +11,8 @@ use clr_rules::Broken;
 use clr_steps::Reply;
 use std::alloc::{AllocError, Global};
 
-fn row_fault_word(fault: RowFault) -> &'static str
+/// Returns the name of a row's fault, as a refused edit has it.
+pub fn row_fault_word(fault: RowFault) -> &'static str
     ensures { result.now ≡ row_fault_name fault }
 {
     match fault {

@@ -12,7 +12,7 @@ use clr_rows::{CellId, Change, Row, Schema};
 use clr_rules::Broken;
 use std::alloc::{AllocError, Global};
 
-/// Returns the first line of a report: its word, and how many lines follow.
+/// Returns a first line: a word, a space and a count, ended by `\n`. For example, `changes 3`.
 pub fn count_line(alloc: Global, word: &str, count: usize) -> Result<Vec<u8>, AllocError>
     ensures { IfOk result (λ line. line.items ≡ count_text word.now count) }
 {

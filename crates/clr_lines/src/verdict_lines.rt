@@ -1,7 +1,6 @@
 //! The lines of verdicts.
 
-ghost use Rattle.std.specs.Prelude.{◌≡◌, ◌++◌, codes, map, IfOk};
-ghost use Rattle.clr_lines.specs.Pieces.{cell_text};
+ghost use Rattle.std.specs.Prelude.{◌≡◌, map, IfOk};
 ghost use Rattle.clr_lines.specs.Verdicts.{conflict_text, member_name as name_of_member, name_text, shared_text, uncovered_text, verdict_text};
 
 use crate::needs::add_need_of_versions;

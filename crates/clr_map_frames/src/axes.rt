@@ -39,7 +39,7 @@ pub fn add_grid(sketch: &mut Sketch, scene: &Scene<'_>) -> Result<(), AllocError
         steps.push(Step::Line(Spot { x, y: frame.bottom }))?;
     }
     add_level_lines(&mut steps, scene)?;
-    sketch.add_path(steps, Ink::drawn(GRID, Pixels::of_tenths(10)))
+    sketch.add_path(steps, Ink::of_line(GRID, Pixels::of_tenths(10)))
 }
 
 fn add_level_lines(steps: &mut Vec<Step>, scene: &Scene<'_>) -> Result<(), AllocError> {
@@ -92,7 +92,7 @@ fn add_numbers_beside(sketch: &mut Sketch, scene: &Scene<'_>) -> Result<(), Allo
                 right: at.x + words_width(words.as_str(), SMALL) + Pixels::whole(2),
                 bottom: at.y + Pixels::whole(2),
             };
-            sketch.add_area(room, Pixels::whole(2), Ink::filled(GROUND))?;
+            sketch.add_area(room, Pixels::whole(2), Ink::of_area(GROUND))?;
             sketch.add_words(
                 words.as_str(),
                 at,
@@ -134,13 +134,13 @@ fn add_scale(sketch: &mut Sketch, scene: &Scene<'_>) -> Result<(), AllocError> {
         area.bottom - Pixels::whole(14),
         area.bottom - Pixels::whole(8),
     );
-    sketch.add_area(area, Pixels::whole(4), Ink::filled(GROUND))?;
+    sketch.add_area(area, Pixels::whole(4), Ink::of_area(GROUND))?;
     let mut steps = Vec::with_capacity(alloc, 4)?;
     steps.push(Step::Begin(Spot { x: left, y: high }))?;
     steps.push(Step::Line(Spot { x: left, y: low }))?;
     steps.push(Step::Line(Spot { x: right, y: low }))?;
     steps.push(Step::Line(Spot { x: right, y: high }))?;
-    sketch.add_path(steps, Ink::drawn(INK, Pixels::of_tenths(16)))?;
+    sketch.add_path(steps, Ink::of_line(INK, Pixels::of_tenths(16)))?;
     let at = Spot {
         x: area.middle().x,
         y: high - Pixels::whole(1),
@@ -159,7 +159,7 @@ fn add_scale(sketch: &mut Sketch, scene: &Scene<'_>) -> Result<(), AllocError> {
 pub fn add_axes(sketch: &mut Sketch, scene: &Scene<'_>) -> Result<(), AllocError> {
     add_numbers_below(sketch, scene)?;
     add_numbers_beside(sketch, scene)?;
-    let frame = Ink::drawn(FAINT, Pixels::whole(1));
+    let frame = Ink::of_line(FAINT, Pixels::whole(1));
     sketch.add_area(scene.frame(), Pixels::whole(6), frame)?;
     add_scale(sketch, scene)?;
     let at = Spot {

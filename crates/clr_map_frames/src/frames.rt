@@ -30,8 +30,8 @@ fn add_area(alloc: Global, groups: &mut Vec<Area>, area: Area) -> Result<(), All
     let mut whole = area;
     let mut others = Vec::new(alloc);
     for group in groups.iter() {
-        if group.grown(NEAR).overlaps(whole) {
-            whole = whole.joined(*group);
+        if group.grow(NEAR).overlaps(whole) {
+            whole = whole.join(*group);
         } else {
             others.push(*group)?;
         }
@@ -61,7 +61,7 @@ pub fn frames_of(scene: &Scene<'_>, at: usize) -> Result<Vec<Area>, AllocError> 
         }
     }
     for group in groups.iter_mut() {
-        *group = group.grown(MARGIN);
+        *group = group.grow(MARGIN);
     }
     Ok(groups)
 }
@@ -96,7 +96,7 @@ fn add_frames_of(
 pub fn add_grounds(sketch: &mut Sketch, scene: &Scene<'_>) -> Result<(), AllocError> {
     for at in scene.field.designs.order() {
         let colours = scene.field.designs.colours(*at);
-        add_frames_of(sketch, scene, *at, Ink::filled(colours.within))?;
+        add_frames_of(sketch, scene, *at, Ink::of_area(colours.within))?;
     }
     Ok(())
 }
@@ -105,7 +105,7 @@ pub fn add_grounds(sketch: &mut Sketch, scene: &Scene<'_>) -> Result<(), AllocEr
 pub fn add_outlines(sketch: &mut Sketch, scene: &Scene<'_>) -> Result<(), AllocError> {
     for at in scene.field.designs.order() {
         let colours = scene.field.designs.colours(*at);
-        let outline = Ink::drawn(colours.line, Pixels::of_tenths(14));
+        let outline = Ink::of_line(colours.line, Pixels::of_tenths(14));
         add_frames_of(sketch, scene, *at, outline)?;
     }
     Ok(())

@@ -34,7 +34,11 @@ fn add_others(
 }
 
 /// Returns the names of these designs, with commas between them.
-fn listed(alloc: Global, designs: &Designs<'_>, positions: &[usize]) -> Result<String, AllocError>
+fn names_of_designs(
+    alloc: Global,
+    designs: &Designs<'_>,
+    positions: &[usize],
+) -> Result<String, AllocError>
     ensures { IfOk result (λ text. string_bytes text ≡ listed (design_names designs.now) positions.now) }
 {
     let Some((first, others)) = positions.split_first() else {
@@ -59,7 +63,7 @@ fn some_names(alloc: Global, designs: &Designs<'_>) -> Result<String, AllocError
 {
     let order = designs.order();
     let end = MOST_NAMED.min(order.len());
-    let mut text = listed(alloc, designs, &order[..end])?;
+    let mut text = names_of_designs(alloc, designs, &order[..end])?;
     let others = number_text(alloc, designs.len().saturating_sub(end))?;
     text.push_str(" and ")?;
     text.push_str(others.as_str())?;
@@ -72,7 +76,7 @@ fn some_names(alloc: Global, designs: &Designs<'_>) -> Result<String, AllocError
 fn names_of_leaders(alloc: Global, designs: &Designs<'_>) -> Result<String, AllocError>
     ensures { IfOk result (λ text. string_bytes text ≡ names_of_leaders designs.now) }
 {
-    let mut text = listed(alloc, designs, designs.leaders())?;
+    let mut text = names_of_designs(alloc, designs, designs.leaders())?;
     let count = number_text(alloc, designs.len())?;
     text.push_str(", of ")?;
     text.push_str(count.as_str())?;
@@ -96,7 +100,7 @@ pub fn names_text(field: Field<'_>) -> Result<String, AllocError>
     ensures { IfOk result (λ text. string_bytes text ≡ design_names_text field.entry.designs.now) }
 {
     if field.designs.len() <= FEW {
-        return listed(field.alloc, field.designs, field.designs.order());
+        return names_of_designs(field.alloc, field.designs, field.designs.order());
     }
     few_names(field.alloc, field.designs)
 }

@@ -1,7 +1,7 @@
 //! A small plan of everything, with the map's window in it.
 
 use clr_drawing::{
-    ALARM, Area, FAINT, GROUND, INK, PLAIN, SOFT, Sketch, View, add_shape, extent_of, grown,
+    ALARM, Area, FAINT, GROUND, INK, PLAIN, SOFT, Sketch, View, add_shape, extent_of, grow_box,
 };
 use clr_plan_scenes::{BESIDE, EDGE, Scene};
 use clr_rows::Row;
@@ -70,7 +70,7 @@ fn add_rows(sketch: &mut Sketch, scene: &Scene<'_>, view: &View) -> Result<(), A
         add_shape(&mut steps, view, &row.shape)?;
     }
     let steps = coarse(alloc, steps.as_slice())?;
-    sketch.add_path(steps, Ink::drawn(PLAIN, Pixels::of_tenths(6)))
+    sketch.add_path(steps, Ink::of_line(PLAIN, Pixels::of_tenths(6)))
 }
 
 fn with_row(extent: Option<Bounds>, row: Option<&Row>) -> Option<Bounds> {
@@ -116,14 +116,18 @@ fn add_design(
         colours.line
     };
     let area = at_least(view.area(bounds), 5, 5);
-    sketch.add_area(area, Pixels::of_tenths(15), Ink::filled(colour))
+    sketch.add_area(area, Pixels::of_tenths(15), Ink::of_area(colour))
 }
 
 /// Draws the window of the map.
 fn add_window(sketch: &mut Sketch, scene: &Scene<'_>, view: &View) -> Result<(), AllocError> {
     let colour = if scene.cause.is_some() { ALARM } else { INK };
     let area = at_least(view.area(scene.view.world), 12, 9);
-    sketch.add_area(area, Pixels::whole(2), Ink::drawn(colour, Pixels::whole(2)))
+    sketch.add_area(
+        area,
+        Pixels::whole(2),
+        Ink::of_line(colour, Pixels::whole(2)),
+    )
 }
 
 /// Draws a small plan of everything below this height, where it helps and there is room.
@@ -134,8 +138,8 @@ pub fn add_inset(sketch: &mut Sketch, scene: &Scene<'_>, down: Pixels) -> Result
     let Some(area) = area_below(scene, down) else {
         return Ok(());
     };
-    let view = View::new(grown(scene.whole, 106, 1000), area);
-    let frame = Ink::drawn(FAINT, Pixels::whole(1)).over(GROUND);
+    let view = View::new(grow_box(scene.whole, 106, 1000), area);
+    let frame = Ink::of_line(FAINT, Pixels::whole(1)).over(GROUND);
     sketch.add_area(area, Pixels::whole(6), frame)?;
     add_rows(sketch, scene, &view)?;
     for at in scene.field.designs.order().iter().rev() {

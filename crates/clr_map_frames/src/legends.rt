@@ -109,20 +109,20 @@ impl Column<'_> {
             y: self.down - Pixels::whole(4),
         };
         match sample {
-            Sample::Plain => self.add_dash(Ink::drawn(PLAIN, Pixels::of_tenths(32))),
-            Sample::Added => self.add_dash(Ink::drawn(SAMPLE, Pixels::of_tenths(46))),
+            Sample::Plain => self.add_dash(Ink::of_line(PLAIN, Pixels::of_tenths(32))),
+            Sample::Added => self.add_dash(Ink::of_line(SAMPLE, Pixels::of_tenths(46))),
             Sample::Changed => {
-                self.add_dash(Ink::drawn(SAMPLE, Pixels::of_tenths(62)))?;
-                self.add_dash(Ink::drawn(PAPER, Pixels::of_tenths(26)))
+                self.add_dash(Ink::of_line(SAMPLE, Pixels::of_tenths(62)))?;
+                self.add_dash(Ink::of_line(PAPER, Pixels::of_tenths(26)))
             }
             Sample::Removed => {
-                let line = Ink::drawn(SAMPLE, Pixels::of_tenths(33));
-                self.add_dash(line.dashed(Pixels::whole(7), Pixels::whole(6)))?;
+                let line = Ink::of_line(SAMPLE, Pixels::of_tenths(33));
+                self.add_dash(line.with_dashes(Pixels::whole(7), Pixels::whole(6)))?;
                 add_cross(&mut self.sketch, middle, Pixels::whole(5), SAMPLE, PAPER)
             }
-            Sample::Halo => self.add_dash(Ink::drawn(HALO, Pixels::whole(15))),
+            Sample::Halo => self.add_dash(Ink::of_line(HALO, Pixels::whole(15))),
             Sample::Ring => {
-                let ring = Ink::drawn(ALARM, Pixels::whole(3));
+                let ring = Ink::of_line(ALARM, Pixels::whole(3));
                 self.sketch.add_circle(middle, Pixels::whole(10), ring)
             }
         }
@@ -200,7 +200,7 @@ fn add_design(column: &mut Column<'_>, at: usize, has_room: bool) -> Result<(), 
     };
     column
         .sketch
-        .add_area(bar, Pixels::whole(3), Ink::filled(line))?;
+        .add_area(bar, Pixels::whole(3), Ink::of_area(line))?;
     let spot = column.spot(38);
     column.sketch.add_words(
         designs.name(at),
@@ -225,7 +225,7 @@ fn add_design(column: &mut Column<'_>, at: usize, has_room: bool) -> Result<(), 
 
 /// Returns how many designs are listed: all where they are few, and otherwise those of the cause, if there
 /// is one.
-fn listed(scene: &Scene<'_>) -> usize {
+fn count_listed(scene: &Scene<'_>) -> usize {
     let designs = scene.field.designs;
     let all = designs.len();
     let leading = designs.leaders().len();
@@ -241,7 +241,7 @@ fn listed(scene: &Scene<'_>) -> usize {
 fn add_designs(column: &mut Column<'_>) -> Result<(), AllocError> {
     let scene = column.scene;
     let designs = scene.field.designs;
-    let listed = listed(scene);
+    let listed = count_listed(scene);
     let has_room = listed <= FEW;
     let is_part = listed < designs.len() && scene.cause.is_some();
     column.add_heading(if is_part {
@@ -278,7 +278,7 @@ fn has_ring(scene: &Scene<'_>) -> bool {
 fn add_tables(column: &mut Column<'_>) -> Result<(), AllocError> {
     let scene = column.scene;
     let schema = scene.field.schema;
-    let ink = Ink::drawn(SIGN, Pixels::of_tenths(16)).over(PAPER);
+    let ink = Ink::of_line(SIGN, Pixels::of_tenths(16)).over(PAPER);
     for (number, table) in schema.tables().iter().enumerate() {
         if table.shape == Form::Point {
             let middle = Spot {

@@ -58,7 +58,7 @@ pub fn add_lines(sketch: &mut Sketch, scene: &Scene<'_>) -> Result<(), AllocErro
             add_shape(&mut steps, &scene.view, &row.shape)?;
         }
     }
-    sketch.add_path(steps, Ink::drawn(PLAIN, line_width(scene.detail)))
+    sketch.add_path(steps, Ink::of_line(PLAIN, line_width(scene.detail)))
 }
 
 /// Returns whether a point of the root is drawn by itself: it is seen, and no design changes it.
@@ -68,7 +68,7 @@ fn is_drawn(scene: &Scene<'_>, cell: CellId, row: &Row) -> bool {
 
 /// Draws the signs of the points of the root.
 fn add_large_signs(sketch: &mut Sketch, scene: &Scene<'_>) -> Result<(), AllocError> {
-    let ink = Ink::drawn(SIGN, Pixels::of_tenths(15)).over(PAPER);
+    let ink = Ink::of_line(SIGN, Pixels::of_tenths(15)).over(PAPER);
     for (cell, row) in scene.field.rows.iter() {
         if let Shape::At(place) = &row.shape
             && is_drawn(scene, *cell, row)
@@ -98,7 +98,7 @@ fn add_dots(sketch: &mut Sketch, scene: &Scene<'_>) -> Result<(), AllocError> {
             steps.push(Step::Line(spot))?;
         }
     }
-    sketch.add_path(steps, Ink::drawn(SIGN, Pixels::of_tenths(40)))
+    sketch.add_path(steps, Ink::of_line(SIGN, Pixels::of_tenths(40)))
 }
 
 /// Draws the points of the root that are seen and that no design changes: by signs, or by dots where there is little room, or not at all

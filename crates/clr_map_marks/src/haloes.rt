@@ -13,11 +13,11 @@ const HALO_RADIUS: Pixels = Pixels { tenths: 170 };
 /// Draws the halo of a row.
 fn add_halo(sketch: &mut Sketch, scene: &Scene<'_>, row: &CauseRow) -> Result<(), AllocError> {
     if let Shape::At(place) = &row.row.shape {
-        return sketch.add_circle(scene.view.spot(*place), HALO_RADIUS, Ink::filled(HALO));
+        return sketch.add_circle(scene.view.spot(*place), HALO_RADIUS, Ink::of_area(HALO));
     }
     let mut steps = Vec::new(sketch.allocator());
     add_shape(&mut steps, &scene.view, &row.row.shape)?;
-    sketch.add_path(steps, Ink::drawn(HALO, HALO_RADIUS))
+    sketch.add_path(steps, Ink::of_line(HALO, HALO_RADIUS))
 }
 
 /// Draws the haloes of the rows that a cause names.
@@ -83,9 +83,9 @@ pub fn marked_spot(scene: &Scene<'_>, cause: &Cause) -> Option<Marked> {
 }
 
 fn add_ring(sketch: &mut Sketch, marked: Marked) -> Result<(), AllocError> {
-    let below = Ink::drawn(PAPER, Pixels::whole(6));
+    let below = Ink::of_line(PAPER, Pixels::whole(6));
     sketch.add_circle(marked.spot, marked.radius, below)?;
-    let above = Ink::drawn(ALARM, Pixels::of_tenths(32));
+    let above = Ink::of_line(ALARM, Pixels::of_tenths(32));
     sketch.add_circle(marked.spot, marked.radius, above)
 }
 
@@ -97,12 +97,12 @@ fn add_near(
     second: Place,
     distance: i64,
 ) -> Result<(), AllocError> {
-    let thin = Ink::drawn(ALARM, Pixels::of_tenths(14));
-    let circle = thin.dashed(Pixels::whole(5), Pixels::whole(4));
+    let thin = Ink::of_line(ALARM, Pixels::of_tenths(14));
+    let circle = thin.with_dashes(Pixels::whole(5), Pixels::whole(4));
     for place in [first, second] {
         sketch.add_circle(scene.view.spot(place), scene.view.length(distance), circle)?;
     }
-    let line = Ink::drawn(ALARM, Pixels::whole(3));
+    let line = Ink::of_line(ALARM, Pixels::whole(3));
     sketch.add_line(scene.view.spot(first), scene.view.spot(second), line)
 }
 
@@ -119,8 +119,8 @@ pub fn add_mark(sketch: &mut Sketch, scene: &Scene<'_>, cause: &Cause) -> Result
     match cause.mark {
         Mark::Near(distance) => add_near(sketch, scene, first, second, distance),
         Mark::Link => {
-            let line = Ink::drawn(ALARM, Pixels::whole(2));
-            let dotted = line.dashed(Pixels::whole(3), Pixels::whole(5));
+            let line = Ink::of_line(ALARM, Pixels::whole(2));
+            let dotted = line.with_dashes(Pixels::whole(3), Pixels::whole(5));
             sketch.add_line(scene.view.spot(first), scene.view.spot(second), dotted)
         }
         Mark::Ring(_) | Mark::Nothing => Ok(()),

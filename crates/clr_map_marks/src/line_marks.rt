@@ -143,11 +143,13 @@ fn add_kinds(
 ) -> Result<(), AllocError>
     ensures { OnOk result (DrawsKinds (kinds_of_lines lines) width dash colour sketch.old.elements.items sketch.new.elements.items) }
 {
-    let broad = Ink::drawn(colour, width + Pixels::of_tenths(16));
-    let hollow = Ink::drawn(PAPER, width - Pixels::of_tenths(16));
-    let cleared = Ink::drawn(GROUND, width + Pixels::whole(1));
-    let dashed = Ink::drawn(colour, width - Pixels::of_tenths(10)).dashed(dash.dash, dash.gap);
-    sketch.add_path(lines.added, Ink::drawn(colour, width))?;
+    let broad = Ink::of_line(colour, width + Pixels::of_tenths(16));
+    let hollow = Ink::of_line(PAPER, width - Pixels::of_tenths(16));
+    let cleared = Ink::of_line(GROUND, width + Pixels::whole(1));
+    let dashed = Ink::of_line(colour, width - Pixels::of_tenths(10)).with_dashes(
+        dash.dash, dash.gap,
+    );
+    sketch.add_path(lines.added, Ink::of_line(colour, width))?;
     add_twice(sketch, lines.changed, broad, hollow)?;
     add_twice(sketch, lines.removed, cleared, dashed)
 }

@@ -195,11 +195,11 @@ fn ink_of(deed: Deed, colour: Colour) -> Ink
 {
     match deed {
         Deed::Goes | Deed::Leaves => {
-            let hollow = Ink::drawn(colour, Pixels::of_tenths(17)).over(GROUND);
-            hollow.dashed(Pixels::of_tenths(25), Pixels::of_tenths(20))
+            let hollow = Ink::of_line(colour, Pixels::of_tenths(17)).over(GROUND);
+            hollow.with_dashes(Pixels::of_tenths(25), Pixels::of_tenths(20))
         }
-        Deed::Comes => Ink::drawn(PAPER, Pixels::of_tenths(15)).over(colour),
-        Deed::Changes => Ink::drawn(colour, Pixels::of_tenths(26)).over(PAPER),
+        Deed::Comes => Ink::of_line(PAPER, Pixels::of_tenths(15)).over(colour),
+        Deed::Changes => Ink::of_line(colour, Pixels::of_tenths(26)).over(PAPER),
     }
 }
 
@@ -208,11 +208,11 @@ fn small_ink_of(deed: Deed, colour: Colour) -> Ink
     ensures { result ≡ small_ink_of deed colour }
 {
     match deed {
-        Deed::Comes => Ink::filled(colour),
-        Deed::Changes => Ink::drawn(colour, Pixels::of_tenths(12)).over(PAPER),
+        Deed::Comes => Ink::of_area(colour),
+        Deed::Changes => Ink::of_line(colour, Pixels::of_tenths(12)).over(PAPER),
         Deed::Goes | Deed::Leaves => {
-            let thin = Ink::drawn(colour, Pixels::of_tenths(12)).over(GROUND);
-            thin.dashed(Pixels::of_tenths(20), Pixels::of_tenths(15))
+            let thin = Ink::of_line(colour, Pixels::of_tenths(12)).over(GROUND);
+            thin.with_dashes(Pixels::of_tenths(20), Pixels::of_tenths(15))
         }
     }
 }

@@ -1,5 +1,5 @@
 -- What is made of what two texts give: of why they don't give both, and of an office with a certificate.
-use Rattle.std.proofs.Common.{◌≡◌, ℕ, Bool, not, ◌||◌, List, Option, Result, Ok, Err, is_some, length, take, refl, sym, subst, ◌∙◌}
+use Rattle.std.proofs.Common.{◌≡◌, ℕ, not, ◌||◌, List, Option, Result, Ok, Err, is_some, length, take, refl, sym, subst}
 use Rattle.std.specs.List.{list_any}
 use Rattle.clr_workspaces.specs.Marks.{Name}
 use Rattle.clr_steps.specs.declared.commands.Command.{Command}
@@ -23,9 +23,9 @@ use Rattle.clr_reports.specs.declared.faults.RunFault.{RunFault}
 use Rattle.clr_reports.specs.declared.faults.RunFault.TheVariants as run_fault
 use Rattle.clr_reports.specs.declared.outputs.Output.{Output}
 use Rattle.clr_office.specs.Clearances.{AreMerged, IsMergeOutcome, IsPrintOfCase, IsVerdictOutcome, fault_print, is_clear, is_without_memory}
-use Rattle.clr_office.specs.Clearances.{merge_outcome, merge_text, of_merges, of_verdict as of_verdict_alone, verdict_outcome}
-use Rattle.clr_reports.specs.Outcomes.{Outcome, is_refused, outcome, outcome_of}
-use Rattle.clr_reports.specs.Printing.{IsOutput, IsTextFault, Printed, print_of}
+use Rattle.clr_office.specs.Clearances.{merge_text, of_merges, of_verdict as of_verdict_alone, verdict_outcome}
+use Rattle.clr_reports.specs.Outcomes.{Outcome, is_refused, outcome_of}
+use Rattle.clr_reports.specs.Printing.{IsOutput, Printed, print_of}
 use Rattle.clr_reports.proofs.Outcomes.{parts_are}
 use Rattle.clr_office.proofs.Prints.{weaker_made}
 

@@ -1,5 +1,5 @@
 -- What steps print one after another.
-use Rattle.std.proofs.Common.{◌≡◌, ℕ, suc, ◌+◌, ◌<◌, ◌≤◌, Bool, true, false, ◌||◌, List, ◌∷◌, [], ◌++◌, length, get_or, drop, Result, Ok, refl, sym, ap, subst}
+use Rattle.std.proofs.Common.{◌≡◌, ℕ, suc, ◌+◌, ◌<◌, ◌≤◌, Bool, ◌||◌, List, ◌∷◌, ◌++◌, length, get_or, drop, Result, Ok, refl, sym, ap, subst}
 use Rattle.std.proofs.Common.{◌∙◌, append_assoc, add-one}
 use Rattle.std.proofs.Math.Bool.{or-false, or_assoc}
 use Rattle.std.proofs.Math.Seq.{drop-cons}

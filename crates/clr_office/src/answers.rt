@@ -11,7 +11,7 @@ ghost use Rattle.clr_reports.specs.declared.faults.RunFault.TheVariants as run_f
 use crate::certificates::{check_output, fault_output};
 use crate::disposals::Disposal;
 use crate::merges::merge_members;
-use crate::plans::plan_members;
+use crate::plans::plan_output;
 use crate::run_script::run_text;
 use clr_audit::audit;
 use clr_check::read_case;
@@ -80,7 +80,7 @@ fn answer_plan(
 {
     match open_office(alloc, office) {
         Ok(office) => {
-            let output = plan_members(alloc, &office, root, names)?;
+            let output = plan_output(alloc, &office, root, names)?;
             disposal.dispose(office);
             Ok(output)
         }

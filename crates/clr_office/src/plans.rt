@@ -1,37 +1,18 @@
 //! Plans of members, which are given by their names.
-ghost use Rattle.std.specs.Prelude.{◌≡◌, IfOk};
+ghost use Rattle.std.specs.Prelude.{IfOk};
 ghost use Rattle.clr_merge_sets.specs.MergeSetNames.{merge_set};
-ghost use Rattle.clr_plan.specs.Promises.{is_cleared as is_cleared_plan, is_out_of_memory as is_lost_plan};
 ghost use Rattle.clr_office.specs.Outcomes.{IsPlanOutcome};
 ghost use Rattle.clr_reports.specs.Outcomes.{outcome_of};
 
 use clr_engine::Office;
-use clr_plan::{Plan, plan, plan_lines};
+use clr_plan::{plan, plan_lines};
 use clr_reports::{Output, texts};
 use clr_rows::Words;
 use std::alloc::{AllocError, Global};
 
-fn is_cleared(plan: &Plan) -> bool
-    ensures { result ≡ is_cleared_plan plan.now }
-{
-    match plan {
-        Plan::Cleared(_) => true,
-        _ => false,
-    }
-}
-
-fn is_out_of_memory(plan: &Plan) -> bool
-    ensures { result ≡ is_lost_plan plan.now }
-{
-    match plan {
-        Plan::OutOfMemory => true,
-        _ => false,
-    }
-}
-
 /// Returns the lines of the plan of members that are to be merged into a root. A plan that finds no
 /// memory has its line too. It fails only if no memory is found for the lines.
-pub fn plan_members(
+pub fn plan_output(
     alloc: Global,
     office: &Office,
     root: &str,
@@ -44,7 +25,7 @@ pub fn plan_members(
     let lines = plan_lines(alloc, office.schema(), members.as_slice(), root, &plan)?;
     Ok(Output {
         lines,
-        refused: !is_cleared(&plan),
-        lost: is_out_of_memory(&plan),
+        refused: !plan.is_cleared(),
+        lost: plan.is_out_of_memory(),
     })
 }

@@ -6,7 +6,7 @@ ghost use Rattle.clr_reports.specs.Outcomes.{outcome_of};
 ghost use Rattle.clr_office.specs.Scripts.{IsScriptFault, IsScriptPrint};
 ghost use Rattle.clr_reports.specs.Printing.{IsOutput};
 
-use crate::plans::plan_members;
+use crate::plans::plan_output;
 use clr_engine::Office;
 use clr_reports::{
     Output, RunFault, audit_output, changes_output, conflicts_output, dump_output,
@@ -55,9 +55,9 @@ fn run_step(alloc: Global, office: &mut Office, step: &Step) -> Result<Output, A
         Step::Report(Word::Audit, names) => audit_output(alloc, office, first_name(names)),
         Step::Report(Word::Workspaces, _) => workspaces_output(alloc, office),
         Step::Report(Word::Dump, _) => dump_output(alloc, office),
-        Step::Report(Word::Plan, names) => plan_members(alloc, office, LIVE, names.as_slice()),
+        Step::Report(Word::Plan, names) => plan_output(alloc, office, LIVE, names.as_slice()),
         Step::Report(Word::PlanUnder, names) => {
-            plan_members(alloc, office, first_name(names), later_names(names))
+            plan_output(alloc, office, first_name(names), later_names(names))
         }
         Step::Report(Word::Independence, names) => {
             independence_output(alloc, office, LIVE, names.as_slice())

@@ -2,7 +2,7 @@
 
 use crate::dice_offices::{MadeUp, NETWORK, made_up, only};
 use crate::merge_sets::groups_of;
-use crate::plain::{are_dependent, joined, needs_of};
+use crate::plain::{are_dependent, group_of, needs_of};
 use clr_call_test_kit::Dice;
 use clr_engine::Office;
 use clr_office_test_kit::{office_of, perform_script};
@@ -25,9 +25,7 @@ fn set_of(group: &[u16]) -> u16 {
 fn is_group(needs: &[u16], group: &[u16]) -> bool {
     let set = set_of(group);
     !group.is_empty()
-        && group
-            .iter()
-            .all(|member| joined(needs, only(usize::from(*member))) == set)
+        && group.iter().all(|member| group_of(needs, only(usize::from(*member))) == set)
 }
 
 /// Returns whether these are the groups, and each of the five members stands in one.

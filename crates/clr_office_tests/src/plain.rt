@@ -22,7 +22,7 @@ pub(crate) struct Version {
 
 impl Version {
     /// Returns the member that its life names.
-    fn named(self) -> u16 {
+    fn named_member(self) -> u16 {
         self.with | self.without
     }
 }
@@ -32,7 +32,7 @@ fn named_at(versions: &[Version], x: u64, y: u64) -> u16 {
     let mut all = 0;
     for version in versions {
         if version.form == Form::Node(x, y) {
-            all |= version.named();
+            all |= version.named_member();
         }
     }
     all
@@ -42,8 +42,8 @@ fn named_at(versions: &[Version], x: u64, y: u64) -> u16 {
 fn involved_by_one(versions: &[Version], one: Version) -> u16 {
     match one.form {
         Form::Node(..) => 0,
-        Form::Across(y) => one.named() | named_at(versions, 0, y),
-        Form::Up(x) => one.named() | named_at(versions, x, 0),
+        Form::Across(y) => one.named_member() | named_at(versions, 0, y),
+        Form::Up(x) => one.named_member() | named_at(versions, x, 0),
     }
 }
 
@@ -53,7 +53,7 @@ fn involved_by_two(versions: &[Version], one: Version, other: Version) -> u16 {
     if one.with & other.without != 0 || one.without & other.with != 0 {
         return 0;
     }
-    let named = one.named() | other.named();
+    let named = one.named_member() | other.named_member();
     match (one.form, other.form) {
         (Form::Across(y), Form::Up(x)) => named | named_at(versions, x, y),
         (Form::Up(x), Form::Across(y)) => named | named_at(versions, x, y),
@@ -97,7 +97,7 @@ fn with_dependents(needs: &[u16], members: u16) -> u16 {
 }
 
 /// Returns the set of the members that chains of dependent pairs join to a member, and this one; there are at most 16.
-pub(crate) fn joined(needs: &[u16], member: u16) -> u16 {
+pub(crate) fn group_of(needs: &[u16], member: u16) -> u16 {
     let mut all = member;
     for _ in 0..16 {
         all = with_dependents(needs, all);

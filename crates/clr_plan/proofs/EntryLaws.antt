@@ -16,13 +16,8 @@ use Rattle.clr_needs.specs.Settings.{Setting}
 use Rattle.clr_needs.proofs.Reading.{read_in}
 use Rattle.clr_needs.proofs.Placing.{PlaceOf, after, before, here, place_of}
 use Rattle.clr_clearance.specs.Plans.{ArePicked, IsFirstUnpicked}
-use Rattle.clr_needs.proofs.VersionOrder.{unread as unread_version}
 use Rattle.clr_needs.proofs.NeedOrder.{need_total}
 use Rattle.clr_merge_sets.specs.Certificates.{entries_in, witnesses_of}
-
--- what a read past the end would give
-abbrev pub unread : Need
-unread = record { rule = 0; first = unread_version; second = None; first_part = 0; second_part = 0 }
 
 module _ (c : Setting ℕ) where
   abbrev pub need_of : Entry → Need

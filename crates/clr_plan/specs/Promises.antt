@@ -26,7 +26,7 @@ pub record IsProof (o : Office) (s : MergeSet) (c : Certificate) : Type 0 where
   pub safe : Safe o s
   pub headline : Headline o s
 
--- of the merges of the members in this order, the workspaces kept, one meets a conflict or breaks a rule
+-- of the merges of the members in this order, with no workspace removed, one meets a conflict or breaks a rule
 pub record IsRefusedOrder (o : Office) (s : MergeSet) (order : List ℕ) : Type 0 where
   pub refused : is_order_refused o (members_at s order) ≡ true
   pub unsafe : ¬ (Safe o s)

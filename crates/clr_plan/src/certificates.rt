@@ -1,4 +1,4 @@
-//! Texts and lists that an answer keeps.
+//! Lists that a plan keeps: names of members, and positions.
 
 ghost use Rattle.std.specs.Prelude.{◌≡◌, IfOk, map};
 
@@ -16,7 +16,7 @@ pub(crate) fn names(alloc: Global, members: &[&str]) -> Result<Names, AllocError
     Ok(Names::new(list))
 }
 
-/// Positions of members, as numbers of a list.
+/// Returns positions of members, as positions in a list.
 pub(crate) fn positions(alloc: Global, members: &[u16]) -> Result<Vec<usize>, AllocError>
     ensures { IfOk result (λ list. list.items ≡ members.now) }
 {

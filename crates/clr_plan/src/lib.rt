@@ -13,6 +13,7 @@
 //!   aside, it answers Cleared *exactly* where the members are safe. Once a set is cleared, those
 //!   of its members that stand are cleared after every quiet list, in whichever order they are
 //!   named.
+//! - `Plan::is_cleared` and `Plan::is_out_of_memory` tell which of its answers a plan is.
 //! - Where members fall into groups, witnesses are picked in the scene of each group, by
 //!   `groups_split_needs`; the answer is the same, word for word.
 //! - `plans_of_a_merge_set_are_alike`: what `plan` promises is true of one answer alone, memory aside.

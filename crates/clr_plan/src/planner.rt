@@ -1,7 +1,6 @@
-//! Plans of members that are to be merged.
+//! The planner: what is planned for a root and members in an office.
 
 ghost use Rattle.std.specs.Prelude.{map};
-ghost use Rattle.clr_steps.specs.Quiet.{MergeSet};
 ghost use Rattle.clr_merge_sets.specs.MergeSetNames.{merge_set};
 ghost use Rattle.clr_merge_sets.specs.MergeSets.{AreParts};
 ghost use Rattle.clr_plan.specs.Plans.{IsPlan};
@@ -38,7 +37,7 @@ fn plan_parts(
 /// test of names fails, with the first that does. `Cleared` comes with a certificate that names the
 /// root and the members as they are given, with one entry for each touched need, ascending: the
 /// members are safe. `Blocked` comes with an order of members, by position, and the first test that
-/// fails: of the merges in that order, from this office and with the workspaces kept, one meets a
+/// fails: of the merges in that order, from this office and with no workspace removed, one meets a
 /// conflict or breaks a rule. There is no other answer but `OutOfMemory`, in place of `Cleared` and
 /// `Blocked`. What was cleared stays cleared for the members that still stand, in whichever order
 /// they are named, after every list of quiet commands.

@@ -1,4 +1,7 @@
-//! Plans of members that are to be merged.
+//! What a planner says of a root and members.
+
+ghost use Rattle.std.specs.Prelude.{◌≡◌};
+ghost use Rattle.clr_plan.specs.Promises.{is_cleared as is_cleared_plan, is_out_of_memory as is_lost_plan};
 
 use clr_cert::Certificate;
 use clr_clearance::Verdict;
@@ -16,4 +19,26 @@ pub enum Plan {
     Cleared(Certificate),
     /// No memory was found. This plan may come in place of any but `Unfit`.
     OutOfMemory,
+}
+
+impl Plan {
+    /// Returns whether the members are cleared. It takes no memory.
+    pub fn is_cleared(&self) -> bool
+        ensures { result ≡ is_cleared_plan self.now }
+    {
+        match self {
+            Plan::Cleared(_) => true,
+            _ => false,
+        }
+    }
+
+    /// Returns whether the planner found no memory. It takes none itself.
+    pub fn is_out_of_memory(&self) -> bool
+        ensures { result ≡ is_lost_plan self.now }
+    {
+        match self {
+            Plan::OutOfMemory => true,
+            _ => false,
+        }
+    }
 }

@@ -69,13 +69,13 @@ fn spot_towards(from: Spot, to: Spot, reach: Pixels) -> Spot {
 
 /// Draws the line from a label to the spot that it stands for, unless the label stands there.
 fn add_leader(sketch: &mut Sketch, area: Area, anchor: Spot, look: Look) -> Result<(), AllocError> {
-    let start = area.grown(Pixels::whole(-4)).nearest(anchor);
+    let start = area.grow(Pixels::whole(-4)).nearest(anchor);
     if distance(start, anchor) <= (look.reach + Pixels::whole(6)).tenths {
         return Ok(());
     }
     let end = spot_towards(anchor, start, look.reach);
     let width = Pixels::of_tenths(if look.is_filled { 22 } else { 13 });
-    sketch.add_line(start, end, Ink::drawn(look.colour, width))
+    sketch.add_line(start, end, Ink::of_line(look.colour, width))
 }
 
 /// Draws a label.
@@ -85,14 +85,14 @@ fn add_chip(
     words: &str,
     look: Look,
 ) -> Result<(), AllocError> {
-    let area = placed.area.grown(Pixels::ZERO - MARGIN);
+    let area = placed.area.grow(Pixels::ZERO - MARGIN);
     add_leader(sketch, area, placed.anchor, look)?;
     let (ground, ink) = if look.is_filled {
         (look.colour, PAPER)
     } else {
         (PAPER, look.colour)
     };
-    let outline = Ink::drawn(look.colour, Pixels::of_tenths(14)).over(ground);
+    let outline = Ink::of_line(look.colour, Pixels::of_tenths(14)).over(ground);
     sketch.add_area(area, Pixels::whole(5), outline)?;
     let middle = area.middle();
     let at = Spot {

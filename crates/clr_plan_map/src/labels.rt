@@ -17,7 +17,7 @@ pub(crate) fn add_labels(
     scene: &Scene<'_>,
     plan: &Plan,
 ) -> Result<(), AllocError> {
-    let mut labels = Labels::new(scene.field.alloc, scene.frame().grown(Pixels::whole(-4)));
+    let mut labels = Labels::new(scene.field.alloc, scene.frame().grow(Pixels::whole(-4)));
     labels.take(area_of_scale(scene))?;
     avoid_rows(&mut labels, scene)?;
     take_frames(&mut labels, scene)?;

@@ -41,8 +41,8 @@ fn paper(scene: &Scene<'_>, height: Pixels) -> Result<Layer, AllocError> {
         right: PAGE_WIDTH,
         bottom: height,
     };
-    sketch.add_area(page, Pixels::ZERO, Ink::filled(PAPER))?;
-    sketch.add_area(scene.frame(), Pixels::whole(6), Ink::filled(GROUND))?;
+    sketch.add_area(page, Pixels::ZERO, Ink::of_area(PAPER))?;
+    sketch.add_area(scene.frame(), Pixels::whole(6), Ink::of_area(GROUND))?;
     Ok(sketch.into_layer())
 }
 

@@ -31,7 +31,7 @@ fn one_line(alloc: Global, text: &str) -> Result<String, AllocError> {
 }
 
 /// Returns a cleared plan.
-fn cleared(field: Field<'_>, certificate: &Certificate) -> Result<String, AllocError> {
+fn cleared_sentence(field: Field<'_>, certificate: &Certificate) -> Result<String, AllocError> {
     let needs = certificate.entries.as_slice().len();
     let looked_at = if needs == 1 { "need was" } else { "needs were" };
     match field.designs.len() {
@@ -82,7 +82,11 @@ fn cause_sentence(field: Field<'_>, cause: &Verdict) -> Result<String, AllocErro
 }
 
 /// Returns a blocked plan: the order in which a merge is refused, and why.
-fn blocked(field: Field<'_>, order: &[usize], cause: &Verdict) -> Result<String, AllocError> {
+fn blocked_sentence(
+    field: Field<'_>,
+    order: &[usize],
+    cause: &Verdict,
+) -> Result<String, AllocError> {
     let mut text = order_sentence(field, order)?;
     let why = cause_sentence(field, cause)?;
     text.push_str(why.as_str())?;
@@ -92,8 +96,8 @@ fn blocked(field: Field<'_>, order: &[usize], cause: &Verdict) -> Result<String,
 /// Returns a plan in a sentence or two, on one line.
 pub(crate) fn plan_sentence(field: Field<'_>, plan: &Plan) -> Result<String, AllocError> {
     match plan {
-        Plan::Cleared(certificate) => cleared(field, certificate),
-        Plan::Blocked { order, cause } => blocked(field, order.as_slice(), cause),
+        Plan::Cleared(certificate) => cleared_sentence(field, certificate),
+        Plan::Blocked { order, cause } => blocked_sentence(field, order.as_slice(), cause),
         Plan::Unfit(_) => {
             let words = answer_words(setting_of(field), plan)?;
             one_line(field.alloc, words.as_str())

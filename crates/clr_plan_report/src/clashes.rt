@@ -9,7 +9,7 @@ use clr_wording::add_names;
 use std::alloc::{AllocError, Global};
 
 /// Returns names with commas between them.
-fn listed(alloc: Global, names: &[&str]) -> Result<String, AllocError> {
+fn join_names(alloc: Global, names: &[&str]) -> Result<String, AllocError> {
     let mut text = String::new(alloc);
     add_names(&mut text, names)?;
     Ok(text)
@@ -31,7 +31,7 @@ fn clash_row(setting: Setting<'_>, clash: &MergeClash) -> Result<Row, AllocError
         members: &members,
     };
     let cause = among.cause_words(&clash.cause)?;
-    let list = listed(alloc, names.as_slice())?;
+    let list = join_names(alloc, names.as_slice())?;
     row_of(alloc, &[list.as_str(), cause.reason.as_str()])
 }
 

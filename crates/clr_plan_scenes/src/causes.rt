@@ -144,7 +144,7 @@ fn goers_of(field: Field<'_>, need: &Need) -> Result<Vec<CauseRow>, AllocError> 
 }
 
 /// Returns a need that nothing covers.
-fn uncovered(field: Field<'_>, need: &Need) -> Result<Option<Cause>, AllocError> {
+fn cause_of_need(field: Field<'_>, need: &Need) -> Result<Option<Cause>, AllocError> {
     let Some(rule) = rule_of(field.office, need) else {
         return Ok(None);
     };
@@ -221,7 +221,7 @@ fn ring_round(rows: &[CauseRow]) -> Mark {
 }
 
 /// Returns a cell at which designs meet one another or the root.
-fn contested(
+fn cause_at_cell(
     field: Field<'_>,
     cell: CellId,
     members: &[usize],
@@ -243,11 +243,11 @@ pub fn cause_of(field: Field<'_>, plan: &Plan) -> Result<Option<Cause>, AllocErr
         return Ok(None);
     };
     match cause {
-        Verdict::Uncovered(need) => uncovered(field, need),
+        Verdict::Uncovered(need) => cause_of_need(field, need),
         Verdict::Conflict { member, cell, .. } => {
             let root = field.root;
             let says = format!(in field.alloc; "{root} changed too")?;
-            contested(field, *cell, &[*member], says)
+            cause_at_cell(field, *cell, &[*member], says)
         }
         Verdict::SharedCell {
             cell,
@@ -257,7 +257,7 @@ pub fn cause_of(field: Field<'_>, plan: &Plan) -> Result<Option<Cause>, AllocErr
             let table = field.schema.name_of_table(cell.table);
             let key = cell.key;
             let says = format!(in field.alloc; "both change {table} {key}")?;
-            contested(field, *cell, &[*first, *second], says)
+            cause_at_cell(field, *cell, &[*first, *second], says)
         }
         _ => Ok(None),
     }

@@ -3,7 +3,7 @@
 use crate::causes::{Cause, CauseRow, Mark};
 use crate::designs::Designs;
 use clr_change::ChangeSet;
-use clr_drawing::{extent_of, joined};
+use clr_drawing::{extent_of, join_boxes};
 use clr_rows::{Place, Row, Shape, Sheet};
 use clr_segments::Bounds;
 
@@ -75,7 +75,7 @@ fn nowhere() -> Bounds {
 /// Returns the box of rows and of what is changed of them.
 pub(crate) fn extent_of_everything(rows: &Sheet, changed: Option<Bounds>) -> Bounds {
     match (extent_of_rows(rows), changed) {
-        (extent, Some(bounds)) => joined(extent, bounds),
+        (extent, Some(bounds)) => join_boxes(extent, bounds),
         (Some(bounds), None) => bounds,
         (None, None) => nowhere(),
     }

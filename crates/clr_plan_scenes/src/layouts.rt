@@ -1,6 +1,6 @@
 //! Where things stand on the page.
 
-use clr_drawing::{Area, View, grown, longer_side};
+use clr_drawing::{Area, View, grow_box, longer_side};
 use clr_segments::Bounds;
 use clr_svg::Pixels;
 
@@ -49,9 +49,9 @@ pub(crate) fn view_of(world: Bounds, least: i64) -> View {
 pub(crate) fn world_of_cause(whole: Bounds, cause: Bounds) -> Bounds {
     let side = longer_side(cause).max(1);
     if longer_side(whole) <= side.saturating_mul(6) {
-        grown(whole, 116, 4000)
+        grow_box(whole, 116, 4000)
     } else {
-        grown(cause, 200, 12000)
+        grow_box(cause, 200, 12000)
     }
 }
 
@@ -60,8 +60,8 @@ pub(crate) fn world_of_cause(whole: Bounds, cause: Bounds) -> Bounds {
 pub(crate) fn world_of_changes(whole: Bounds, changes: Bounds) -> Bounds {
     let side = longer_side(changes).max(1);
     if longer_side(whole).saturating_mul(10) < side.saturating_mul(16) {
-        grown(whole, 108, 4000)
+        grow_box(whole, 108, 4000)
     } else {
-        grown(changes, 112, 12000)
+        grow_box(changes, 112, 12000)
     }
 }

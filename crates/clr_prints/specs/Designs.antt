@@ -21,7 +21,7 @@ use Rattle.clr_designs.specs.Designs.{AreDone, design_refusal, with_design, with
 use Rattle.clr_drafts.specs.Drafts.{draft_in}
 use Rattle.clr_reports.specs.Outcomes.{dump_text}
 use Rattle.clr_prints.specs.Printing.{PrintoutOrFault, printout_of}
-use Rattle.clr_prints.specs.Faults.{fault_line}
+use Rattle.clr_prints.specs.LayerFaultLines.{fault_line}
 
 -- the text of an office, ended by `\n`, which is read as the same office
 pub record IsOfficeText (o : Office) (text : List ℕ) : Type 0 where

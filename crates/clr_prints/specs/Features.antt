@@ -1,15 +1,14 @@
 -- What is printed of the features of a plan.
-use Rattle.std.specs.Prelude.{◌≡◌, ◌≢◌, ℕ, ◌<◌, ◌^◌, List, [], ◌++◌, codes, decimal, not, Option, Some, None, Result, Ok}
+use Rattle.std.specs.Prelude.{◌≡◌, ◌≢◌, ℕ, ◌<◌, ◌^◌, List, [], ◌++◌, codes, decimal, Option, Some, None, Result, Ok}
 use Rattle.clr_workspaces.specs.Marks.{Name}
 use Rattle.clr_steps.specs.Offices.{Office}
 use Rattle.clr_steps.specs.Quiet.{MergeSet}
 use Rattle.clr_plan.specs.declared.plans.Plan.{Plan}
-use Rattle.clr_plan.specs.Promises.{is_cleared, is_out_of_memory}
 use Rattle.clr_plan_features.specs.PlanFeatures.{AreFeatures}
 use Rattle.clr_rule_text.specs.declared.faults.TextFault.{TextFault}
 use Rattle.clr_office.specs.Outcomes.{IsPlanned}
 use Rattle.clr_prints.specs.NameHints.{IsHinted}
-use Rattle.clr_prints.specs.Printing.{IsPrintoutIn, PrintoutOrFault, printout_of}
+use Rattle.clr_prints.specs.Printing.{IsPrintoutIn, PrintoutOrFault, plan_text_print}
 
 -- how a system of coordinates is named by its number in the register of EPSG, as `EPSG:25832`
 abbrev pub system_name : ℕ → List ℕ
@@ -19,14 +18,10 @@ system_name code = codes "EPSG:" ++ decimal code
 abbrev pub IsNoSystem : List ℕ → Type 0
 IsNoSystem text = (code : ℕ) → code < 2 ^ 32 → text ≢ system_name code
 
--- the text of features, which counts as a refusal unless the plan is cleared
-abbrev pub features_print : List ℕ → Plan → PrintoutOrFault
-features_print text p = printout_of text [] (not (is_cleared p)) (is_out_of_memory p)
-
 -- the features of a plan of the merge set, in a system of coordinates if one is given
 abbrev pub IsFeaturesPrint : MergeSet → Option ℕ → Office → PrintoutOrFault → Type 0
 IsFeaturesPrint s system o print =
-    (p : Plan) × (text : List ℕ) × IsPlanned o s p × AreFeatures o s p system text × (print ≡ features_print text p)
+    (p : Plan) × (text : List ℕ) × IsPlanned o s p × AreFeatures o s p system text × (print ≡ plan_text_print text p)
 
 -- no text, and a note that this names no system
 abbrev pub no_system_print : List ℕ → PrintoutOrFault

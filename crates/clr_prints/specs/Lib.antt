@@ -1,5 +1,5 @@
 pub mod Designs
-pub mod Faults
+pub mod LayerFaultLines
 pub mod Features
 pub mod Layers
 pub mod Maps

@@ -6,7 +6,7 @@ ghost use Rattle.clr_prints.specs.Printing.{printed};
 ghost use Rattle.clr_prints.specs.Designs.{IsDesignPrint, IsDesignScriptPrint, IsOfficePrint, IsOfficeText};
 ghost use Rattle.clr_prints.specs.Designs.{IsPrintOfDesign, IsPrintOfLive, IsPrintOfScript, faulty_layer_printout, refusal_print};
 
-use crate::fault_lines::fault_line;
+use crate::layer_fault_lines::fault_line;
 use crate::prints::{Ending, Print};
 use clr_designs::{make_design, replace_live, write_design_script};
 use clr_drafts::write_office;

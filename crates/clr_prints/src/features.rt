@@ -1,33 +1,21 @@
 //! The features of plans.
 
-ghost use Rattle.std.specs.Prelude.{◌≡◌, ◌∷◌, IfOk};
+ghost use Rattle.std.specs.Prelude.{◌∷◌, IfOk};
 ghost use Rattle.std.specs.Option.{option_copied};
 ghost use Rattle.clr_merge_sets.specs.MergeSetNames.{merge_set};
 ghost use Rattle.clr_drafts.specs.Drafts.{draft_in};
-ghost use Rattle.clr_prints.specs.Features.{IsFeaturesAnswer, IsFeaturesPrint, features_print};
+ghost use Rattle.clr_prints.specs.Features.{IsFeaturesAnswer, IsFeaturesPrint};
 ghost use Rattle.clr_prints.specs.NameHints.{IsHinted};
 ghost use Rattle.clr_prints.specs.Printing.{IsMadePrintout, IsPrintoutIn, printed};
 
 use crate::name_hints::with_hints;
-use crate::plans::{is_cleared, is_out_of_memory, plan_members};
+use crate::plans::{plan_members, print_of_plan_text};
 use crate::prints::{Print, notes_of};
 use crate::systems::{print_of_no_system, system_of};
 use clr_engine::Office;
-use clr_office::{Plan, RunFault, Words, open_office, texts};
+use clr_office::{RunFault, Words, open_office, texts};
 use clr_plan_features::plan_features;
 use std::alloc::{AllocError, Global};
-
-/// Returns the text of the features of a plan, which refuses where the plan isn't cleared.
-fn print_of_features(alloc: Global, text: Vec<u8>, plan: &Plan) -> Print
-    ensures { printed result ≡ features_print text.items plan.now }
-{
-    Print::new(
-        text,
-        Vec::new(alloc),
-        !is_cleared(plan),
-        is_out_of_memory(plan),
-    )
-}
 
 /// Returns what is printed of the features of the plan of members.
 fn print_of_members(
@@ -42,7 +30,7 @@ fn print_of_members(
     let members = texts(alloc, names)?;
     let plan = plan_members(alloc, office, root, members.as_slice());
     let text = plan_features(alloc, office, root, members.as_slice(), &plan, system)?;
-    Ok(print_of_features(alloc, text, &plan))
+    Ok(print_of_plan_text(alloc, text, &plan))
 }
 
 /// Returns what is printed of the features of the plan of members over the office of a text, in a system of coordinates if there
@@ -67,9 +55,10 @@ fn answer_in(
 }
 
 /// Returns the features of the plan of members over the office of a text, as GeoJSON in metres, and as notes hints at names that no workspace
-/// has. It counts as a refusal where the plan isn't cleared. The text of a system of coordinates is `EPSG:` and its number in that register; any
-/// other text is told by a note, and there is no text then. Where a rule doesn't hold the line that says so is the only note, and there is no text.
-/// Fails with `BadOffice` where the text is no office, and with `OutOfMemory` for want of memory, which may come in place of any other answer.
+/// has. It counts as a refusal where the plan isn't cleared. The text of a system of coordinates is `EPSG:` and its number in that register; for any
+/// other, a note that it names no system is all that is printed, with status 2, and the office text isn't read. Where a rule doesn't hold the line
+/// that says so is the only note, and there is no text. Fails with `BadOffice` where the text is no office, and with `OutOfMemory` for want of memory,
+/// which may come in place of any other answer.
 pub fn answer_geojson(
     alloc: Global,
     office: &[u8],

@@ -6,9 +6,9 @@ ghost use Rattle.clr_prints.specs.Layers.{IsLayerPrint, IsPrintOfTable};
 ghost use Rattle.clr_prints.specs.NameHints.{IsHinted};
 ghost use Rattle.clr_prints.specs.Printing.{IsMadePrintout, IsPrintoutIn, printed};
 
+use crate::layer_refusals::{no_table, no_workspace, wkt_column};
 use crate::name_hints::with_hints;
 use crate::prints::{Print, notes_of};
-use crate::unfits::{no_table, no_workspace, wkt_column};
 use clr_engine::Office;
 use clr_layer_text::table_layer;
 use clr_office::{RunFault, open_office};
@@ -53,7 +53,7 @@ fn layer_print(
 
 /// Returns the layer of a table's rows in LIVE, or in the current content of a workspace, of the office of a text: CSV with WKT in metres, in
 /// the order of the keys, which is read as the same rows. Where no table or no workspace has its name, or where a column is called `WKT` in a
-/// table whose rows have shapes, there is no text, and a note says which; it counts as a refusal. Behind it stands a hint at the workspace that
+/// table whose rows have shapes, there is no text, and a note says which; it counts as a refusal. Behind that note stands a hint at the workspace that
 /// may be meant. Where a rule doesn't hold the line that says so is the only note, and there is no text. Fails with `BadOffice` where the text
 /// is no office, and with `OutOfMemory` for want of memory, which may come in place of any other answer.
 pub fn answer_layer(

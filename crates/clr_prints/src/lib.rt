@@ -1,4 +1,4 @@
-//! What the commands of the second program print, and how it ends.
+//! What the answers of the second program share, and those of its answers that are pages, features, layers, or offices and designs of layers.
 //!
 //! - `Print`: a text for standard output, notes for standard error, and an ending, which tells the exit status. A print that
 //!   found no memory shows no text.
@@ -13,10 +13,11 @@
 //!   (`IsOfficePrint`).
 #![tactic(auto)]
 
-mod answers;
 mod design_prints;
-mod fault_lines;
+mod designs;
 mod features;
+mod layer_fault_lines;
+mod layer_refusals;
 mod layers;
 mod maps;
 mod name_hints;
@@ -24,14 +25,13 @@ mod plans;
 mod prints;
 mod reports;
 mod systems;
-mod unfits;
 
-pub use answers::{answer_design, answer_design_script, answer_office};
 pub use clr_layer_changes::{GivenLayer, LayerOptions};
+pub use designs::{answer_design, answer_design_script, answer_office};
 pub use features::answer_geojson;
 pub use layers::answer_layer;
 pub use maps::answer_map;
 pub use name_hints::{hint_lines, with_hints};
-pub use plans::{is_cleared, is_out_of_memory, plan_members};
+pub use plans::plan_members;
 pub use prints::{Ending, Print, notes_of};
 pub use reports::answer_report;

@@ -1,30 +1,18 @@
 //! The maps of plans.
-ghost use Rattle.std.specs.Prelude.{◌≡◌, ◌∷◌, IfOk};
+ghost use Rattle.std.specs.Prelude.{◌∷◌, IfOk};
 ghost use Rattle.clr_merge_sets.specs.MergeSetNames.{merge_set};
 ghost use Rattle.clr_drafts.specs.Drafts.{draft_in};
-ghost use Rattle.clr_prints.specs.Maps.{IsMapPrint, map_print};
+ghost use Rattle.clr_prints.specs.Maps.{IsMapPrint};
 ghost use Rattle.clr_prints.specs.NameHints.{IsHinted};
 ghost use Rattle.clr_prints.specs.Printing.{IsMadePrintout, IsPrintoutIn, printed};
 
 use crate::name_hints::with_hints;
-use crate::plans::{is_cleared, is_out_of_memory, plan_members};
+use crate::plans::{plan_members, print_of_plan_text};
 use crate::prints::{Print, notes_of};
 use clr_engine::Office;
-use clr_office::{Plan, RunFault, Words, open_office, texts};
+use clr_office::{RunFault, Words, open_office, texts};
 use clr_plan_map::plan_map;
 use std::alloc::{AllocError, Global};
-
-/// Returns the text of the map of a plan, which refuses where the plan isn't cleared.
-fn print_of_map(alloc: Global, text: Vec<u8>, plan: &Plan) -> Print
-    ensures { printed result ≡ map_print text.items plan.now }
-{
-    Print::new(
-        text,
-        Vec::new(alloc),
-        !is_cleared(plan),
-        is_out_of_memory(plan),
-    )
-}
 
 /// Returns what is printed of the map of the plan of members.
 fn print_of_members(
@@ -38,7 +26,7 @@ fn print_of_members(
     let members = texts(alloc, names)?;
     let plan = plan_members(alloc, office, root, members.as_slice());
     let text = plan_map(alloc, office, root, members.as_slice(), &plan)?;
-    Ok(print_of_map(alloc, text, &plan))
+    Ok(print_of_plan_text(alloc, text, &plan))
 }
 
 /// Returns the map of the plan of members over the office of a text, as a page of vector graphics, and as notes hints at names that no

@@ -24,7 +24,7 @@ fn names_of_workspaces<'a>(alloc: Global, office: &'a Office) -> Result<Vec<&'a 
 }
 
 /// Returns the name of a workspace that may be meant by a name that no workspace has.
-fn meant<'a>(
+fn nearest_name<'a>(
     alloc: Global,
     office: &Office,
     known: &[&'a str],
@@ -61,7 +61,7 @@ fn add_hint(
     requires { All (λ other. IsWorkspaceName office.now other.now) known.now }
     ensures { OnOk result (AddsHint office.now name.now lines.old.items lines.new.items) }
 {
-    if let Some(near) = meant(alloc, office, known, name)? {
+    if let Some(near) = nearest_name(alloc, office, known, name)? {
         let line = hint_line(alloc, name, near)?;
         lines.extend_from_slice(line.as_slice())?;
     }

@@ -1,9 +1,10 @@
-//! Plans of members that are printed, and how they ended.
+//! Plans of members, and prints of texts that are made of them.
 ghost use Rattle.std.specs.Prelude.{◌≡◌, map};
 ghost use Rattle.clr_merge_sets.specs.MergeSetNames.{merge_set};
-ghost use Rattle.clr_plan.specs.Promises.{is_cleared as is_cleared_plan, is_out_of_memory as is_lost_plan};
 ghost use Rattle.clr_office.specs.Outcomes.{IsPlanned};
+ghost use Rattle.clr_prints.specs.Printing.{plan_text_print, printed};
 
+use crate::prints::Print;
 use clr_engine::Office;
 use clr_office::Plan;
 use clr_plan::plan;
@@ -16,22 +17,14 @@ pub fn plan_members(alloc: Global, office: &Office, root: &str, members: &[&str]
     plan(alloc, office, root, members)
 }
 
-/// Returns whether a plan is cleared.
-pub fn is_cleared(plan: &Plan) -> bool
-    ensures { result ≡ is_cleared_plan plan.now }
+/// Returns a print of a text that is made of a plan. It counts as a refusal unless the plan is cleared.
+pub(crate) fn print_of_plan_text(alloc: Global, text: Vec<u8>, plan: &Plan) -> Print
+    ensures { printed result ≡ plan_text_print text.items plan.now }
 {
-    match plan {
-        Plan::Cleared(_) => true,
-        _ => false,
-    }
-}
-
-/// Returns whether a plan found no memory.
-pub fn is_out_of_memory(plan: &Plan) -> bool
-    ensures { result ≡ is_lost_plan plan.now }
-{
-    match plan {
-        Plan::OutOfMemory => true,
-        _ => false,
-    }
+    Print::new(
+        text,
+        Vec::new(alloc),
+        !plan.is_cleared(),
+        plan.is_out_of_memory(),
+    )
 }

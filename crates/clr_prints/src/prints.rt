@@ -75,7 +75,7 @@ impl Print {
     }
 
     /// Returns what goes to standard output: the text, and nothing where something found no memory.
-    pub fn shown(&self) -> &[u8]
+    pub fn shown_text(&self) -> &[u8]
         ensures { result.now ≡ unless_lost (is_lost_ending self.now.ending) self.now.text.items }
     {
         match self.ending {

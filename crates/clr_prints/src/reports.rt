@@ -1,33 +1,21 @@
 //! The reports of plans.
-ghost use Rattle.std.specs.Prelude.{◌≡◌, ◌∷◌, IfOk};
+ghost use Rattle.std.specs.Prelude.{◌∷◌, IfOk};
 ghost use Rattle.clr_merge_sets.specs.MergeSetNames.{merge_set};
 ghost use Rattle.clr_drafts.specs.Drafts.{draft_in};
-ghost use Rattle.clr_prints.specs.Reports.{IsReportPrint, report_print};
+ghost use Rattle.clr_prints.specs.Reports.{IsReportPrint};
 ghost use Rattle.clr_prints.specs.NameHints.{IsHinted};
 ghost use Rattle.clr_prints.specs.Printing.{IsMadePrintout, IsPrintoutIn, printed};
 
 use crate::name_hints::hint_lines;
-use crate::plans::{is_cleared, is_out_of_memory, plan_members};
+use crate::plans::{plan_members, print_of_plan_text};
 use crate::prints::{Print, notes_of};
 use clr_engine::Office;
-use clr_office::{Plan, RunFault, Words, open_office, texts};
+use clr_office::{RunFault, Words, open_office, texts};
 use clr_plan_report::plan_report;
 use std::alloc::{AllocError, Global};
 
-/// Returns the text of the report of a plan, which refuses where the plan isn't cleared.
-fn print_of_report(alloc: Global, text: Vec<u8>, plan: &Plan) -> Print
-    ensures { printed result ≡ report_print text.items plan.now }
-{
-    Print::new(
-        text,
-        Vec::new(alloc),
-        !is_cleared(plan),
-        is_out_of_memory(plan),
-    )
-}
-
 /// Returns what is printed of the report of the plan of members.
-fn print_of_plan(
+fn print_of_members(
     alloc: Global,
     office: &mut Office,
     root: &str,
@@ -38,7 +26,7 @@ fn print_of_plan(
     let members = texts(alloc, names)?;
     let plan = plan_members(alloc, office, root, members.as_slice());
     let text = plan_report(alloc, office, root, members.as_slice(), &plan)?;
-    Ok(print_of_report(alloc, text, &plan))
+    Ok(print_of_plan_text(alloc, text, &plan))
 }
 
 /// Returns the report of the plan of members over the office of a text, as a page of hypertext in one file, and as notes hints at names that
@@ -56,7 +44,7 @@ pub fn answer_report(
     match open_office(alloc, office) {
         Ok(mut office) => {
             let lines = hint_lines(alloc, &office, root, names)?;
-            let print = print_of_plan(alloc, &mut office, root, names)?;
+            let print = print_of_members(alloc, &mut office, root, names)?;
             Ok(print.with_notes(lines.as_slice())?)
         }
         Err(answer) => notes_of(alloc, answer),

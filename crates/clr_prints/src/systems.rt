@@ -1,6 +1,6 @@
 //! Systems of coordinates, by name.
 
-ghost use Rattle.std.specs.Prelude.{◌≡◌, ◌≢◌, ◌++◌, ℕ, ◌<◌, ◌^◌, decimal, None, IfOk, IfSome};
+ghost use Rattle.std.specs.Prelude.{◌≡◌, ◌≢◌, ℕ, ◌<◌, ◌^◌, decimal, None, IfOk, IfSome};
 ghost use Rattle.clr_prints.specs.Features.{IsNoSystem, no_system_print, system_name};
 ghost use Rattle.clr_prints.specs.Printing.{printed};
 

@@ -2,7 +2,7 @@
 
 use crate::record_slips::RecordSlip;
 use crate::tables::no_table;
-use clr_hints::{column_names, listed, name_hint, table_of};
+use clr_hints::{column_names, join_names, name_hint, table_of};
 use clr_records::{field, read_number};
 use clr_rows::{Kind, Schema, TableDef};
 use clr_scripts::RecordFault;
@@ -41,7 +41,7 @@ fn bad_count_in(
         return Ok(RecordSlip::new(0, sentence));
     }
     let columns = column_names(alloc, table)?;
-    let names = listed(alloc, columns.as_slice())?;
+    let names = join_names(alloc, columns.as_slice())?;
     let sentence = format!(in alloc;
         "behind {word},{name},KEY stand the values of {names} and then the coordinates; here are {count} fields in all"
     )?;

@@ -1,10 +1,9 @@
 -- Members are dependent exactly where the needs that involve them have one in common.
-use Rattle.std.proofs.Common.{◌≡◌, ◌∙◌, ◌<◌, ◌≤◌, ◌+◌, ℕ, zero, suc, Bool, true, false, List, [], ◌∷◌, ◌++◌, Contains, Option, Some, get_or, length, map, refl}
-use Rattle.std.proofs.Common.{sym, ap, subst, arith, take, inl, inr, ◌⊎◌}
-use Rattle.std.specs.Prelude.{slice_get}
+use Rattle.std.proofs.Common.{◌≡◌, ◌∙◌, ◌<◌, ◌≤◌, ◌+◌, ℕ, Bool, true, false, List, [], ◌∷◌, ◌++◌, Contains, get_or, length, refl}
+use Rattle.std.proofs.Common.{sym, ap, subst, arith, take, inl, inr}
 use Rattle.std.proofs.lemmas.List.{length-append}
 use Rattle.clr_needs.specs.declared.needs.Need.{Need}
-use Rattle.clr_needs.specs.Independence.{AreDependent, IsIndependence}
+use Rattle.clr_needs.specs.Independence.{IsIndependence}
 use Rattle.clr_foot.specs.Involvement.{IsInvolving}
 use Rattle.clr_needs.specs.Needs.{Lists}
 use Rattle.clr_needs.specs.Orders.{need_cmp}

@@ -1,5 +1,5 @@
 -- Pairs of members, one after another.
-use Rattle.std.proofs.Common.{◌≡◌, ◌∙◌, ◌<◌, ◌≤◌, ◌+◌, ◌-◌, ◌⊎◌, ℕ, zero, suc, Bool, true, false, not, List, [], ◌∷◌, ◌++◌, inl, inr, Contains, Option, Some}
+use Rattle.std.proofs.Common.{◌≡◌, ◌∙◌, ◌<◌, ◌≤◌, ◌+◌, ◌-◌, ◌⊎◌, ℕ, zero, suc, Bool, true, false, not, List, [], ◌∷◌, ◌++◌, inl, inr, Contains, Some}
 use Rattle.std.proofs.Common.{get_or, length, map, refl, sym, ap, subst, arith, append_assoc, append-nil}
 use Rattle.std.specs.Prelude.{option_map, slice_get}
 use Rattle.std.proofs.lemmas.Option.{slice_get-map, slice_get_read}
@@ -12,7 +12,7 @@ use Rattle.clr_needs.specs.declared.needs.Need.{Need}
 use Rattle.clr_needs.specs.Settings.{Setting}
 use Rattle.clr_merge_sets.specs.Tests.{IsTestOf}
 use Rattle.clr_reports.specs.declared.member_pairs.Pair.{Pair}
-use Rattle.clr_reports.specs.Pairs.{AddsPairs, AreAscending, AreNeedsOf, ArePairs, IsPairByNeeds, ShareOne, TellsIfApart, pair_members, pairs_below}
+use Rattle.clr_reports.specs.Pairs.{AddsPairs, AreAscending, AreNeedsOf, ArePairs, IsPairByNeeds, ShareOne, TellsIfApart, pair_members}
 use Rattle.clr_reports.specs.Pairs.{pairs_with}
 use Rattle.clr_reports.proofs.NeedLaws.{pair_is_independent}
 

@@ -1,5 +1,5 @@
 -- What is said of the independence of a merge set's members.
-use Rattle.std.specs.Prelude.{◌≡◌, ℕ, Option, Some, None, length}
+use Rattle.std.specs.Prelude.{◌≡◌, ℕ, Some, None, length}
 use Rattle.clr_rows.specs.declared.cells.CellId.{CellId}
 use Rattle.clr_needs.specs.declared.faults.SceneFault.TheVariants as scene
 use Rattle.clr_needs.specs.Members.{AreApart, IsSceneFault}

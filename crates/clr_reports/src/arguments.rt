@@ -7,7 +7,7 @@ use std::env;
 use std::env::{Env, FillError};
 use std::io::ErrorKind;
 
-/// Returns the words as the parser of the command line takes them.
+/// Returns the texts of words, in their order.
 pub fn texts_of_words<'a>(rt: &HostRuntime, words: &'a [String]) -> Result<Vec<&'a str>, AllocError>
     ensures { IfOk result (λ texts. map (λ text. text.now) texts.items ≡ map string_bytes words.entry.now) }
 {
@@ -18,8 +18,8 @@ pub fn texts_of_words<'a>(rt: &HostRuntime, words: &'a [String]) -> Result<Vec<&
     Ok(texts)
 }
 
-/// Returns the words of the command line, with the program's name first. It fails with `OutOfMemory`
-/// for want of memory, and otherwise where one isn't UTF-8.
+/// Returns the words of the command line, with the program's name first. Fails with `OutOfMemory` if memory runs out, and
+/// with `InvalidData` where a word isn't UTF-8.
 pub fn words(rt: &HostRuntime) -> Result<Vec<String>, ErrorKind> {
     match env::args(rt) {
         Ok(words) => words
@@ -29,8 +29,7 @@ pub fn words(rt: &HostRuntime) -> Result<Vec<String>, ErrorKind> {
     }
 }
 
-/// Returns whether there is a word behind the program's name, which is of no matter where there is
-/// none.
+/// Returns whether the command line has a word behind the program's name. It takes no memory.
 pub fn has_words(rt: &HostRuntime) -> bool {
     !matches!(rt.arg(1, &mut [0]), Err(FillError::NotPresent))
 }

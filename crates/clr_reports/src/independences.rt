@@ -30,7 +30,8 @@ fn has_dependence(said: &Independence) -> bool
     }
 }
 
-/// Returns the lines of the independence of members of a root.
+/// Returns the lines of the independence of members of a root: those of `independence_lines`. It counts as a refusal where
+/// two members are dependent or a test of members fails.
 pub fn independence_output(
     alloc: Global,
     office: &Office,

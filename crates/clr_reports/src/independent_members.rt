@@ -81,11 +81,10 @@ fn of_parts(
     }
 }
 
-/// Returns which members of a root are independent. Two members are so where no possible need,
-/// touched or not, has among its subjects and the versions that serve it one that lives with or
-/// without the first and one that lives with or without the second. Where the root isn't kept, a
-/// name is wrong, a member is in conflict or two change one cell, the answer is the first test that
-/// fails. The needs that involve each member are listed once.
+/// Returns which members of a root are independent. Two members are so where no possible need, touched or not, involves both:
+/// where none has, among its subjects and the versions that serve it, one whose life depends on the first member and one whose
+/// life depends on the second. Where the root isn't kept, a name is wrong, a member is in conflict or two change one cell, the
+/// answer is the first test that fails.
 /// For example, two members that each delete one of three nodes at the crossing of two mains are dependent.
 pub fn independence_of(
     alloc: Global,

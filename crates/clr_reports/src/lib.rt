@@ -1,5 +1,6 @@
-//! What is printed of an office: the lines of replies and reports, and what stands in their place where
-//! a text is no office or a rule doesn't hold in it.
+//! What is printed of an office by reports and replies, which of its members are independent, and what both
+//! programs share of words, files and standard error. Where a text is no office, or a rule doesn't hold in it,
+//! other lines stand in the place of these.
 //!
 //! - `Output`: lines, whether something was refused, whether something found no memory; `append`,
 //!   `status`. `reply_output` [`lines`, `refused`, `lost`] is the line of a reply.
@@ -15,11 +16,13 @@
 //!
 //! What programs share of the command line and of standard error:
 //!
-//! - `texts_of_words`, `text_at`: exactly the words, and the bytes at a position; `read_files` [`each`,
-//!   `within`]: one text for each file, none too long.
+//! - `words`, `has_words`: the words of the command line; no contract says what they are. `texts_of_words`:
+//!   exactly these as texts. `read_files` [`each`, `within`]: one text for each file, none too long;
+//!   `text_at`: that at a position.
 //! - `refuse`, `refuse_words` [`either`, `bad`]: the exit status. What is printed, and what a file holds, no contract says.
 //!
-//! Which members of a root are independent, pair by pair. Two are independent where no possible need involves both.
+//! The crate also tells, pair by pair, which members of a root are independent: those of which no possible need
+//! involves both.
 //!
 //! - `pairs` gives each pair of a scene's members once, in the order of the list, and whether no
 //!   possible need, touched or not, involves both. `independence_of` gives the first test of

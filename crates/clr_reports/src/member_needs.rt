@@ -1,6 +1,6 @@
 //! The possible needs that involve each member, and whether two members have one in common.
 
-ghost use Rattle.std.specs.Prelude.{◌≡◌, ◌<◌, ◌≤◌, length, map, Contains, IfOk};
+ghost use Rattle.std.specs.Prelude.{◌<◌, length, map, Contains, IfOk};
 ghost use Rattle.std.specs.List.Sorted.{IsStrictlySortedBy};
 ghost use Rattle.clr_needs.specs.Orders.{need_cmp};
 ghost use Rattle.clr_foot.specs.Scenes.{IsReady, model_of, setting_of};

@@ -1,6 +1,6 @@
 //! Pairs of members, and whether they are independent.
 
-ghost use Rattle.std.specs.Prelude.{◌≡◌, ◌++◌, ◌<◌, length, map, IfOk, OnOk};
+ghost use Rattle.std.specs.Prelude.{◌<◌, length, map, IfOk, OnOk};
 ghost use Rattle.clr_foot.specs.Scenes.{IsReady, model_of, setting_of};
 ghost use Rattle.clr_reports.specs.Pairs.{AddsPairs, AreAscending, ArePairs};
 

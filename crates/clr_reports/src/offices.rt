@@ -24,7 +24,8 @@ pub fn draft_of(alloc: Global, office: &[u8]) -> Result<Draft, RunFault>
     }
 }
 
-/// Returns the line that says which content breaks a rule, and its least broken need.
+/// Returns the line that says which content breaks a rule, and its least broken need. The position is 0 for LIVE, and else
+/// that of a workspace in order of creation. It counts as a refusal.
 pub fn unheld_output(
     alloc: Global,
     draft: &Draft,

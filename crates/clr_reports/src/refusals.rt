@@ -1,4 +1,4 @@
-//! Faults on standard error.
+//! What is printed on standard error, and the exit status of it.
 
 ghost use Rattle.std.specs.Prelude.{◌≡◌, ◌≢◌, ◌⊎◌};
 ghost use Rattle.clap.specs.Values.{kind_of};

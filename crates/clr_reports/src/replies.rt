@@ -29,7 +29,8 @@ fn is_lost(reply: &Reply) -> bool
     }
 }
 
-/// Returns the line of a reply.
+/// Returns the line of a reply. Something is refused unless the reply is Done, and something found no memory where it is
+/// OutOfMemory.
 pub fn reply_output(alloc: Global, schema: &Schema, reply: &Reply) -> Result<Output, AllocError>
     ensures lines { IfOk result (λ o. o.lines.items ≡ reply_text schema.now reply.now) }
     ensures refused { IfOk result (λ o. o.refused ≡ is_refused_reply reply.now) }

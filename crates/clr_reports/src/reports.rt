@@ -28,7 +28,8 @@ fn unknown_workspace(alloc: Global, schema: &Schema) -> Result<Output, AllocErro
     })
 }
 
-/// Returns the lines of the rows that LIVE or a workspace sees. Those of LIVE are not copied.
+/// Returns the lines of the rows that LIVE or a workspace sees. Those of LIVE are not copied. Where no workspace has the
+/// name, it returns the line of NoWorkspace, which counts as a refusal.
 #[tactic(auto, unfolding(crate::specs::Outcomes::by_name))]
 pub fn rows_output(alloc: Global, office: &Office, name: &str) -> Result<Output, AllocError>
     ensures { IfOk result (λ o. outcome_of o office.now ≡ show_outcome office.now name.now) }
@@ -43,7 +44,8 @@ pub fn rows_output(alloc: Global, office: &Office, name: &str) -> Result<Output,
     }
 }
 
-/// Returns the lines of what a workspace changed.
+/// Returns the lines of what a workspace changed; LIVE changed nothing. Where no workspace has the name, it returns the line
+/// of NoWorkspace, which counts as a refusal.
 #[tactic(auto, unfolding(crate::specs::Outcomes::changes_outcome))]
 pub fn changes_output(alloc: Global, office: &Office, name: &str) -> Result<Output, AllocError>
     ensures { IfOk result (λ o. outcome_of o office.now ≡ changes_outcome office.now name.now) }
@@ -55,7 +57,8 @@ pub fn changes_output(alloc: Global, office: &Office, name: &str) -> Result<Outp
     }
 }
 
-/// Returns the lines of the cells of a workspace that are in conflict with its parent.
+/// Returns the lines of the cells of a workspace that are in conflict with its parent. Where no workspace has the name, it
+/// returns the line of NoWorkspace, which counts as a refusal.
 #[tactic(auto, unfolding(crate::specs::Outcomes::conflicts_outcome))]
 pub fn conflicts_output(alloc: Global, office: &Office, name: &str) -> Result<Output, AllocError>
     ensures { IfOk result (λ o. outcome_of o office.now ≡ conflicts_outcome office.now name.now) }
@@ -67,7 +70,8 @@ pub fn conflicts_output(alloc: Global, office: &Office, name: &str) -> Result<Ou
     }
 }
 
-/// Returns the lines of the broken needs of the rows that LIVE or a workspace sees.
+/// Returns the lines of the broken needs of the rows that LIVE or a workspace sees. A need counts as a refusal. Where no
+/// workspace has the name, it returns the line of NoWorkspace, which counts as a refusal too.
 #[tactic(auto, unfolding(crate::specs::Outcomes::audit_outcome))]
 pub fn audit_output(alloc: Global, office: &Office, name: &str) -> Result<Output, AllocError>
     ensures { IfOk result (λ o. outcome_of o office.now ≡ audit_outcome office.now name.now) }

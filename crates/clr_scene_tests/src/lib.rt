@@ -1,4 +1,4 @@
-//! Tests of scenes: which needs changes touch, what serves and covers them, and whom they depend on.
+//! Tests of scenes: which needs changes touch, what serves and covers them, whom they depend on, and the smallest clashes.
 #![tactic(auto)]
 
 #[cfg(test)]

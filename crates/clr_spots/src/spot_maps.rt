@@ -1,4 +1,4 @@
-//! Rows by their spots.
+//! Parts of rows by the spots of the rows.
 
 ghost use Rattle.std.specs.Prelude.{◌≡◌, ◌++◌, ◌∷◌, [], IfOk, OnErr, OnOk};
 ghost use Rattle.std.specs.HashMap.{get};
@@ -13,7 +13,7 @@ use std::collections::HashMap;
 use std::collections::hash_map::Entry;
 use std::marker::Model;
 
-/// A row by its position in a list, and a part of it.
+/// A row by its position in a list, from 0, and one of its parts by its number, from 1.
 #[derive(Clone, Copy, Debug, PartialEq, Eq, PartialOrd, Ord)]
 pub struct FiledPart {
     pub position: usize,
@@ -84,7 +84,7 @@ fn put_at(
     }
 }
 
-/// Parts by the spots of their rows in one role, those of wide rows, and all.
+/// Parts by the spots of their rows, those of wide rows, and all, each in the order in which they were filed.
 #[derive(Drop)]
 pub struct SpotMap {
     by_spot: HashMap<Spot, PartList>,

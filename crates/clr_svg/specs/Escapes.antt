@@ -1,5 +1,5 @@
 -- Texts in which no character is taken for markup.
-use Rattle.std.specs.Prelude.{◌≡◌, ℕ, Bool, true, false, List, [], ◌∷◌, ◌++◌, ◌&&◌, ◌||◌, nat_eq, nat_lt, not, codes, if◌then◌else◌}
+use Rattle.std.specs.Prelude.{◌≡◌, ℕ, Bool, false, List, [], ◌∷◌, ◌++◌, ◌&&◌, ◌||◌, nat_eq, nat_lt, not, codes, if◌then◌else◌}
 use Rattle.std.specs.List.{flat_map}
 
 -- a control character other than the end of a line

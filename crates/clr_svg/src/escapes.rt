@@ -1,6 +1,6 @@
 //! Texts in which no character is taken for markup.
 
-ghost use Rattle.std.specs.Prelude.{◌≡◌, ◌++◌, ◌∷◌, [], OnOk};
+ghost use Rattle.std.specs.Prelude.{◌≡◌, ◌++◌, OnOk};
 ghost use Rattle.clr_svg.specs.Escapes.{escaped, escaped_byte, is_control};
 
 use std::alloc::AllocError;

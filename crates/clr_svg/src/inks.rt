@@ -32,7 +32,7 @@ pub struct Ink {
 
 impl Ink {
     /// Returns an ink that fills and draws no outline.
-    pub fn filled(colour: Colour) -> Ink
+    pub fn of_area(colour: Colour) -> Ink
         ensures { result ≡ filled_ink colour }
     {
         Ink {
@@ -42,7 +42,7 @@ impl Ink {
     }
 
     /// Returns an ink that draws a full line of this width and fills nothing.
-    pub fn drawn(colour: Colour, width: Pixels) -> Ink
+    pub fn of_line(colour: Colour, width: Pixels) -> Ink
         ensures { result ≡ drawn_ink colour width }
     {
         Ink {
@@ -56,7 +56,7 @@ impl Ink {
     }
 
     /// Returns this ink with its line drawn in dashes, if it draws one.
-    pub fn dashed(self, dash: Pixels, gap: Pixels) -> Ink
+    pub fn with_dashes(self, dash: Pixels, gap: Pixels) -> Ink
         ensures { result ≡ dashed_ink self dash gap }
     {
         Ink {

@@ -5,7 +5,7 @@ mod cases;
 use crate::layers::cases::{FAULTS, HEADERS, LINES, POINTS, ROUNDED};
 use crate::networks::schema_of;
 use crate::questions::check_of;
-use crate::texts::{exchanged, unfold};
+use crate::texts::{exchange, unfold};
 use clr_layer_text::{read_layer, write_layer};
 use std::alloc::Global;
 
@@ -20,7 +20,7 @@ const TABLES: &str = r#"{"format":2,"tables":[
 fn lines_of(alloc: Global, text: &[u8]) -> Option<String> {
     let text = str::from_utf8(text).ok()?;
     let (_, rows) = text.split_once('\n')?;
-    exchanged(alloc, rows.trim_end_matches('\n'), '\n', '/')
+    exchange(alloc, rows.trim_end_matches('\n'), '\n', '/')
 }
 
 /// Returns what is read of a layer, behind the name of its table.

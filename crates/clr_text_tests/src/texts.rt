@@ -7,7 +7,7 @@ use clr_steps::{Command, Keep};
 use std::alloc::Global;
 
 /// Returns a text with another character in place of one.
-pub(crate) fn exchanged(alloc: Global, text: &str, from: char, to: char) -> Option<String> {
+pub(crate) fn exchange(alloc: Global, text: &str, from: char, to: char) -> Option<String> {
     let mut other = String::new(alloc);
     for letter in text.chars() {
         other.push(if letter == from { to } else { letter }).ok()?;
@@ -17,7 +17,7 @@ pub(crate) fn exchanged(alloc: Global, text: &str, from: char, to: char) -> Opti
 
 /// Returns a text with line ends in place of strokes.
 pub(crate) fn unfold(alloc: Global, line: &str) -> Option<String> {
-    exchanged(alloc, line, '/', '\n')
+    exchange(alloc, line, '/', '\n')
 }
 
 /// Returns so many coordinates, which are 0 and 1 in turn, each behind a comma.

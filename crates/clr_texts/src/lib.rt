@@ -1,4 +1,4 @@
-//! All texts: office texts, edits and scripts read and written, and the lines of what an office is
+//! Office texts read and written, edits and scripts read, and the lines of what an office is
 //! asked for.
 //!
 //! Each call is that of a crate below, and its contract stands there.

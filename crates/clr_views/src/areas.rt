@@ -31,7 +31,7 @@ impl Area {
     }
 
     /// Returns the area that goes farther by a length at each side.
-    pub fn grown(self, by: Pixels) -> Area
+    pub fn grow(self, by: Pixels) -> Area
         ensures { result ≡ grown_area self by }
     {
         Area {
@@ -43,7 +43,7 @@ impl Area {
     }
 
     /// Returns the least area that holds this one and another.
-    pub fn joined(self, other: Area) -> Area
+    pub fn join(self, other: Area) -> Area
         ensures { result ≡ joined_area self other }
     {
         Area {

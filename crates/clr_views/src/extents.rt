@@ -12,13 +12,13 @@ pub fn extent_of(extent: Option<Bounds>, shape: &Shape) -> Option<Bounds>
     ensures { result ≡ extent_with extent shape.now }
 {
     match box_of_shape(shape) {
-        Some(bounds) => Some(joined(extent, bounds)),
+        Some(bounds) => Some(join_boxes(extent, bounds)),
         None => extent,
     }
 }
 
 /// Returns the least box that holds a box, if there is one, and another box.
-pub fn joined(extent: Option<Bounds>, bounds: Bounds) -> Bounds
+pub fn join_boxes(extent: Option<Bounds>, bounds: Bounds) -> Bounds
     ensures { result ≡ box_with_box extent bounds }
 {
     let Some(extent) = extent else {
@@ -80,7 +80,7 @@ pub(crate) fn box_about(bounds: Bounds, width: i64, height: i64) -> Bounds
 
 /// Returns a percentage of a length, and at least another length.
 #[tactic(auto, unfolding(crate::specs::Extents::scaled))]
-fn scaled(length: i64, percent: i64, least: i64) -> i64
+fn scale_length(length: i64, percent: i64, least: i64) -> i64
     ensures { result ≡ scaled length percent least }
 {
     (length.saturating_mul(percent) / 100).max(least)
@@ -100,11 +100,11 @@ pub(crate) fn height_of_box(bounds: Bounds) -> i64
 
 /// Returns the box round the middle of another whose sides are a percentage of its sides, and at least this many millimetres.
 #[tactic(auto, unfolding(crate::specs::Extents::scaled_box))]
-pub fn grown(bounds: Bounds, percent: i64, least: i64) -> Bounds
+pub fn grow_box(bounds: Bounds, percent: i64, least: i64) -> Bounds
     ensures { result ≡ scaled_box bounds percent least }
 {
-    let width = scaled(width_of_box(bounds), percent, least);
-    let height = scaled(height_of_box(bounds), percent, least);
+    let width = scale_length(width_of_box(bounds), percent, least);
+    let height = scale_length(height_of_box(bounds), percent, least);
     box_about(bounds, width, height)
 }
 

@@ -15,5 +15,5 @@ mod views;
 
 pub use areas::Area;
 pub use details::Detail;
-pub use extents::{extent_of, grown, joined, longer_side};
+pub use extents::{extent_of, grow_box, join_boxes, longer_side};
 pub use views::View;

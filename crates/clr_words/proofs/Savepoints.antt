@@ -5,8 +5,6 @@ use Rattle.std.specs.Prelude.{position, filter, is_some}
 use Rattle.std.specs.Option.{option_map, option_map_or}
 use Rattle.std.proofs.lemmas.Bool.{true≢false}
 use Rattle.clr_rows.specs.Contents.{Content}
-use Rattle.clr_rows.specs.Names.{is_good_name}
-use Rattle.clr_rules.specs.declared.rules.Rule.{Rule}
 use Rattle.clr_change.specs.declared.edits.Edit.{Edit}
 use Rattle.clr_workspaces.specs.Marks.{Mark, Name, Saved, find_mark, is_saved_as, mark_at, saved_content, without_saved}
 use Rattle.clr_workspaces.specs.Workspaces.{Workspace, find, live_workspace, workspace_at}
@@ -24,7 +22,7 @@ use Rattle.clr_steps.specs.Refusals.{bad_edit, breaks, broken_where, edit_refusa
 use Rattle.clr_steps.specs.Steps.{answer, refused_or_done, step}
 use Rattle.clr_steps.proofs.FirstLemmas.{IsOnly, position_here, position_later}
 use Rattle.clr_steps.proofs.ModifyLemmas.{LeavesName, has_name, modify_none}
-use Rattle.clr_steps.proofs.FindLemmas.{find_modify, found_name, same_is, same_itself}
+use Rattle.clr_steps.proofs.FindLemmas.{find_modify, found_name, same_itself}
 use Rattle.clr_steps.proofs.SeenLemmas.{only_at, seen}
 
 -- one workspace of a name ----------------------------------------------------------------------

@@ -1,5 +1,5 @@
 -- What trials leave, and what is told of them.
-use Rattle.std.proofs.Common.{◌≡◌, ◌∙◌, ◌++◌, ◌<◌, ◌∷◌, [], ℕ, Bool, List, Option, None, Some, true, false, ap, arith, inl, inr, length, subst, sym}
+use Rattle.std.proofs.Common.{◌≡◌, ◌∙◌, ◌∷◌, [], ℕ, Bool, List, Option, None, Some, true, false, ap, arith, inl, inr, subst, sym}
 use Rattle.std.specs.Prelude.{All, IfSome, slice_get}
 use Rattle.std.proofs.lemmas.List.Elements.{All-push}
 use Rattle.clr_change.specs.declared.edits.Edit.{Edit}

@@ -2,14 +2,13 @@
 
 ghost use Rattle.std.specs.Prelude.{◌≡◌, ◌++◌, codes, map, IfOk};
 ghost use Rattle.clr_merge_sets.specs.MergeSetNames.{merge_set};
-ghost use Rattle.clr_plan.specs.Promises.{is_cleared as is_cleared_plan, is_out_of_memory as is_lost_plan};
 ghost use Rattle.clr_words.specs.WorkOrders.{IsWorkOrder, trials_text};
 
 use crate::sentences::plan_sentences;
 use crate::trial_lines::add_trials;
 use crate::trials::{Trial, try_remedies};
 use clr_engine::Office;
-use clr_plan::{Plan, plan, plan_lines};
+use clr_plan::{plan, plan_lines};
 use std::alloc::{AllocError, Global};
 
 /// A plan in words: the text, whether the members are cleared, and whether the plan found no memory.
@@ -18,24 +17,6 @@ pub struct WorkOrder {
     pub text: Vec<u8>,
     pub is_cleared: bool,
     pub is_lost: bool,
-}
-
-fn is_cleared(plan: &Plan) -> bool
-    ensures { result ≡ is_cleared_plan plan.now }
-{
-    match plan {
-        Plan::Cleared(_) => true,
-        _ => false,
-    }
-}
-
-fn is_lost(plan: &Plan) -> bool
-    ensures { result ≡ is_lost_plan plan.now }
-{
-    match plan {
-        Plan::OutOfMemory => true,
-        _ => false,
-    }
 }
 
 /// Returns sentences, then the lines of trials, and behind an empty line the lines of a plan.
@@ -83,7 +64,7 @@ pub fn work_order(
     )?;
     Ok(WorkOrder {
         text,
-        is_cleared: is_cleared(&planned),
-        is_lost: is_lost(&planned),
+        is_cleared: planned.is_cleared(),
+        is_lost: planned.is_out_of_memory(),
     })
 }

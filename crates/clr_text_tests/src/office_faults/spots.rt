@@ -14,7 +14,7 @@ pub(crate) fn fault_text(alloc: Global, text: &str) -> Option<String> {
 }
 
 /// Returns the office text with another part in place of one that stands in it.
-fn edited(alloc: Global, part: &str, other: &str) -> Option<String> {
+fn edit_part(alloc: Global, part: &str, other: &str) -> Option<String> {
     let (before, behind) = OFFICE.split_once(part)?;
     format!(in alloc; "{before}{other}{behind}").ok()
 }
@@ -22,7 +22,7 @@ fn edited(alloc: Global, part: &str, other: &str) -> Option<String> {
 /// Returns the fault that an edit puts into the text, which has what stands there and what is to.
 pub(crate) fn answer(alloc: Global, edit: &str) -> Option<String> {
     let (part, other) = edit.split_once(" ~ ")?;
-    let text = edited(alloc, part, other)?;
+    let text = edit_part(alloc, part, other)?;
     fault_text(alloc, text.as_str())
 }
 

@@ -8,7 +8,8 @@ use Rattle.clr_merge_sets.specs.Certificates.{entries_in}
 use Rattle.clr_check.specs.Entries.{HasCover}
 use Rattle.clr_merge_sets.specs.Tests.{IsTestOf}
 use Rattle.clr_cert.specs.declared.certificates.Entry.{Entry}
-use Rattle.clr_check.proofs.JudgeLemmas.{AreJudged, all_before, first_after, need_covered, need_uncovered, no_need, none_before, one_before}
+use Rattle.clr_needs.proofs.NeedOrder.{unread}
+use Rattle.clr_check.proofs.JudgeLemmas.{AreJudged, all_before, first_after, need_covered, need_uncovered, none_before, one_before}
 use Rattle.clr_check.proofs.covers.first_uncovered.Goals as goal
 
 pub loop-need-init : goal.loop-need-init
@@ -19,8 +20,8 @@ is_covered-requires-clause-possible g c =
     let needs = c.in_ok-needs.needs.items in
     let read = c.deref-need-items.result.now in
     let k = c.loop-need.need-index in
-    touched_possible (setting_in g.V.RowView.content c.args.scene.now) (get_or read k no_need) needs c.in_ok-needs.ensures
-    (read_of read needs k no_need c.deref-need-items.ensures.value c.loop-need-test.true)
+    touched_possible (setting_in g.V.RowView.content c.args.scene.now) (get_or read k unread) needs c.in_ok-needs.ensures
+    (read_of read needs k unread c.deref-need-items.ensures.value c.loop-need-test.true)
 
 pub loop-need-preserved : goal.loop-need-preserved
 loop-need-preserved g c =
@@ -28,7 +29,7 @@ loop-need-preserved g c =
     let entries = c.args.entries.now in
     let read = c.deref-need-items.result.now in
     let k = c.loop-need.need-index in
-    let n = get_or read k no_need in
+    let n = get_or read k unread in
     let found = c.entries_of.result.now in
     let judged : AreJudged s entries n true = record {
       sorted = c.as_slice.result.now;
@@ -38,7 +39,7 @@ loop-need-preserved g c =
       tells = subst (λ (told : Bool). (a : Lived ℕ) (b : Option (Lived ℕ)) → IsPossible s n a b → IsTestOf told (HasCover s n a b found)) c.if-not-branch.false
           c.in_ok-is_covered.ensures;
     } in
-    one_before s (entries_in entries) read k no_need c.loop-need-test.true (need_covered s entries n judged) c.loop-need.invariant
+    one_before s (entries_in entries) read k unread c.loop-need-test.true (need_covered s entries n judged) c.loop-need.invariant
 
 pub returns-then-not-branch : goal.returns-then-not-branch
 returns-then-not-branch g c =
@@ -47,7 +48,7 @@ returns-then-not-branch g c =
     let needs = c.in_ok-needs.needs.items in
     let read = c.deref-need-items.result.now in
     let k = c.loop-need.need-index in
-    let n = get_or read k no_need in
+    let n = get_or read k unread in
     let found = c.entries_of.result.now in
     let judged : AreJudged s entries n false = record {
       sorted = c.as_slice.result.now;
@@ -57,8 +58,8 @@ returns-then-not-branch g c =
       tells = subst (λ (told : Bool). (a : Lived ℕ) (b : Option (Lived ℕ)) → IsPossible s n a b → IsTestOf told (HasCover s n a b found)) c.if-not-branch.true
           c.in_ok-is_covered.ensures;
     } in
-    let possible = touched_possible s n needs c.in_ok-needs.ensures (read_of read needs k no_need c.deref-need-items.ensures.value c.loop-need-test.true) in
-    first_after s (entries_in entries) needs read k no_need c.in_ok-needs.ensures c.deref-need-items.ensures.value c.loop-need-test.true c.loop-need.invariant
+    let possible = touched_possible s n needs c.in_ok-needs.ensures (read_of read needs k unread c.deref-need-items.ensures.value c.loop-need-test.true) in
+    first_after s (entries_in entries) needs read k unread c.in_ok-needs.ensures c.deref-need-items.ensures.value c.loop-need-test.true c.loop-need.invariant
     (need_uncovered s entries n judged possible)
 
 pub returns : goal.returns

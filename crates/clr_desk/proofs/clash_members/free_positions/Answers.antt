@@ -1,4 +1,4 @@
-use Rattle.std.proofs.Common.{◌≡◌, ◌∙◌, ◌++◌, ◌∷◌, [], ap, filter, sym}
+use Rattle.std.proofs.Common.{◌∙◌, ◌++◌, ◌∷◌, [], ap, filter, sym}
 use Rattle.clr_desk.specs.Clashes.{is_in_no_set}
 use Rattle.clr_desk.proofs.Positions.{positions_more}
 use Rattle.clr_desk.proofs.clash_members.free_positions.Goals as goal

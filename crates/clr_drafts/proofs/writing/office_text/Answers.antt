@@ -1,6 +1,4 @@
-use Rattle.std.proofs.Common.{◌≡◌, [], ◌∷◌, ◌++◌, map, ap, ◌∙◌}
-use Rattle.json.specs.Token.{Token, end_object}
-use Rattle.clr_engine.specs.Drafts.{delta_in}
+use Rattle.std.proofs.Common.{◌++◌, ap, ◌∙◌}
 use Rattle.clr_office_json.specs.CellData.{live_data}
 use Rattle.clr_office_json.specs.OfficeData.{office_data}
 use Rattle.clr_office_json.specs.RuleData.{rules_data}

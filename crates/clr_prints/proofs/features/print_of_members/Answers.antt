@@ -18,5 +18,5 @@ returns c =
       text,
       subst (λ (members : List Name). IsPlanned o (merge_set root members) p) first c.plan_members-plan.ensures,
       subst (λ (members : List Name). AreFeatures o (merge_set root members) p c.args.system text) second c.in_ok-text.ensures,
-      c.print_of_features.ensures,
+      c.print_of_plan_text.ensures,
     )

@@ -18,5 +18,5 @@ returns c =
       text,
       subst (λ (members : List Name). IsPlanned o (merge_set root members) p) first c.plan_members-plan.ensures,
       subst (λ (members : List Name). IsMap o.schema members root p text) second c.in_ok-text.ensures.map,
-      c.print_of_map.ensures,
+      c.print_of_plan_text.ensures,
     )

@@ -1,4 +1,4 @@
-use Rattle.std.proofs.Common.{ℕ, Global, List, Vec, map}
+use Rattle.std.proofs.Common.{Global, Vec, map}
 use Rattle.clr_needs.specs.declared.needs.Need.{Need}
 use Rattle.clr_foot.specs.Scenes.{model_of, setting_of}
 use Rattle.clr_reports.specs.Pairs.{AreNeedsOf}

@@ -1,4 +1,4 @@
-use Rattle.std.proofs.Common.{◌≡◌, ◌≤◌, Global, List, Vec, arith, length, map, subst, sym}
+use Rattle.std.proofs.Common.{◌≡◌, Global, List, Vec, arith, length, map, subst, sym}
 use Rattle.std.specs.List.Sorted.{IsStrictlySortedBy}
 use Rattle.std.proofs.lemmas.List.{length-map}
 use Rattle.clr_needs.specs.Orders.{need_cmp}

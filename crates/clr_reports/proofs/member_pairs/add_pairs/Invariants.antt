@@ -1,4 +1,4 @@
-use Rattle.std.proofs.Common.{Global, List, Vec, map}
+use Rattle.std.proofs.Common.{Global, Vec, map}
 use Rattle.clr_needs.specs.declared.needs.Need.{Need}
 use Rattle.clr_reports.proofs.PairLaws.{AddsPairsTo}
 use Rattle.clr_reports.proofs.member_pairs.add_pairs.Given as goal

@@ -1,4 +1,4 @@
-use Rattle.std.proofs.Common.{◌≡◌, ◌∙◌, ◌<◌, ◌≤◌, Global, List, Vec, ap, arith, length, map, subst, sym}
+use Rattle.std.proofs.Common.{◌≡◌, Global, List, Vec, ap, arith, length, map, subst, sym}
 use Rattle.std.proofs.lemmas.List.{length-map}
 use Rattle.clr_needs.specs.declared.needs.Need.{Need}
 use Rattle.clr_foot.specs.Scenes.{model_of, setting_of}

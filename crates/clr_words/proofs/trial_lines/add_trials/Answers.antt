@@ -1,4 +1,4 @@
-use Rattle.std.proofs.Common.{◌≡◌, ◌==◌, ◌++◌, ◌∙◌, List, ap, append_assoc, codes, false, length, sym, true}
+use Rattle.std.proofs.Common.{◌≡◌, ◌==◌, ◌++◌, ◌∙◌, ap, append_assoc, codes, false, length, sym, true}
 use Rattle.std.specs.List.{flat_map}
 use Rattle.clr_words.specs.WorkOrders.{trial_text}
 use Rattle.clr_words.proofs.trial_lines.add_trials.Goals as goal

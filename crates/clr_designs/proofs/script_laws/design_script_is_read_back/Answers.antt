@@ -1,5 +1,0 @@
-use Rattle.clr_designs.proofs.ScriptAgain.{script_again}
-use Rattle.clr_designs.proofs.script_laws.design_script_is_read_back.Goals as goal
-
-pub returns : goal.returns
-returns c = script_again
