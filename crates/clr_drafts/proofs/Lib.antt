@@ -1,5 +1,6 @@
 pub mod Differences
 pub mod Held
+pub mod LineEnds
 pub mod Listed
 pub mod Places
 pub mod Standing

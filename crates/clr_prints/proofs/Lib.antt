@@ -1,7 +1,6 @@
 pub mod Codes
 pub mod HintLemmas
 pub mod LayerLemmas
-pub mod LineEnds
 pub mod Made
 pub mod PrintLemmas
 pub mod ScriptLemmas

@@ -3,16 +3,16 @@
 ghost use Rattle.std.specs.Prelude.{◌≡◌, IfOk};
 ghost use Rattle.clr_rows.specs.Schemas.{FitsSchema};
 ghost use Rattle.clr_prints.specs.Printing.{printed};
-ghost use Rattle.clr_prints.specs.Designs.{IsDesignPrint, IsDesignScriptPrint, IsOfficePrint, IsOfficeText};
+ghost use Rattle.clr_prints.specs.Designs.{IsDesignPrint, IsDesignScriptPrint, IsOfficePrint};
 ghost use Rattle.clr_prints.specs.Designs.{IsPrintOfDesign, IsPrintOfLive, IsPrintOfScript, faulty_layer_printout, refusal_print};
 
 use crate::layer_fault_lines::fault_line;
 use crate::prints::{Ending, Print};
 use clr_designs::{make_design, replace_live, write_design_script};
-use clr_drafts::write_office;
 use clr_engine::Office;
 use clr_layer_changes::{FaultyLayer, GivenLayer, LayerOptions, edits_between, wanted_content};
 use clr_lines::reply_line;
+use clr_reports::dump_text;
 use clr_rows::{LIVE, Schema, Sheet};
 use clr_steps::Reply;
 use std::alloc::{AllocError, Global};
@@ -40,15 +40,6 @@ fn print_of_refusal(alloc: Global, schema: &Schema, reply: &Reply) -> Result<Pri
     Ok(Print::new(Vec::new(alloc), line, true, false))
 }
 
-/// Returns the text of an office, ended by `\n`.
-fn office_text(alloc: Global, office: &Office) -> Result<Vec<u8>, AllocError>
-    ensures { IfOk result (λ text. IsOfficeText office.now text.items) }
-{
-    let mut text = write_office(alloc, office)?;
-    text.push(b'\n')?;
-    Ok(text)
-}
-
 /// Makes the design that has a content, and returns the text of the office, or why the design's workspace can't be created.
 fn print_of_design(
     alloc: Global,
@@ -60,7 +51,7 @@ fn print_of_design(
     ensures { IfOk result (λ p. IsPrintOfDesign name.now office.old content.now (printed p)) }
 {
     match make_design(alloc, office, name, content)? {
-        None => Ok(Print::of_text(alloc, office_text(alloc, office)?)),
+        None => Ok(Print::of_text(alloc, dump_text(alloc, office)?)),
         Some(reply) => print_of_refusal(alloc, office.schema(), &reply),
     }
 }
@@ -89,7 +80,7 @@ fn print_of_live(alloc: Global, office: &mut Office, content: &Sheet) -> Result<
     ensures { IfOk result (λ p. IsPrintOfLive office.old content.now (printed p)) }
 {
     match replace_live(alloc, office, content)? {
-        None => Ok(Print::of_text(alloc, office_text(alloc, office)?)),
+        None => Ok(Print::of_text(alloc, dump_text(alloc, office)?)),
         Some(reply) => print_of_refusal(alloc, office.schema(), &reply),
     }
 }

@@ -7,7 +7,8 @@
 //! - Reports on LIVE or a workspace, by its name: `rows_output`, `changes_output`, `conflicts_output`
 //!   and `audit_output`; on all of an office: `workspaces_output`, `dump_output`, `dump_text`,
 //!   `workspaces_lines`; on members of a root: `independence_output`. Each is exactly the outcome that
-//!   its definition says (`clr_reports: Outcomes`), memory aside.
+//!   its definition says (`clr_reports: Outcomes`), memory aside. What `dump_text` gives is also read as the
+//!   same office [`again`].
 //! - `open_office` [`meant`, `held`, `answer`] gives the office of a text, or what is answered in its
 //!   place; `draft_of` one in which rules may not hold, and `unheld_output` the line of a rule that
 //!   doesn't.

@@ -1,7 +1,8 @@
 //! Reports on an office, by the names of its workspaces.
-ghost use Rattle.std.specs.Prelude.{◌≡◌, true, false, IfOk};
+ghost use Rattle.std.specs.Prelude.{◌≡◌, true, false, Ok, IfOk};
 ghost use Rattle.clr_steps.specs.declared.commands.Reply.TheVariants.{NoWorkspace};
 ghost use Rattle.clr_lines.specs.Replies.{reply_text};
+ghost use Rattle.clr_drafts.specs.Drafts.{draft_in};
 ghost use Rattle.clr_reports.specs.Outcomes.{audit_outcome, changes_outcome, conflicts_outcome, dump_outcome, dump_text, outcome_of, show_outcome};
 ghost use Rattle.clr_reports.specs.Outcomes.{workspaces_outcome};
 
@@ -94,12 +95,13 @@ pub fn workspaces_output(alloc: Global, office: &Office) -> Result<Output, Alloc
     Ok(Output::of_lines(workspaces_lines(alloc, office)?))
 }
 
-/// Returns the text of the whole office, ended by `\n`.
+/// Returns the text of the whole office, ended by `\n`, which is read as the same office.
 pub fn dump_text(alloc: Global, office: &Office) -> Result<Vec<u8>, AllocError>
-    ensures { IfOk result (λ text. text.items ≡ dump_text office.now) }
+    ensures text { IfOk result (λ text. text.items ≡ dump_text office.now) }
+    ensures again { IfOk result (λ text. draft_in text.items ≡ Ok office.now) }
 {
     let mut text = write_office(alloc, office)?;
-    text.extend_from_slice(b"\n")?;
+    text.push(b'\n')?;
     Ok(text)
 }
 

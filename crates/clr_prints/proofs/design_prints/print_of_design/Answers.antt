@@ -6,14 +6,15 @@ use Rattle.clr_designs.specs.Designs.{IsDesignMade}
 use Rattle.clr_prints.specs.Designs.{IsOfficeText, of_design, of_refusal, refusal_print}
 use Rattle.clr_prints.proofs.design_prints.print_of_design.Goals as goal
 
-pub returns-in_ok-office_text-in-None : goal.returns-in_ok-office_text-in-None
-returns-in_ok-office_text-in-None c =
+pub returns-in_ok-dump_text-in-None : goal.returns-in_ok-dump_text-in-None
+returns-in_ok-dump_text-in-None c =
     let o = c.args.office.now in
     let left = c.make_design.new.office in
     let made = subst (λ (refused : Option Reply). IsDesignMade o c.args.name.now c.args.content.now refused left) c.in-None.is
     c.in_ok-make_design.ensures.made in
-    let text = c.in_ok-office_text-in-None.field-0.items in
-    of_design text made.0 (subst (λ (next : Office). IsOfficeText next text) made.2 c.in_ok-office_text-in-None.ensures) c.of_text.ensures
+    let text = c.in_ok-dump_text-in-None.field-0.items in
+    let read_again : IsOfficeText left text = record { bytes = c.in_ok-dump_text-in-None.ensures.text; again = c.in_ok-dump_text-in-None.ensures.again } in
+    of_design text made.0 (subst (λ (next : Office). IsOfficeText next text) made.2 read_again) c.of_text.ensures
 
 pub returns-in-Some : goal.returns-in-Some
 returns-in-Some c =

@@ -6,13 +6,14 @@ use Rattle.clr_designs.specs.Designs.{IsLiveReplaced}
 use Rattle.clr_prints.specs.Designs.{IsOfficeText, of_broken, of_live, refusal_print}
 use Rattle.clr_prints.proofs.design_prints.print_of_live.Goals as goal
 
-pub returns-in_ok-office_text-in-None : goal.returns-in_ok-office_text-in-None
-returns-in_ok-office_text-in-None c =
+pub returns-in_ok-dump_text-in-None : goal.returns-in_ok-dump_text-in-None
+returns-in_ok-dump_text-in-None c =
     let o = c.args.office.now in
     let left = c.replace_live.new.office in
     let replaced = subst (λ (refused : Option Reply). IsLiveReplaced o c.args.content.now refused left) c.in-None.is c.in_ok-replace_live.ensures.replaced in
-    let text = c.in_ok-office_text-in-None.field-0.items in
-    of_live text replaced.0 (subst (λ (next : Office). IsOfficeText next text) replaced.1 c.in_ok-office_text-in-None.ensures) c.of_text.ensures
+    let text = c.in_ok-dump_text-in-None.field-0.items in
+    let read_again : IsOfficeText left text = record { bytes = c.in_ok-dump_text-in-None.ensures.text; again = c.in_ok-dump_text-in-None.ensures.again } in
+    of_live text replaced.0 (subst (λ (next : Office). IsOfficeText next text) replaced.1 read_again) c.of_text.ensures
 
 pub returns-in-Some : goal.returns-in-Some
 returns-in-Some c =
