@@ -12,12 +12,6 @@ use Rattle.clr_rows.proofs.BeginningLaws.{all_begun, none_begun, some_begun, the
 use Rattle.clr_spots.specs.Filing.{near}
 use Rattle.clr_audit.specs.RoleFiling.{partners}
 
-module _ {X : Type 0} where
-  -- one element was added, if there is to be one
-  pub one_begun : (b : Bool) (old : List X) (x : X) (new : List X) → new ≡ cond b (old ++ x ∷ []) old → IsBegun old (cond b (x ∷ []) []) new
-  one_begun true old x new is = all_begun old (x ∷ []) new is
-  one_begun false old x new is = none_begun old [] new is
-
 module _ {X Y : Type 0} (f : Y → List X) where
   -- what is made of the first of some things, and of the others
   pub flat_parts : (ys : List Y) (k : ℕ) → flat_map f ys ≡ flat_map f (take k ys) ++ flat_map f (drop k ys)

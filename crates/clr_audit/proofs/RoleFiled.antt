@@ -27,9 +27,6 @@ record Grows (index index' : RoleIndex) : Type 0 where
   pub boths : Stays index.boths index'.boths
   pub servers : Stays index.servers index'.servers
 
-same_stays : (m : Filed) → Stays m m
-same_stays m q ys h = h
-
 more_stays : (m : Filed) (e : FiledPart) (xs : List Spot) (wide : Bool) → Stays m (with_filed m e xs wide)
 more_stays m e xs wide q ys h = part_stays m e q xs ys wide h
 

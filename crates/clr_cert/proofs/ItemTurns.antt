@@ -91,11 +91,6 @@ module _ (tables : List TableDef) (e : CertFault) (rooted : Bool) (front : Certi
       → FailsAt cert_lacks_memory (numbered_fault cert_lacks_memory n e).0 (numbered_fault cert_lacks_memory n e).1 total
   stops h so_far = numbered_so cert_lacks_memory e n (item_of tables rooted (fields_of row)) total (λ k. fault_of k so_far) h
 
--- before the first record
-pub begins : (read : Result Certificate (ℕ × CertFault)) → after false nothing_said read ≡ read
-begins (Ok c) = refl
-begins (Err e) = refl
-
 live_still : (rooted : Bool) (front : Certificate) → (rooted ≡ false → front.root ≡ nothing_said.root) → together rooted front nothing_said ≡ front
 live_still true front live = rw (append-nil front.members, append-nil front.entries) refl
 live_still false front live = rw (append-nil front.members, append-nil front.entries, ← live refl) refl

@@ -82,22 +82,6 @@ module _ (tables : List TableDef) (content : Content) (cell : CellId) (old : Cha
     set_from current None is,
   )
 
-  -- a fault of the row
-  row_refused : (edit : Edit) (judged : Option RowFault) (later : Content → Option EditFault) → ((current : Content) → edit_fault tables current edit
-      ≡ option_or (option_map fault.Row judged) (later current))
-      → (e : EditFault) → option_map fault.Row judged ≡ Some e → FaultIs tables content edit old e
-  row_refused edit None later is e h = cc
-  row_refused edit (Some why) later is e h = subst (FaultIs tables content edit old) (same_Some (fault.Row why) e h) (λ current _. is current)
-
-  pub insert_refused : (row : Row) (e : EditFault) → option_map fault.Row (row_fault tables cell row) ≡ Some e → FaultIs tables content (Insert cell row) old e
-  insert_refused row = row_refused (Insert cell row) (row_fault tables cell row) (λ current. taken_fault (row_at current cell)) (λ _. refl)
-
-  pub update_refused : (row : Row) (e : EditFault) → option_map fault.Row (row_fault tables cell row) ≡ Some e → FaultIs tables content (Update cell row) old e
-  update_refused row = row_refused (Update cell row) (row_fault tables cell row) (λ current. missing (row_at current cell)) (λ _. refl)
-
-  pub delete_refused : (e : EditFault) → option_map fault.Row (cell_fault tables cell) ≡ Some e → FaultIs tables content (Delete cell) old e
-  delete_refused = row_refused (Delete cell) (cell_fault tables cell) (λ current. missing (row_at current cell)) (λ _. refl)
-
   later_fault : (judged : Option RowFault) (later : Option EditFault) (e : EditFault) → option_map fault.Row judged ≡ None → later ≡ Some e
       → option_or (option_map fault.Row judged) later ≡ Some e
   later_fault None later e fits h = h

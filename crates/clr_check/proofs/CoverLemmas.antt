@@ -137,18 +137,9 @@ module _ (c : Setting ℕ) where
         subst (λ (z : Lived ℕ). AreOpposed l.life z.life) (one_lived c w q m serving_too.is there_too) first)) (opposed_told l.life m.life))
 
   module _ (n : Need) (a : Lived ℕ) (b : Option (Lived ℕ)) where
-    -- the versions of an entry
-    pub two_told : (v w : VersionId) (x y z : Bool) → IsTestOf x (CoversAlone c n a b v) → IsTestOf y (CoversAlone c n a b w)
-        → IsTestOf z (CoverTogether c n a b v w) → IsTestOf (x || (y || z)) (WitnessesCover c n a b v (Some w))
-    two_told v w x y z one two both = either_told _ _ (CoversAlone c n a b v) _ one (either_told _ _ (CoversAlone c n a b w) (CoverTogether c n a b v w) two
-        both)
-
     -- none of the entries so far covers
     abbrev pub NoneCovers : List Entry → Type 0
     NoneCovers entries = (k : Entry) → Contains entries k → ¬ (WitnessesCover c n a b k.one k.two)
-
-    pub none_yet : (entries : List Entry) → NoneCovers (take 0 entries)
-    none_yet entries k h = absurd (none_taken entries k h)
 
     pub one_not : (entries : List Entry) (at : ℕ) (d : Entry) (told : Bool) → at < length entries → told ≡ false
         → IsTestOf told (WitnessesCover c n a b (get_or entries at d).one (get_or entries at d).two) → NoneCovers (take at entries)

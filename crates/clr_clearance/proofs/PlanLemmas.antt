@@ -57,14 +57,6 @@ one_more : (o : Office) (names : List Name) (n : Name) → after_merges o (names
 one_more o [] n = refl
 one_more o (m ∷ ms) n = one_more (step o (merge_of m)).office ms n
 
-head_member : (merge_set : MergeSet) (o : Office) (n : Name) (ns : List Name) → AreAmong (setting_of o merge_set) (n ∷ ns) merge_set.members
-    → is_member merge_set n ≡ true
-head_member merge_set o n ns part = sym (has_is merge_set.members n) ∙ part n (or_left (same_name n n) (has_by same_name ns n) (same_itself n))
-
-tail_part : (merge_set : MergeSet) (o : Office) (n : Name) (ns : List Name) → AreAmong (setting_of o merge_set) (n ∷ ns) merge_set.members
-    → AreAmong (setting_of o merge_set) ns merge_set.members
-tail_part merge_set o n ns part k h = part k (or_right (same_name n k) (has_by same_name ns k) h)
-
 AreMembers : MergeSet → List Name → Type 0
 AreMembers merge_set names = (name : Name) → has names name ≡ true → is_member merge_set name ≡ true
 

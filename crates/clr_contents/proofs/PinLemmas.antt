@@ -124,9 +124,6 @@ but_itself at cells ls k q apart = own_itself q (delta_at ls k)
 pub but_both : (at : ℕ) (cells : List CellId) (ls ms ns : List Delta) → StayOwnBut at cells ls ms → StayOwnBut at cells ms ns → StayOwnBut at cells ls ns
 but_both at cells ls ms ns a b k q apart = own_both q (delta_at ls k) (delta_at ms k) (delta_at ns k) (a k q apart) (b k q apart)
 
-pub but_children_itself : (name : Name) (cells : List CellId) (ls : List Delta) → StayOwnButChildren name cells ls ls
-but_children_itself name cells ls k q apart = own_itself q (delta_at ls k)
-
 -- the child of a workspace alone
 pub but_child : (at p : ℕ) (cells : List CellId) (ls ms : List Delta) → IsUnder (delta_at ls p).name (delta_at ls at) → StayOwnBut at cells ls ms
     → StayOwnButChildren (delta_at ls p).name cells ls ms

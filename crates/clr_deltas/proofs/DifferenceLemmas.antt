@@ -185,7 +185,3 @@ put_each_elsewhere (e ∷ es) d q apart =
 pub nothing_found : {A : Type 0} (o : Option (Bor A)) → is_some o ≡ false → option_copied o ≡ None
 nothing_found None e = refl
 nothing_found (Some x) e = absurd (false≢true (sym e))
-
-pub something_found : {A : Type 0} (o : Option (Bor A)) → is_some o ≡ true → is_some (option_copied o) ≡ true
-something_found None e = e
-something_found (Some x) e = e

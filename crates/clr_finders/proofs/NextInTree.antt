@@ -17,11 +17,6 @@ use Rattle.clr_finders.proofs.MapLemmas.{some_there}
 
 -- ---- where a range begins
 
-pub forward : (P Q : CellId → CellId → Type 0) (lo : Bound CellId) → IsForward P Q lo Unbounded
-forward P Q Unbounded = tt
-forward P Q (Included a) = tt
-forward P Q (Excluded a) = tt
-
 pub from_bound : (after : Option CellId) (q : CellId) → IsFromStart cell_cmp (bound_behind after) q → IsBehind after q
 from_bound None q h = tt
 from_bound (Some p) q h = h

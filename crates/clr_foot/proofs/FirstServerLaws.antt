@@ -49,46 +49,13 @@ module _ (sought : Sought) (c : Setting ℕ) (n : Need) (s : Version) (t : Optio
   abbrev IsTold : VersionId → Bool → Type 0
   IsTold v told = IsToldServer sought c n s t v told
 
-  pub no_version : (v : VersionId) → version c v ≡ None → IsTold v false
-  no_version v none w = let clash : None ≡ Some w.0.0 = sym none ∙ w.0.1 in cc
-
-  module _ (v : VersionId) (r : Version) (named : IsNamed c v r) (ask : Ask) (asks : ask ≡ ask_of n) (told : Bool)
-      (is : told ≡ serves c.rules ask (row_of s) (option_map row_of t) (row_of r)) where
-    pub not_serving : told ≡ false → IsTold v false
-    not_serving fails w = false≢true (sym fails ∙ is ∙ (λ i. serves c.rules (asks i) (row_of s) (option_map row_of t) (first_row c v r w.0.0 named w.0.1 i))
-        ∙ w.0.2)
-
-    at : version c v ≡ Some (row_and_life r)
-    at = ap (version c) (sym named.0) ∙ named.1
-
-    pub serving : told ≡ true → (b : Bool) → b ≡ is_sought sought c n v → IsTold v b
-    serving holds true looked = (
-      (
-        row_and_life r,
-        at,
-        sym (λ i. serves c.rules (asks i) (row_of s) (option_map row_of t) (first_row c v r (row_and_life r) named at i)) ∙ sym is
-            ∙ holds,
-      ),
-      sym looked,
-    )
-    serving holds false looked = λ w. false≢true (looked ∙ w.1)
-
   -- ---- one cell
-
-  told_so : (v : VersionId) (b : Bool) → IsTold v b → b ≡ true → Is v
-  told_so v b w e = subst (IsTold v) e w
 
   told_not : (v : VersionId) (b : Bool) → IsTold v b → b ≡ false → Is v → ⊥
   told_not v b w e = subst (IsTold v) e w
 
   module _ (q : CellId) (a : Bool) (old : IsTold (version_of false q) a) where
-    pub first_old : a ≡ true → IsFirstAt sought c n s t q (Some (version_of false q))
-    first_old e = (refl, told_so (version_of false q) a old e, λ fresh. absurd (false≢true fresh))
-
     module _ (fails : a ≡ false) (b : Bool) (new : IsTold (version_of true q) b) where
-      pub first_new : b ≡ true → IsFirstAt sought c n s t q (Some (version_of true q))
-      first_new e = (refl, told_so (version_of true q) b new e, λ _. told_not (version_of false q) a old fails)
-
       pub none_at : b ≡ false → IsFirstAt sought c n s t q None
       none_at e false = told_not (version_of false q) a old fails
       none_at e true = told_not (version_of true q) b new e
@@ -163,12 +130,6 @@ of_need sought c n s t named named_too possible found = if_some_as (IsLeastVersi
     (IsLeastVersion (IsServingSought sought c n)) found
     (λ v. least_as (IsServerSought sought c n s t) (IsServingSought sought c n) v (λ v w. ((serving_same c n s t named named_too v possible).0 w.0, w.1))
     (λ v w. ((serving_same c n s t named named_too v possible).1 w.0, w.1)))
-
--- a version that serves and stands after the merge
-pub served_after : (c : Setting ℕ) (n : Need) (v : VersionId) → IsServingSought Living c n v → IsServedAfterMerge c n
-served_after c n v ((x, y, l, q, serve), living) a b p alive =
-    let once = subjects_once c n a x b y p q in
-    (v, l, subst (λ d. Serves c n d b v l) once.0 (subst (λ e. Serves c n x e v l) once.1 serve), sym (ap is_living_at serve.is) ∙ living)
 
 -- the least one that serves and lasts is picked
 module _ (c : Setting ℕ) (n : Need) (a : Lived ℕ) (b : Option (Lived ℕ)) (p : IsPossible c n a b) where

@@ -66,21 +66,6 @@ module _ (c : Setting ℕ) where
     name_at : (v : VersionId) (l : Lived ℕ) → version c v ≡ Some l → names_at x (version c v) ≡ names l.life x
     name_at v l is = ap (names_at x) is
 
-    subject_involves : (a : Lived ℕ) (b : Option (Lived ℕ)) → IsPossible c n a b → names_by x c n.first n.second ≡ true → Involves c n a b x
-    subject_involves a b p e = by n.second b p.second_is e
-      where
-        by : (w : Option VersionId) (b : Option (Lived ℕ)) → IsBesideIfAny c n.first a w b → names_by x c n.first w ≡ true → Involves c n a b x
-        by None None is e = inl (told_names a.life x (sym (name_at n.first a p.first_is) ∙ e))
-        by None (Some b) is e = absurd is
-        by (Some w) None is e = absurd is
-        by (Some w) (Some b) is e = elim (or_cases (names_at x (version c n.first)) (names_at x (version c w)) e) [
-          | inl h ↦ inl (told_names a.life x (sym (name_at n.first a p.first_is) ∙ h))
-          | inr h ↦ inr (inl (told_names b.life x (sym (name_at w b is.is) ∙ h)))
-        ]
-
-    pub named_involves : (told : Bool) → IsPossibleNeed c n → told ≡ names_by x c n.first n.second → told ≡ true → IsInvolving c x n
-    named_involves told (a, b, p) is e = (a, b, p, subject_involves a b p (sym is ∙ e))
-
     no_subject : (a : Lived ℕ) (b : Option (Lived ℕ)) → IsPossible c n a b → names_by x c n.first n.second ≡ false → Names a.life x ⊎ NamesIfAny b x → ⊥
     no_subject a b p e h = by n.second b p.second_is e h
       where

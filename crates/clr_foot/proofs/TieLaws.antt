@@ -37,14 +37,6 @@ use Rattle.clr_foot.proofs.TouchSteps.{old_sought, served_touched, with_touched}
 -- ---- cells that members change
 
 module _ (c : Setting ℕ) where
-  pub cell_kept : (p : CellId) (list : List CellId) (told : Bool) → told ≡ is_some (changer c p) → told ≡ false
-      → Gains (IsChangedCell c p) (IsChangedCell c p) list list
-  cell_kept p list told is fails = gains_none (IsChangedCell c p) (IsChangedCell c p) list (λ q w. false≢true (sym fails ∙ is ∙ w.1))
-
-  pub cell_added : (p : CellId) (old new : List CellId) → new ≡ old ++ p ∷ [] → is_some (changer c p) ≡ true
-      → Gains (IsChangedCell c p) (IsChangedCell c p) old new
-  cell_added p old new is changed = gains_one (IsChangedCell c p) (IsChangedCell c p) old new p is (refl, changed) (λ q w. w.0)
-
   -- a version that a member changes is old, and its cell is changed
   pub changed_is : (v : VersionId) → IsChangedVersion c v → (v.fresh ≡ false) × (is_some (changer c v.cell) ≡ true)
   changed_is v (l, is, changed) = by v.fresh refl (changer c v.cell) (sym (version_by_changer c v) ∙ is)
@@ -146,11 +138,6 @@ module _ (c : Setting ℕ) where
 
   -- ---- version after version
 
-  pub not_named_ties : (kind : TieKind) (number x : ℕ) (v : Version) (told : Bool) (needs : List Need) → told ≡ names (row_and_life v).life x → told ≡ false
-      → Gains (MayTie kind c x) (IsTieOf kind c number x v) needs needs
-  not_named_ties kind number x v told needs is fails = gains_none (MayTie kind c x) (IsTieOf kind c number x v) needs
-      (λ n w. false≢true (sym fails ∙ is ∙ names_told (row_and_life v).life x w.0))
-
   pub named_ties : (kind given : TieKind) (number x : ℕ) (v : Version) (old new : List Need) → given ≡ kind
       → Gains (MayTie kind c x) (IsTie kind v.id.fresh c number v.id) old new
       → Gains (MayTie given c x) (IsTieOf given c number x v) old new
@@ -165,9 +152,6 @@ module _ (c : Setting ℕ) where
     pub record IsTieBelow (number : ℕ) (n : Need) : Type 0 where
       pub tie : OfSome (IsTieOf kind c n.rule x) versions n
       pub below : n.rule < number
-
-    pub no_rule_ties : (needs : List Need) → Gains (MayTie kind c x) (IsTieBelow 0) needs needs
-    no_rule_ties needs = gains_none (MayTie kind c x) (IsTieBelow 0) needs (λ n w. let less = w.below in omega (arith, less))
 
     pub one_rule_ties : (number : ℕ) (old middle new : List Need) → Gains (MayTie kind c x) (IsTieBelow number) old middle
         → Gains (MayTie kind c x) (OfSome (IsTieOf kind c number x) versions) middle new

@@ -21,9 +21,6 @@ use Rattle.clr_versions.proofs.CandidateLaws.{they_call}
 use Rattle.clr_versions.proofs.CandidateLaws.{both_paired}
 use Rattle.clr_foot.proofs.SharingLaws.{is_second_subject, is_subject, may_serve_there, near_all, server_near, server_near_second, subjects_near}
 
-lived_too : Option Version → Option (Lived ℕ)
-lived_too t = option_map row_and_life t
-
 held_named : (t : Option Version) → held_if_any (option_map id_of t) (option_map row_and_life t) ≡ option_map row_of t
 held_named None = refl
 held_named (Some t) = refl

@@ -21,10 +21,6 @@ use Rattle.clr_steps.specs.Refusals.{broken_where, first_broken}
 pub reached : (current other : Content) (changed : Changes) → changed ≡ changes current other → taken_over current changed ≡ other
 reached current other changed e = ap (taken_over current) e ∙ taken_over-own current other
 
--- where there are no changes, the content stays
-pub stayed : (current : Content) (changed : Changes) → changed ≡ no_changes → taken_over current changed ≡ current
-stayed current changed e = reached current current changed (e ∙ sym (changes-self current))
-
 -- what is judged of a content where the rules are to hold
 pub judged : (r : Result (Option Broken) AllocError) (kept : Bool) (book : List Rule) (content other : Content) → content ≡ other → kept ≡ true
     → IfOk r (λ need. need ≡ first_broken book content) → IfOk r (λ need. option_map RuleBroken need ≡ broken_where kept book other)

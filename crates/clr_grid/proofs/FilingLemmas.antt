@@ -81,10 +81,6 @@ none_or_cells (Some m) q e = e
 abbrev pub IsPut : AtNumbers → AtNumbers → ℕ → CellId → Type 0
 IsPut f g s cell = (x : ℕ) → g x ≡ cond (nat_eq s x) (Some (set.insert (unwrap_or (f s) set.empty) cell)) (f x)
 
-pub put_again : (f g : AtNumbers) (s : ℕ) (cell : CellId) (m w : Cells) → unwrap_or (f s) set.empty ≡ m → w ≡ set.insert m cell
-    → ((x : ℕ) → g x ≡ cond (nat_eq s x) (Some w) (f x)) → IsPut f g s cell
-put_again f g s cell m w was is there x = there x ∙ ap (λ n. cond (nat_eq s x) (Some n) (f x)) (is ∙ ap (λ o. set.insert o cell) (sym was))
-
 module _ (f g : AtNumbers) (s : ℕ) (cell : CellId) (is : IsPut f g s cell) where
   pub put_keeps : Keeps f g
   put_keeps x q e = ap (λ o. has_cell o q) (is x) ∙ go (nat_eq s x) refl
@@ -137,14 +133,6 @@ without_fewer (Some m) cell q e = remove_fewer m cell q e
 without_gone : (o : Option Cells) (cell : CellId) → has_cell (without_cell o cell) cell ≡ false
 without_gone None cell = refl
 without_gone (Some m) cell = remove_gone m cell
-
--- where there is none, nothing changes
-pub none_taken : (f : AtNumbers) (s : ℕ) (cell : CellId) → f s ≡ None → IsTaken f f s cell
-none_taken f s cell none x = go (nat_eq s x) refl
-  where
-    go : (b : Bool) → nat_eq s x ≡ b → f x ≡ cond b (without_cell (f s) cell) (f x)
-    go true t = ap f (sym (tied_number s x t)) ∙ none ∙ ap (λ o. without_cell o cell) (sym none)
-    go false t = refl
 
 pub some_taken : (f g : AtNumbers) (s : ℕ) (cell : CellId) (m w : Cells) → f s ≡ Some m → w ≡ set.remove m cell
     → ((x : ℕ) → g x ≡ cond (nat_eq s x) (Some w) (f x)) → IsTaken f g s cell
@@ -342,11 +330,3 @@ pub added_more : (p : Spot → Bool) (xs : List Spot) (k : ℕ) (x : Spot) (a b 
     c ≡ (b || p x) → c ≡ (a || list_any p (take (k + 1) xs))
 added_more p xs k x a b c less is before now =
     now ∙ ap (λ e. e || p x) before ∙ or_group a (list_any p (take k xs)) (p x) ∙ ap (λ e. a || e) (sym (any_more p xs k x less is))
-
--- cells that are written back as they were
-pub same_written : (f g : AtNumbers) (s : ℕ) (w m : Cells) → ((x : ℕ) → g x ≡ cond (nat_eq s x) (Some w) (f x)) → w ≡ m → Some m ≡ f s → (x : ℕ) → g x ≡ f x
-same_written f g s w m is same here x = is x ∙ go (nat_eq s x) refl
-  where
-    go : (b : Bool) → nat_eq s x ≡ b → cond b (Some w) (f x) ≡ f x
-    go true t = ap Some same ∙ here ∙ ap f (tied_number s x t)
-    go false t = refl

@@ -69,9 +69,6 @@ pub with_last : (m : Cells) (done : List CellId) (q : CellId) → with_listed_ce
 with_last m [] q = refl
 with_last m (c ∷ done) q = with_last (set.insert m c) done q
 
-pub added_none : (m : Cells) (all : List CellId) → IsAddedTo m all m all
-added_none m all = ([], refl, refl)
-
 pub added_next : (m : Cells) (all : List CellId) (n : Cells) (q : CellId) (left : List CellId) → IsAddedTo m all n (q ∷ left) →
     IsAddedTo m all (set.insert n q) left
 added_next m all n q left (done, is, whole) = (

@@ -46,12 +46,6 @@ filed_set (y ∷ ys) zero old new (suc n) b k q less is step e = e
 filed_set (y ∷ ys) (suc m) old new zero b k q less is step e = e
 filed_set (y ∷ ys) (suc m) old new (suc n) b k q less is step e = filed_set ys m old new n b k q (omega (arith, less)) is (λ same. step (ap suc same)) e
 
-pub set_filed : (xs : List RuleIndex) (m : ℕ) (new : RuleIndex) (b : Bool) (k : Key) (q : CellId) → m < length xs → is_filed (side_index_of new b) k q ≡ true
-    → is_filed_under (set xs m new) m b k q ≡ true
-set_filed [] m new b k q less e = absurd (omega (arith, less))
-set_filed (y ∷ ys) zero new b k q less e = e
-set_filed (y ∷ ys) (suc m) new b k q less e = set_filed ys m new b k q (omega (arith, less)) e
-
 -- an index without cells adds nothing
 pub append_only : (xs : List RuleIndex) (x : RuleIndex) → ((b : Bool) (k : Key) (q : CellId) → is_filed (side_index_of x b) k q ≡ false)
     → GainNone xs (xs ++ x ∷ [])

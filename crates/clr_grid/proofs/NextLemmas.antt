@@ -42,26 +42,6 @@ pub first_key_at : (after : Option CellId) (lo : Bound CellId) (s : BTreeSet Cel
     → IsNextOf (λ q. is_one_of s.keys q ≡ true) after (slice_get r 0)
 first_key_at after lo s r is w = first_key after s r (subst (λ b. IsKeyRangeOf cell_cmp b Unbounded s r) is w)
 
--- ---- one cell
-
-one_alone : (p q : CellId) → is_one_of (p ∷ []) q ≡ true → q ≡ p
-one_alone p q e = elim (or_cases (eq_by_cmp cell_cmp q p) false e) [
-  | inl tie ↦ cell_cmp_exact q p ((Equal-is (cell_cmp q p)).0 tie)
-  | inr none ↦ absurd (false≢true none)
-]
-
-itself_reached : (p q : CellId) → q ≡ p → is_gt (cell_cmp p q) ≡ false
-itself_reached p q same = ap is_gt (ap (cell_cmp p) same ∙ tied_itself cell_cmp_total p)
-
-pub one_behind : (p : CellId) (after : Option CellId) → IsBehind after p → IsNextOf (λ q. is_one_of (p ∷ []) q ≡ true) after (Some p)
-one_behind p after behind = record { behind = behind; reached = λ q one _. itself_reached p q (one_alone p q one) }
-
-pub one_before : (p before : CellId) → is_lt (cell_cmp before p) ≡ false → IsNextOf (λ q. is_one_of (p ∷ []) q ≡ true) (Some before) None
-one_before p before fails = record {
-  behind = tt;
-  reached = λ q one behind. false≢true (sym fails ∙ ap is_lt (ap (cell_cmp before) (sym (one_alone p q one)) ∙ behind));
-}
-
 -- ---- spot after spot
 
 module _ (i : SideIndex) (after : Option CellId) (xs : List Spot) where

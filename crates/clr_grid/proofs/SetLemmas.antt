@@ -115,23 +115,6 @@ both_gone xs ys ks ls k first h = set.same_set cell_cmp_total cell_cmp_exact _ _
     ∙ sym (set.contains-remove cell_cmp_total (set.from_list (xs ++ ks)) k q
     ∙ ap (λ b. not (eq_by_cmp cell_cmp q k) && b) (set.contains-from_list cell_cmp_total (xs ++ ks) q)))
 
--- a cell that isn't another one
-pub one_left : (f k q : CellId) → eq_by_cmp cell_cmp f k ≡ false → is_one_of (f ∷ []) q ≡ (not (eq_by_cmp cell_cmp q k) && is_one_of (f ∷ []) q)
-one_left f k q apart = go (eq_by_cmp cell_cmp q f) refl
-  where
-    go : (b : Bool) → eq_by_cmp cell_cmp q f ≡ b → (b || false) ≡ (not (eq_by_cmp cell_cmp q k) && (b || false))
-    go false e = sym (and-false (not (eq_by_cmp cell_cmp q k)))
-    go true e = sym (ap (λ b. not b && true) (ap (λ c. eq_by_cmp cell_cmp c k) (cell_cmp_exact q f ((Equal-is (cell_cmp q f)).0 e)) ∙ apart))
-
--- a cell that is gone
-pub none_left : (f k q : CellId) → eq_by_cmp cell_cmp f k ≡ true → false ≡ (not (eq_by_cmp cell_cmp q k) && is_one_of (f ∷ []) q)
-none_left f k q tie = go (eq_by_cmp cell_cmp q k) ∙ ap (λ c. not (eq_by_cmp cell_cmp q k) && (eq_by_cmp cell_cmp q c || false))
-    (sym (cell_cmp_exact f k ((Equal-is (cell_cmp f k)).0 tie)))
-  where
-    go : (b : Bool) → false ≡ (not b && (b || false))
-    go true = refl
-    go false = refl
-
 -- a first cell that stands by itself, and the keys of a tree
 pub one_there : (o : Option CellId) (f k : CellId) (ks : List CellId) → o ≡ Some f → eq_by_cmp cell_cmp f k ≡ true →
     set.from_list {R = cell_cmp} (option_to_list o ++ ks) ≡ set.insert (set.from_list (option_to_list o ++ ks)) k

@@ -116,14 +116,6 @@ module _ (labels : List ℕ) where
     pub one : (i j : ℕ) (g h : List ℕ) (x y : ℕ) → slice_get groups i ≡ Some g → slice_get groups j ≡ Some h → Contains g x → Contains h y → label labels x
         ≡ label labels y → i ≡ j
 
-  pub no_groups : (groups : List (List ℕ)) → groups ≡ [] → AreGroupsTo 0 groups
-  no_groups groups none = subst (AreGroupsTo 0) (sym none) (record {
-    each = λ i g e. cc;
-    filled = λ i g e. cc;
-    every = λ x within less. absurd (omega (arith, less));
-    one = λ i j g h x y e f. cc;
-  })
-
   module _ (bound : ℕ) (old : List (List ℕ)) (g : List ℕ) (are : AreGroupsTo bound old) (these : Lists nat_cmp (IsLabelled labels bound) g) where
     -- a label that nobody has
     pub no_group : g ≡ [] → AreGroupsTo (bound + 1) old
@@ -177,15 +169,6 @@ module _ (labels : List ℕ) where
 
     pub one_group : (new : List (List ℕ)) → new ≡ old ++ g ∷ [] → (x : ℕ) × Contains g x → AreGroupsTo (bound + 1) new
     one_group new put some = subst (AreGroupsTo (bound + 1)) (sym put) (one_group_at some)
-
-  pub all_groups : (bound : ℕ) (groups : List (List ℕ)) → length labels ≤ bound → ((x : ℕ) → x < length labels → label labels x < length labels)
-      → AreGroupsTo bound groups → AreGroupsBy labels groups
-  all_groups bound groups past below are = record {
-    each = λ i g e. (let (l, less, list) = are.each i g e in (l, list));
-    filled = are.filled;
-    every = λ x within. are.every x within (let low = below x within in omega (arith, low, past));
-    one = are.one;
-  }
 
 -- groups of dependent members ----------------------------------------------------------------
 

@@ -42,35 +42,6 @@ member_need_exact x y e =
 module _ (c : Setting ℕ) where
   -- ---- the member that changes the cell of a subject
 
-  module _ (need : Need) (member : ℕ) (subject : VersionId) where
-    abbrev of_other : ℕ → MemberNeed
-    of_other other = record { need = need; member = other; touches = false }
-
-    pub no_changer : (told : Option ℕ) (list : List MemberNeed) → told ≡ changer c subject.cell → told ≡ None
-        → Gains (IsOfChanger c need member subject) (IsOfChanger c need member subject) list list
-    no_changer told list is none = gains_none (IsOfChanger c need member subject) (IsOfChanger c need member subject) list
-        (λ x w. let clash : None ≡ Some x.member = sym none ∙ is ∙ w.changes in cc)
-
-    pub same_changer : (told : Option ℕ) (other : ℕ) (list : List MemberNeed) → told ≡ changer c subject.cell → told ≡ Some other → other ≡ member
-        → Gains (IsOfChanger c need member subject) (IsOfChanger c need member subject) list list
-    same_changer told other list is some same = gains_none (IsOfChanger c need member subject) (IsOfChanger c need member subject) list
-        (λ x w. let both : Some other ≡ Some x.member = sym some ∙ is ∙ w.changes in let one : other ≡ x.member = cc in w.other (sym one ∙ same))
-
-    pub other_changer : (told : Option ℕ) (other : ℕ) (old new : List MemberNeed) → told ≡ changer c subject.cell → told ≡ Some other → other ≢ member
-        → new ≡ old ++ record { need = need; member = other; touches = false } ∷ []
-        → Gains (IsOfChanger c need member subject) (IsOfChanger c need member subject) old new
-    other_changer told other old new is some apart put =
-        gains_one (IsOfChanger c need member subject) (IsOfChanger c need member subject) old new (of_other other) put
-        (record { need = refl; changes = sym is ∙ some; other = apart; untouched = refl }) one
-      where
-        one : (x : MemberNeed) → IsOfChanger c need member subject x → x ≡ of_other other
-        one x w =
-            let both : Some x.member ≡ Some other = sym w.changes ∙ sym is ∙ some in
-            let same : x.member ≡ other = cc in
-            let its_need = w.need in
-            let untouched = w.untouched in
-            λ i. record { need = its_need i; member = same i; touches = untouched i }
-
   -- whoever changes the cell of a version that is there is named by its life
   changer_named : (v : VersionId) (l : Lived ℕ) (x : ℕ) → version c v ≡ Some l → changer c v.cell ≡ Some x → Names l.life x
   changer_named v l x is changes = by v.fresh (changer c v.cell) (sym (version_by_changer c v) ∙ is) changes

@@ -11,10 +11,6 @@ use Rattle.std.proofs.lemmas.Bool.{false≢true}
 use Rattle.std.proofs.lemmas.List.Sorted.{searchable_from_sorted}
 use Rattle.clr_groups.specs.GroupNeeds.{IsAnswerTo}
 
-pub it_is : (b : Bool) (P : Type 0) → b ≡ true → IsAnswerTo b P → P
-it_is true P e told = told
-it_is false P e told = absurd (false≢true e)
-
 pub it_is_not : (b : Bool) (P : Type 0) → b ≡ false → IsAnswerTo b P → ¬ P
 it_is_not true P e told = absurd (false≢true (sym e))
 it_is_not false P e told = told

@@ -37,19 +37,6 @@ group_need_exact x y e =
 -- one pair after another -----------------------------------------------------------------------
 
 module _ (places : List ℕ) where
-  -- the member doesn't touch the need
-  pub untouched_left : (p : MemberNeed) (list : List GroupNeed) → p.touches ≡ false → Gains (IsOfPlace places p) (IsOfPlace places p) list list
-  untouched_left p list not = gains_none (IsOfPlace places p) (IsOfPlace places p) list (λ x w. false≢true (sym not ∙ w.0))
-
-  pub touched_added : (p : MemberNeed) (old new : List GroupNeed) (group : ℕ) → new ≡ old ++ record { need = p.need; group = group } ∷ []
-      → group ≡ get_or places p.member 0
-      → p.touches ≡ true
-      → Gains (IsOfPlace places p) (IsOfPlace places p) old new
-  touched_added p old new group is place touches =
-      let y : GroupNeed = record { need = p.need; group = group } in
-      gains_one (IsOfPlace places p) (IsOfPlace places p) old new y is (touches, refl, place)
-      (λ x w. let need = w.1 in let at = w.2 in (λ i. record { need = need i; group = (at ∙ sym place) i }))
-
   module _ (pairs : List MemberNeed) where
     abbrev pub IsOfPairs : GroupNeed → Type 0
     IsOfPairs = OfSome (IsOfPlace places) pairs
@@ -86,9 +73,6 @@ module _ (rules : List Rule) (root : Content) (sets : List Changes) (groups : Li
     (are : AreGroups (setting rules root sets) groups) (pairs : List MemberNeed)
     (are_pairs : TieMembers (setting rules root sets) (length sets) pairs) (places : List ℕ)
     (placed : (x : ℕ) → x < length sets → IsPlaceOf groups x (get_or places x 0)) where
-  abbrev c : Setting ℕ
-  c = setting rules root sets
-
   split : SplitNeeds rules root sets groups
   split = groups_split rules root sets groups apart are
 

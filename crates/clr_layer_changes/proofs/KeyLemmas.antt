@@ -126,11 +126,8 @@ stay_passed live rows table cell row a b passed = record {
   taken = λ k low high. stays_taken live rows table k cell row (passed.taken k low high);
 }
 
--- a row with a key of its own changes nothing here; one without is put at the least key that is free, if there is one
+-- a row without a key of its own is put at the least key that is free, if there is one
 module _ (live : Content) (table first number : ℕ) (rows : Content) (r : LayerRow) where
-  pub own_key : is_some r.key ≡ true → with_given live table first number rows r ≡ Ok rows
-  own_key has = ap (λ b. cond b (Ok rows) (or_fault number (least_free live rows table first) >>= λ key. Ok (finite.insert rows (cell_of table key) r.row))) has
-
   given : (found : Option ℕ) → is_some r.key ≡ false → least_free live rows table first ≡ found
       → with_given live table first number rows r ≡ (or_fault number found >>= λ key. Ok (finite.insert rows (cell_of table key) r.row))
   given found has is =

@@ -35,19 +35,9 @@ module _ {X Y : Type 0} (f : X → Option Y) where
       → filter_map f (take (k + 1) xs) ≡ filter_map f (take k xs) ++ option_to_list (f (get_or xs k d))
   filter_map_more xs k d less = ap (filter_map f) (take_more xs k d less) ∙ filter_map_last (take k xs) (get_or xs k d)
 
-module _ {X Y : Type 0} (f : X → List Y) where
-  pub flat_map_last : (xs : List X) (x : X) → flat_map f (xs ++ x ∷ []) ≡ flat_map f xs ++ f x
-  flat_map_last xs x = flat_map-append f xs (x ∷ []) ∙ ap (λ ys. flat_map f xs ++ ys) (append-nil (f x))
-
-  pub flat_map_more : (xs : List X) (k : ℕ) (d : X) → k < length xs → flat_map f (take (k + 1) xs) ≡ flat_map f (take k xs) ++ f (get_or xs k d)
-  flat_map_more xs k d less = ap (flat_map f) (take_more xs k d less) ∙ flat_map_last (take k xs) (get_or xs k d)
-
 module _ {X : Type 0} (p : X → Bool) where
   pub filter_last : (xs : List X) (x : X) → filter p (xs ++ x ∷ []) ≡ filter p xs ++ filter p (x ∷ [])
   filter_last xs x = filter-append p xs (x ∷ [])
-
-  pub filter_one_more : (xs : List X) (k : ℕ) (d : X) → k < length xs → filter p (take (k + 1) xs) ≡ filter p (take k xs) ++ filter p (get_or xs k d ∷ [])
-  filter_one_more xs k d less = ap (filter p) (take_more xs k d less) ∙ filter_last (take k xs) (get_or xs k d)
 
 -- an element is added, or none
 pub one_added : {X Y : Type 0} (f : X → Y) (old new : List X) (x : X) (o : Option Y) → new ≡ old ++ x ∷ [] → o ≡ Some (f x)

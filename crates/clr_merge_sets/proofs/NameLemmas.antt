@@ -37,13 +37,6 @@ module _ {A : Type 0} (o : Office) (name : Name) (value : A) where
       by true h = absurd (cc)
       by false h = refl
 
-  pub missing_is : (r : Option A) (b : Bool) → r ≡ if_stands o name value → b ≡ is_none r → b ≡ not (stands o name)
-  missing_is r b e f = f ∙ ap is_none e ∙ by (stands o name)
-    where
-      by : (b : Bool) → is_none (cond b (Some value) None) ≡ not b
-      by true = refl
-      by false = refl
-
 module _ (o : Office) (name : Name) where
   pub nowhere : stands o name ≡ false → workspace o name ≡ None
   unfolding stands workspace
@@ -103,9 +96,6 @@ module _ (p : Name → Bool) (names : List Name) where
   abbrev pub NonePasses : ℕ → Type 0
   NonePasses at = (k : ℕ) (n : Name) → k < at → slice_get names k ≡ Some n → p n ≡ false
 
-  pub none_yet : NonePasses 0
-  none_yet k n less e = absurd (omega (arith, less))
-
   pub one_fails : (at : ℕ) (n : Name) → slice_get names at ≡ Some n → p n ≡ false → NonePasses at → NonePasses (at + 1)
   one_fails at n is fails before k m less e = elim (side k less) [
     | inl earlier ↦ before k m earlier e
@@ -137,41 +127,6 @@ module _ (p : Name → Bool) (names : List Name) where
       λ n e. absurd (let within = slice_get_within names whole n e in omega (arith, within)) in
       sym (position_at whole (first_at whole (omega arith) (λ k n less e. before k n (omega (arith, less, past)) e) past_end)
       ∙ ap (λ b. cond b (Some whole) None) (le-ltb whole whole (omega arith)))
-
--- the tests in order -----------------------------------------------------------------------------------
-
-abbrev pub fault_of : Bool → Option ℕ → Option ℕ → Option ℕ → Option Verdict
-fault_of kept repeated missing stray =
-    option_or (cond kept None (Some verdict.NotKept)) (option_or (option_map verdict.RepeatedMember repeated)
-    (option_or (option_map verdict.NoWorkspace missing) (option_map verdict.NotUnderRoot stray)))
-
-module _ (o : Office) (s : MergeSet) where
-  abbrev pub missing : Option ℕ
-  missing = position (λ name. not (stands o name)) s.members
-
-  abbrev pub stray : Option ℕ
-  stray = position (λ name. not (is_child o s name)) s.members
-
-  pub tests_are : (kept : Bool) (a b c : Option ℕ) → kept ≡ is_kept o s.root → a ≡ first_repeated s.members → b ≡ missing → c ≡ stray → fault_of kept a b c
-      ≡ names_fault o s
-  unfolding names_fault
-  tests_are kept a b c e f g h = λ i. fault_of (e i) (f i) (g i) (h i)
-
-  pub root_fails : false ≡ is_kept o s.root → Some verdict.NotKept ≡ names_fault o s
-  root_fails e = tests_are false (first_repeated s.members) missing stray e refl refl refl
-
-  pub repeated_fails : (at : ℕ) → true ≡ is_kept o s.root → Some at ≡ first_repeated s.members → Some (verdict.RepeatedMember at) ≡ names_fault o s
-  repeated_fails at e f = tests_are true (Some at) missing stray e f refl refl
-
-  pub missing_fails : (at : ℕ) → true ≡ is_kept o s.root → None ≡ first_repeated s.members → Some at ≡ missing → Some (verdict.NoWorkspace at) ≡ names_fault o s
-  missing_fails at e f g = tests_are true None (Some at) stray e f g refl
-
-  pub stray_fails : (at : ℕ) → true ≡ is_kept o s.root → None ≡ first_repeated s.members → None ≡ missing → Some at ≡ stray → Some (verdict.NotUnderRoot at)
-      ≡ names_fault o s
-  stray_fails at e f g h = tests_are true None None (Some at) e f g h
-
-  pub none_fails : true ≡ is_kept o s.root → None ≡ first_repeated s.members → None ≡ missing → None ≡ stray → None ≡ names_fault o s
-  none_fails e f g h = tests_are true None None None e f g h
 
 -- workspaces under others --------------------------------------------------------------------------------
 

@@ -69,9 +69,6 @@ found_in names k n name e same =
     let within = slice_get_within names k n e in
     sym (ap (λ ns. has ns name) (sym (take_all (length names) names (omega arith))) ∙ has_before names k (length names) n name within e same)
 
-pub not_in : (names : List Name) (k : ℕ) (name : Name) → length names ≤ k → has (take k names) name ≡ false → false ≡ has names name
-not_in names k name past before = sym before ∙ ap (λ ns. has ns name) (take_all k names past)
-
 -- the first position that passes a test ----------------------------------------------------------
 
 range_at : (a n k d : ℕ) → k < n → get_or (range_with_len a n) k d ≡ a + k

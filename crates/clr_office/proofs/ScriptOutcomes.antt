@@ -17,9 +17,6 @@ use Rattle.clr_reports.specs.Printing.{IsOutput, print_of}
 abbrev pub Leads : Office → List Step → Outcome → List Step → Type 0
 Leads start steps all rest = (later : Outcome) → IsScriptOutcome all.office rest later → IsScriptOutcome start steps (followed_by all later)
 
-pub starts : (o : Office) (steps : List Step) → Leads o steps (nothing o) steps
-starts o steps later is = is
-
 -- one more step
 pub goes_on : (start before after : Office) (steps : List Step) (i : ℕ) (s : Step) (lines line : List ℕ) (refused also lost now_lost : Bool) → i < length steps
     → s ≡ get_or steps i s

@@ -48,11 +48,6 @@ module _ (live : Content) (ls : List Delta) (above : Content) (l : Delta) (p : P
       wholes-push live ls l filled ∙ ap (λ o. ws ++ whole_of (unwrap_or o no_rows) l ∷ []) seen
       ∙ ap (λ (w : Workspace). ws ++ w ∷ []) (ap (λ (m : Content). whole_of m l) (sym above_is) ∙ is)
 
-pub few_taken : (ws : List Workspace) (n : ℕ) → length (take n ws) ≤ n
-few_taken ws zero = omega arith
-few_taken [] (suc n) = omega arith
-few_taken (w ∷ ws) (suc n) = let few = few_taken ws n in omega (arith, few)
-
 -- faults -----------------------------------------------------------------------------------------------
 
 pub is_fault : (found : Option PartFault) (why : PartFault) → found ≡ Some why → IsPartFault found why
@@ -94,12 +89,3 @@ module _ (live : Content) (ls : List Delta) (rest : List Workspace) (is : wholes
       → IsFirstPartFault (first_below (marks_fault_at (wholes live ls)) (length ls - 1)) e
       → IsFirstPartFault (workspaces_fault live rest) e
   marks_wrong names e r = subst (λ o. IsFirstPartFault o e) (marks_in ∙ sym (ap (λ o. option_or o (first_marks_fault live rest)) names)) r
-
-pub names_wrong : (live : Content) (ws : List Workspace) (e : ℕ × PartFault) → IsFirstPartFault (first_part_name_fault live ws) e →
-    IsFirstPartFault (workspaces_fault live ws) e
-names_wrong live ws (n, fault.OutOfMemory) r = r
-names_wrong live ws (n, fault.BadName) r = ap (λ o. option_or o (first_marks_fault live ws)) r
-names_wrong live ws (n, fault.NameTaken) r = ap (λ o. option_or o (first_marks_fault live ws)) r
-names_wrong live ws (n, fault.NoParent) r = ap (λ o. option_or o (first_marks_fault live ws)) r
-names_wrong live ws (n, fault.TooMany) r = ap (λ o. option_or o (first_marks_fault live ws)) r
-names_wrong live ws (n, fault.BadMarks) r = ap (λ o. option_or o (first_marks_fault live ws)) r

@@ -11,10 +11,6 @@ pub on_err : {T E P : Type 0} (r : Result T E) → P → OnErr r P
 on_err (Ok x) p = tt
 on_err (Err e) p = p
 
--- four pieces are the first of them and the other three
-pub four_pieces : {A : Type 0} (a b c d : List A) → a ++ b ++ c ++ d ≡ a ++ (b ++ c ++ d)
-four_pieces a b c d = simp append_assoc
-
 -- a front of what was to be added was added
 pub some_begun : {A : Type 0} (old more new front back : List A) → new ≡ old ++ front → more ≡ front ++ back → IsBegun old more new
 some_begun old more new front back is parts = record {

@@ -144,16 +144,6 @@ module _ {X : Type 0} where
           | false ↦ rest
         ]
 
-  all_from_below : (cell : CellId) (es : List (CellId × X)) → T (below_all cell_cmp cell es) → AllByRecursion (λ c. cell_cmp cell c ≡ Less) (map (λ e. e.0) es)
-  all_from_below cell [] below = tt
-  all_from_below cell (e ∷ es) below = (less _ (first _ _ below), all_from_below cell es (second _ _ below))
-
-  -- the cells of pairs in order ascend
-  pub ordered_from_sorted : (es : List (CellId × X)) → T (is_sorted cell_cmp es) → IsStrictlySortedBy cell_cmp (map (λ e. e.0) es)
-  unfolding IsStrictlySortedBy
-  ordered_from_sorted [] sorted = tt
-  ordered_from_sorted (e ∷ es) sorted = (all_from_below e.0 es (first _ _ sorted), ordered_from_sorted es (second _ _ sorted))
-
   module _ {Y : Type 0} (f : X → Y) where
     below-map : (cell : CellId) (es : List (CellId × X)) → T (below_all cell_cmp cell es) → T (below_all cell_cmp cell (map (λ e. (e.0, f e.1)) es))
     below-map cell [] below = tt
@@ -244,10 +234,6 @@ pub any-conflicts : (target : Content) (changed : Changes) (q : CellId) → list
 unfolding conflicts
 any-conflicts target changed q = find_conflict target (finite.entries changed) q (finite.entries_sorted changed)
     ∙ ap (has_conflict target q) (sym (finite.get-entries changed q))
-
-pub conflicts-ascend : (target : Content) (changed : Changes) → IsStrictlySortedBy cell_cmp (conflicts target changed)
-unfolding conflicts
-conflicts-ascend target changed = ordered_from_sorted _ (sorted-filter (is_conflict target) _ (finite.entries_sorted changed))
 
 -- the target has the row before each change
 abbrev pub IsUntouched : Content → Changes → Type 0

@@ -252,14 +252,6 @@ few_parts (At p) h = omega arith
 few_parts (Line p q) h = omega arith
 few_parts (Chain vertices) h = omega (arith, length-path_parts vertices, (path_length vertices h).1)
 
--- a value beside its column is of its kind
-kind_at : (columns : List (List ℕ × Kind)) (values : List Value) (i : ℕ) (column : List ℕ × Kind) (value : Value) → are_of_kinds columns values ≡ true
-    → slice_get columns i ≡ Some column → slice_get values i ≡ Some value → is_of_kind column.1 value ≡ true
-kind_at [] values i column value all at is = cc
-kind_at (c ∷ cs) [] i column value all at is = cc
-kind_at (c ∷ cs) (v ∷ vs) zero column value all at is = let h = and_parts (is_of_kind c.1 v) (are_of_kinds cs vs) all in cc
-kind_at (c ∷ cs) (v ∷ vs) (suc i) column value all at is = kind_at cs vs i column value (and_parts (is_of_kind c.1 v) (are_of_kinds cs vs) all).1 at is
-
 keyed : (found : Option TableDef) (cell : CellId) (table : TableDef) → found ≡ Some table → is_key cell.key ≡ true → key_fault found cell ≡ None
 keyed None cell table is h = cc
 keyed (Some t) cell table is h = rw h refl
@@ -284,27 +276,8 @@ pub cell_parts : (tables : List TableDef) (cell : CellId) → cell_fault tables 
 unfolding cell_fault
 cell_parts tables cell h = named (slice_get tables cell.table) cell h
 
-pub cell_table : (tables : List TableDef) (cell : CellId) → cell_fault tables cell ≡ None → cell.table < length tables
-cell_table tables cell h = let t = cell_parts tables cell h in slice_get_within tables cell.table t.0 t.1
-
-pub cell_key : (tables : List TableDef) (cell : CellId) → cell_fault tables cell ≡ None → is_key cell.key ≡ true
-cell_key tables cell h = (cell_parts tables cell h).2
-
 module _ (tables : List TableDef) (cell : CellId) (row : Row) (fit : row_fault tables cell row ≡ None) where
-  -- the row's table is known, and its key in range
-  pub row_table : cell.table < length tables
-  row_table = let t = fits_table tables cell row fit in slice_get_within tables cell.table t.0 t.1
-
-  pub row_key : is_key cell.key ≡ true
-  row_key = (fits_table tables cell row fit).2.key
-
-  -- the row's numbers are within 64 bits, and its texts have no more bytes than the most
-  pub row_numbers : list_all is_number row.values ≡ true
-  row_numbers = (fits_table tables cell row fit).2.numbers
-
-  pub row_number : (i : ℕ) (n : ℤ) → slice_get row.values i ≡ Some (Int n) → is_i64 n ≡ true
-  row_number i n is = at_each is_number row.values i (Int n) row_numbers is
-
+  -- the row's texts have no more bytes than the most
   pub row_text : (i : ℕ) (text : List ℕ) → slice_get row.values i ≡ Some (Words text) → length text ≤ MOST_TEXT_BYTES
   row_text i text is = leb-true (length text) MOST_TEXT_BYTES (at_each is_short row.values i (Words text) (fits_table tables cell row fit).2.short is)
 
@@ -312,23 +285,9 @@ module _ (tables : List TableDef) (cell : CellId) (row : Row) (fit : row_fault t
   pub row_part : (n : ℕ) (p q : Place) → slice_get (parts_of row.shape) n ≡ Some (p, q) → InRange p × InRange q × Differ p q
   row_part n p q is = let f = (fits_table tables cell row fit).2 in part_ends row.shape n p q f.coordinates f.parts is
 
-  pub row_point : (p : Place) → row.shape ≡ At p → InRange p
-  row_point p is = place_in_range p (subst (λ s. has_coordinates s ≡ true) is (fits_table tables cell row fit).2.coordinates)
-
   -- the row has fewer parts than a path may have vertices
   pub row_parts : length (parts_of row.shape) < MOST_VERTICES
   row_parts = few_parts row.shape (fits_table tables cell row fit).2.vertices
-
-  pub row_line : (p q : Place) → row.shape ≡ Line p q → InRange p × InRange q × Differ p q
-  row_line p q is = row_part 0 p q (ap (λ s. slice_get (parts_of s) 0) is)
-
-  pub row_vertex : (vertices : List Place) (n : ℕ) (p : Place) → row.shape ≡ Chain vertices → slice_get vertices n ≡ Some p → InRange p
-  row_vertex vertices n p is at = place_in_range p (at_each is_place vertices n p (subst (λ s. has_coordinates s
-      ≡ true) is (fits_table tables cell row fit).2.coordinates) at)
-
-  -- a path has no fewer vertices than the fewest, and no more than the most
-  pub row_vertices : (vertices : List Place) → row.shape ≡ Chain vertices → (LEAST_VERTICES ≤ length vertices) × (length vertices ≤ MOST_VERTICES)
-  row_vertices vertices is = path_length vertices (subst (λ s. is_bad_path s ≡ false) is (fits_table tables cell row fit).2.vertices)
 
   -- the row has its table's form, and a value of its kind for each column
   pub row_fits : (table : TableDef) → slice_get tables cell.table ≡ Some table → Fits table cell row
@@ -336,11 +295,3 @@ module _ (tables : List TableDef) (cell : CellId) (row : Row) (fit : row_fault t
       let t = fits_table tables cell row fit in
       let same : t.0 ≡ table = cc in
       subst (λ u. Fits u cell row) same t.2
-
-  pub row_kind : (table : TableDef) (i : ℕ) (column : List ℕ × Kind) (value : Value) → slice_get tables cell.table ≡ Some table → slice_get table.columns i
-      ≡ Some column → slice_get row.values i ≡ Some value → is_of_kind column.1 value ≡ true
-  row_kind table i column value of at is = kind_at table.columns row.values i column value (row_fits table of).kinds at is
-
-  -- the row's cell names a row that could stand
-  pub row_names_cell : cell_fault tables cell ≡ None
-  row_names_cell = let t = fits_table tables cell row fit in cell_named tables cell t.0 t.1 t.2.key

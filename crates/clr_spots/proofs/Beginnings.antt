@@ -20,9 +20,6 @@ module _ {X Y : Type 0} (f : Y → List X) where
   pub flat_parts : (ys : List Y) (k : ℕ) → flat_map f ys ≡ flat_map f (take k ys) ++ flat_map f (drop k ys)
   flat_parts ys k = ap (flat_map f) (sym (take-append-drop k ys)) ∙ flat_map-append f (take k ys) (drop k ys)
 
-  pub flat_begun : (old mid new : List X) (ys : List Y) (k : ℕ) → mid ≡ old ++ flat_map f (take k ys) → new ≡ mid → IsBegun old (flat_map f ys) new
-  flat_begun old mid new ys k is same = some_begun old (flat_map f ys) new (flat_map f (take k ys)) (flat_map f (drop k ys)) (same ∙ is) (flat_parts ys k)
-
 -- the parts of wide rows and those of the first spots were added
 pub near_begun : (m : Filed) (xs : List Spot) (wide : Bool) (old mid new : List FiledPart) (k : ℕ) → wide ≡ false
     → mid ≡ (old ++ m.wide) ++ flat_map (parts_at m.by_spot) (take k xs) → new ≡ mid → IsBegun old (near m xs wide) new

@@ -66,14 +66,6 @@ module _ (shape : Shape) (k : ℕ) (e : Segment) (list : List Spot) (at : slice_
 pub none_kept : (xs : List Spot) → are_many xs ≡ true → [] ≡ unless_many xs
 none_kept xs e = sym (ap (λ many. if many then [] else xs) e)
 
-pub all_kept : (xs ys : List Spot) → xs ≡ ys → are_many xs ≡ false → xs ≡ unless_many ys
-all_kept xs ys same e = sym (ap (λ (zs : List Spot). unless_many zs) (sym same) ∙ ap (λ many. if many then [] else xs) e)
-
-pub all_taken : (shape : Shape) (k : ℕ) (list : List Spot) → list ≡ squares_of_all (take k (boxes_of_parts shape)) → length (parts_of shape) ≤ k → list
-    ≡ squares_of_all (boxes_of_parts shape)
-all_taken shape k list is h = is
-    ∙ ap squares_of_all (take_all k (boxes_of_parts shape) (omega (arith, h, length-map (parts_of shape) (λ (s : Segment). box_between s.0 s.1))))
-
 pub no_boxes : (shape : Shape) → [] ≡ squares_of_all (take 0 (boxes_of_parts shape))
 unfolding squares_of_all
 no_boxes shape = refl
@@ -97,9 +89,6 @@ pub record AddsNew (xs ys list rest : List Spot) : Type 0 where
   pub longer : length xs ≤ length list
   pub whole : list ++ filter (is_new xs) rest ≡ union xs ys
 
-pub none_added : (xs ys : List Spot) → AddsNew xs ys xs ys
-none_added xs ys = record { first = take_all (length xs) xs (omega arith); longer = omega arith; whole = refl }
-
 front_kept : (xs list : List Spot) (y : Spot) → take (length xs) list ≡ xs → length xs ≤ length list → take (length xs) (list ++ y ∷ []) ≡ xs
 front_kept xs list y same h = take-append-le (length xs) list (y ∷ []) h ∙ same
 
@@ -115,6 +104,3 @@ new_added xs ys list rest read y has h at test none =
       whole = append_assoc list (y ∷ []) (filter (is_new xs) rest) ∙ ap (λ b. list ++ cond (not b) (y ∷ filter (is_new xs) rest) (filter (is_new xs) rest))
           (sym new) ∙ h.whole;
     }
-
-pub all_added : (xs ys list : List Spot) → AddsNew xs ys list [] → list ≡ union xs ys
-all_added xs ys list h = sym (append-nil list) ∙ h.whole

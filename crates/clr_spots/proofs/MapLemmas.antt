@@ -55,9 +55,6 @@ filed_last : (m : PartsBySpot) (done : List Spot) (x : Spot) (e : FiledPart) →
 filed_last m [] x e = refl
 filed_last m (y ∷ done) x e = filed_last (filed_at m y e) done x e
 
-pub filed_none : (m : PartsBySpot) (xs : List Spot) (e : FiledPart) → IsFiledTo m xs e m xs
-filed_none m xs e = ([], refl, refl)
-
 pub filed_next : (m : PartsBySpot) (xs : List Spot) (e : FiledPart) (n : PartsBySpot) (x : Spot) (left : List Spot) → IsFiledTo m xs e n (x ∷ left)
     → IsFiledTo m xs e (filed_at n x e) left
 filed_next m xs e n x left (done, is, whole) = (

@@ -15,22 +15,6 @@ use Rattle.clr_workspaces.specs.Soundness.{IsSound}
 use Rattle.clr_tree.specs.Trees.{Tree, tree_of}
 use Rattle.clr_tree.proofs.ModelLemmas.{within_tree}
 
-none_after : (ms : List Mark) (i : ℕ) → length ms ≤ i → list_any is_child_mark (drop i ms) ≡ false
-none_after [] zero le = refl
-none_after [] (suc i) le = refl
-none_after (m ∷ ms) zero le = absurd (omega (arith, le))
-none_after (m ∷ ms) (suc i) le = none_after ms i (omega (arith, le))
-
--- past the last mark there is none of a child
-pub held_past : (ms : List Mark) (i : ℕ) → length ms ≤ i → is_held ms i ≡ false
-held_past ms i le = none_after ms (suc i) (omega (arith, le))
-
--- no mark of a child stands past the last mark, as the marks are stored
-pub stored_past : (base : Content) (ms : List Mark) (ns : List StoredMark) (i : ℕ) → ms ≡ map (whole_mark base) ns → length ns ≤ i → false ≡ is_held ms i
-stored_past base ms ns i e le =
-    let long : length ms ≡ length ns = ap (λ (ms : List Mark). length ms) e ∙ length-map ns (whole_mark base) in
-    sym (held_past ms i (omega (arith, le, long)))
-
 module _ (live : Content) (ls : List Delta) (t : Tree) (at : ℕ) (is : tree_of live ls ≡ t) (sound : IsSound (wholes live ls)) where
   -- the first workspace of a tree is LIVE
   pub first_is : at ≡ 0 → live_workspace live ≡ workspace_at t.list at

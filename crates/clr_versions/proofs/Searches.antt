@@ -73,9 +73,6 @@ module _ (sets : List Changes) (q : CellId) where
   pub found_is : (from count : ℕ) (x : Option ℕ) → IsFound sets q from (from + count) x → x ≡ search sets q from count
   found_is from count x h = found_once from (from + count) x (search sets q from count) h (search_finds from count)
 
-  pub is_found : (from count : ℕ) (x : Option ℕ) → x ≡ search sets q from count → IsFound sets q from (from + count) x
-  is_found from count x e = subst (IsFound sets q from (from + count)) (sym e) (search_finds from count)
-
 -- the set of a member that is read by its position
 pub set_at : (refs : List (Bor Changes)) (k : ℕ) (ref : Bor Changes) → k < length refs → ref ≡ slice_index_or refs k ref → slice_get (sets_of refs) k
     ≡ Some ref.now

@@ -67,6 +67,3 @@ more_trials o now left s old new (all, e) added back = (by (subst (λ (x : Offic
     by : AddsTrial o s old new → All (IsTrial o s) new
     by (inl unchanged) = subst (All (IsTrial o s)) (sym unchanged) all
     by (inr (trial, is, more)) = subst (All (IsTrial o s)) (sym more) (All-push (IsTrial o s) old trial all is)
-
-pub no_trials : (o : Office) (s : MergeSet) (trials : List Trial) → trials ≡ [] → All (IsTrial o s) trials
-no_trials o s trials e = subst (All (IsTrial o s)) (sym e) (λ k d less. absurd (omega (arith, less)))
