@@ -25,7 +25,7 @@ use Rattle.clr_groups.proofs.GroupLaws.{groups_split}
 use Rattle.clr_groups.proofs.GroupParts.{group_ready}
 use Rattle.clr_groups.specs.declared.group_needs.GroupNeed.{GroupNeed}
 use Rattle.clr_groups.specs.GroupNeeds.{IsTouchedAt, group_need_cmp}
-use Rattle.clr_plan.specs.GroupNeeds.{AreReady, IsTouchedIn, models_at}
+use Rattle.clr_plan.specs.GroupNeeds.{models_at}
 use Rattle.clr_plan.proofs.GroupNeedLaws.{mapped_at}
 
 -- rising elements that are mapped to rising ones
@@ -40,6 +40,13 @@ rising_by c d f (x ∷ xs) keeps p = (
       ≡ Less) m.2 (keeps x m.0 (inl refl) (inr m.1) (each_of (λ w. c x w ≡ Less) m.0 xs p.0 m.1))),
   rising_by c d f xs (λ y z h k. keeps y z (inr h) (inr k)) p.1,
 )
+
+abbrev pub AreReady : {F : Type 0} → (F → Settled) → List (SceneModel F) → Type 0
+AreReady {F} settled models = (k : ℕ) (m : SceneModel F) → slice_get models k ≡ Some m → IsReady settled m
+
+-- a need that is touched in the scene of the group at its position
+abbrev pub IsTouchedIn : {F : Type 0} → List (SceneModel F) → GroupNeed → Type 0
+IsTouchedIn {F} models x = (m : SceneModel F) × (slice_get models x.group ≡ Some m) × IsTouched (setting_of m) x.need
 
 abbrev pub need_in : GroupNeed → Need
 need_in x = x.need
