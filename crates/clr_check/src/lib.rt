@@ -18,8 +18,6 @@
 //!   merge or refresh of a member among them is answered Conflict or RuleBroken, and the root has
 //!   the changes of the merged members over its first rows. Nothing is promised of commands after
 //!   one that isn't quiet.
-//! - `name_fault`, `read_merge_set`, `MergeSetParts` and `NameList` are those of `clr_merge_sets`, which reads what
-//!   a check and a plan look at.
 //!
 //! A certificate and an office may also be given as texts, and are then checked in the same way:
 //!
@@ -46,10 +44,7 @@ mod text_checks;
 pub use cases::{CaseFault, read_case};
 pub use checked::Checked;
 pub use checks::check;
-pub use clr_cert::CertFault;
 pub use clr_clearance::Verdict;
 pub use clr_drafts::TextFault;
-pub use clr_engine::Broken;
-pub use clr_merge_sets::{MergeSetParts, NameList, name_fault, read_merge_set};
 pub use runs::{ClearedRun, perform_cleared};
 pub use text_checks::{TextCheck, check_texts, judge_texts};

@@ -129,7 +129,7 @@ impl Differences {
     }
 
     /// Sets a difference that is there to a row, or to none.
-    pub fn set(&mut self, cell: CellId, row: Option<Row>)
+    pub(crate) fn set(&mut self, cell: CellId, row: Option<Row>)
         requires { HasDifference self.old cell }
         ensures { self.new ≡ finite.insert self.old cell row }
     {
@@ -139,7 +139,7 @@ impl Differences {
 
     /// Sets differences that are there to rows, or to none, one after another.
     #[tactic(auto, using(crate::proofs::DifferenceLemmas::differences_stay), unfolding(crate::specs::Differences::put_each))]
-    pub fn set_each(&mut self, rows: Vec<(CellId, Option<Row>)>)
+    pub(crate) fn set_each(&mut self, rows: Vec<(CellId, Option<Row>)>)
         requires { HasDifferences self.old (cells_in rows.items) }
         ensures { self.new ≡ put_each self.old rows.items }
     {
@@ -149,7 +149,7 @@ impl Differences {
     }
 
     /// Takes the difference at a cell away, if there is one.
-    pub fn take(&mut self, cell: CellId)
+    pub(crate) fn take(&mut self, cell: CellId)
         ensures { self.new ≡ finite.remove self.old cell }
     {
         self.rows.remove(&cell);
@@ -158,7 +158,7 @@ impl Differences {
     /// Stores a difference at a cell that has none, with the row of the content below. What is seen
     /// stays, also where memory runs out.
     #[tactic(auto, using(crate::proofs::DifferenceLemmas::difference_stored, crate::proofs::DifferenceLemmas::put_elsewhere))]
-    pub fn pin(&mut self, cell: CellId, row: Option<&Row>) -> Result<(), AllocError>
+    pub(crate) fn pin(&mut self, cell: CellId, row: Option<&Row>) -> Result<(), AllocError>
         ensures seen { (below : Content) → row_at below cell ≡ option_copied row.entry → seen_over below self.new ≡ seen_over below self.old }
         ensures pinned { OnOk result (HasDifference self.new cell) }
         ensures others { (q : CellId) → is_among (cell ∷ []) q ≡ false → finite.get self.new q ≡ finite.get self.old q }

@@ -89,7 +89,7 @@ fn first_misfit_cell(
 
 /// Returns the first of LIVE's rows that can't be read, and else the first that can't stand behind
 /// those before it, or none.
-pub fn row_fault_in(
+pub(crate) fn row_fault_in(
     alloc: Global,
     schema: &Schema,
     items: &[Json],
@@ -104,7 +104,7 @@ pub fn row_fault_in(
 
 /// Returns the first cell of a list that can't be read, and else the first that can't stand beside
 /// those before it, or none.
-pub fn cell_fault_in(
+pub(crate) fn cell_fault_in(
     alloc: Global,
     schema: &Schema,
     items: &[Json],

@@ -14,7 +14,7 @@ use std::alloc::{AllocError, Global};
 pub type FirstFault = Option<(usize, TextFault)>;
 
 /// Returns the first item of a list that can't be read on its own, or none where all can be read.
-pub fn first_fault<I: Item>(
+pub(crate) fn first_fault<I: Item>(
     alloc: Global,
     kind: &I,
     items: &[Json],

@@ -4,10 +4,6 @@
 //!   fault, and the item that it stands at: the innermost one whose own reading answers just this
 //!   fault, the first of its list, where all before it can be read. It is the whole text where the
 //!   reading of no item answers it.
-//! - `first_fault`: exactly the first item of a list that can't be read on its own, and its fault.
-//!   `Item` and the types that implement it are the readings of tables, rules, rows, cells and marks.
-//! - `rule_fault_in`, `row_fault_in`, `cell_fault_in`, `mark_fault_in`, `workspace_fault_in`: exactly the
-//!   first fault of such a list in the reader's order, where an item is also read over those before it.
 //! - `row_fault_at`, `rule_fault_of` and `schema_fault_of`: exactly the fault of the row, of the book of
 //!   rules or of the tables that the reader of offices drops.
 //! - `item_in`: exactly the item at a place of the list at a key, or none where there is no such list or item.
@@ -19,7 +15,7 @@ mod cell_lists;
 mod finding;
 mod first_faults;
 mod inner_faults;
-pub mod item_kinds;
+mod item_kinds;
 mod items;
 mod laws;
 mod mark_lists;
@@ -33,14 +29,9 @@ mod texts;
 mod workspace_lists;
 mod workspaces;
 
-pub use cell_lists::{cell_fault_in, row_fault_in};
 pub use finding::{Found, find_fault};
-pub use first_faults::{FirstFault, first_fault};
 pub use inner_faults::{row_fault_at, rule_fault_of, schema_fault_of};
 pub use items::item_in;
 pub use laws::first_faults_are_first;
-pub use mark_lists::mark_fault_in;
 pub use memory::unless_lost;
-pub use rule_lists::rule_fault_in;
 pub use spots::Spot;
-pub use workspace_lists::workspace_fault_in;

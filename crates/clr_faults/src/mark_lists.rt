@@ -12,7 +12,7 @@ use std::alloc::{AllocError, Global};
 
 /// Returns the first mark of a list that can't be read, and else the first whose cells can't stand,
 /// or none.
-pub fn mark_fault_in(
+pub(crate) fn mark_fault_in(
     alloc: Global,
     schema: &Schema,
     items: &[Json],

@@ -12,7 +12,7 @@ use std::alloc::{AllocError, Global};
 
 /// Returns the first rule of a list that can't be read, and else the first that names what the schema
 /// hasn't, or none.
-pub fn rule_fault_in(
+pub(crate) fn rule_fault_in(
     alloc: Global,
     schema: &Schema,
     items: &[Json],

@@ -16,7 +16,7 @@ use std::alloc::{AllocError, Global};
 use std::collections::BTreeSet;
 
 /// Returns the first workspace of a list that can't be read behind those before it, or none.
-pub fn workspace_fault_in(
+pub(crate) fn workspace_fault_in(
     alloc: Global,
     format: Format,
     schema: &Schema,

@@ -9,8 +9,8 @@
 //!   a change before it is made, or nothing; `settle` takes the noted changes over and `forget`
 //!   drops them, both without memory.
 //! - `RuleSpots` and `RowSpots` are what a finder keeps of a row under one rule and under each:
-//!   `RuleSpots::new`, `RowSpots::new` and `row_spots_at` make them, and `is_met` tells by them
-//!   whether one row is found with another. `may_serve`: whether a row is of the side that serves.
+//!   `RuleSpots::new`, `RowSpots::new` and `row_spots_at` make them. `may_serve`: whether a row is of
+//!   the side that serves.
 //!   `lesser_cell`: the lesser of two cells, or the one that there is.
 //! - `finders_find_what_shares` and `finders_find_servers` say what is found where a finder has the
 //!   rows of a content.
@@ -36,7 +36,6 @@ mod sides;
 pub use bounds::bound_behind;
 pub use finders::RowFinder;
 pub use laws::{finders_find_servers, finders_find_what_shares};
-pub use meetings::is_met;
 pub use next_cells::lesser_cell;
 pub use row_maps::RowMap;
 pub use row_spots::{RowSpots, RuleSpots, row_spots_at};

@@ -35,7 +35,7 @@ fn are_meeting(first: &RuleSpots, second: &RuleSpots) -> bool
 /// Tests whether a row of the other spots, if there is one, is found with a row of the first: both
 /// have a role, and they share a spot or one of them is wide. Where servers alone are looked for,
 /// it is of the side that serves, too.
-pub fn is_met(servers: bool, spots: &RuleSpots, other: Option<&RuleSpots>) -> bool
+pub(crate) fn is_met(servers: bool, spots: &RuleSpots, other: Option<&RuleSpots>) -> bool
     ensures { result ≡ is_met servers spots.now (option_copied other.entry) }
 {
     match other {

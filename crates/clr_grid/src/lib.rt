@@ -21,9 +21,7 @@ mod spot_cells;
 mod spot_index;
 mod spot_numbers;
 
-pub use clr_finders::{
-    RowFinder, RowSpots, RuleSpots, finders_find_servers, finders_find_what_shares, may_serve,
-};
+pub use clr_finders::RowFinder;
 pub use finders::{Finders, finder_of};
 pub use list_finder::ListFinder;
 pub use spot_index::SpotIndex;

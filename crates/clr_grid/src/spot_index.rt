@@ -51,7 +51,12 @@ impl SpotIndex {
 
     /// Returns this finder with one more row, at a cell where it has no row. A finder of a content is made in this way, row by row.
     /// If memory runs out, the finder is gone.
-    pub fn with_row(self, book: &RuleBook, cell: CellId, row: &Row) -> Result<SpotIndex, AllocError>
+    pub(crate) fn with_row(
+        self,
+        book: &RuleBook,
+        cell: CellId,
+        row: &Row,
+    ) -> Result<SpotIndex, AllocError>
         requires fit { FitTogether book.now ((cell, row.now) ∷ []) }
         requires free { finite.get self.settled cell ≡ None }
         ensures { IfOk result (λ finder. finder ≡ with_settled_row self cell (row_spots book.now (cell, row.now))) }

@@ -4,7 +4,7 @@
 //!   `unheld_line` and `verdict_line` each give the exact bytes, memory aside. `verdict_line` is for the
 //!   verdict on a certificate or of a plan; it has the names of members and cells. `row_fault_word` is the name
 //!   of a row's fault.
-//! - `add_cell`, `add_rule`, `add_need` and `add_workspace` [`ok`, `begun`], and `add_count` [`ok`, `err`],
+//! - `add_cell`, `add_need` and `add_workspace` [`ok`, `begun`], and `add_count` [`ok`, `err`],
 //!   add their bytes to a line or to lines. If memory runs out, what stood there still stands there, and behind it at
 //!   most a beginning of these bytes; of a count, nothing.
 #![tactic(auto)]
@@ -16,7 +16,7 @@ mod report_lines;
 mod row_lines;
 mod verdict_lines;
 
-pub use pieces::{add_cell, add_count, add_need, add_rule};
+pub use pieces::{add_cell, add_count, add_need};
 pub use reply_lines::{reply_line, row_fault_word};
 pub use report_lines::{
     add_workspace, audit_lines, changes_lines, conflicts_lines, count_line, unheld_line,

@@ -76,7 +76,7 @@ fn add_second(
 /// Adds the rule of a need, as `rule 1 ` before its subjects. If memory runs out, the line keeps what
 /// stood in it, with a beginning of these bytes behind it.
 #[tactic(auto, unfolding(crate::specs::Pieces::rule_text))]
-pub fn add_rule(line: &mut Vec<u8>, rule: u16) -> Result<(), AllocError>
+pub(crate) fn add_rule(line: &mut Vec<u8>, rule: u16) -> Result<(), AllocError>
     ensures ok { OnOk result (line.new.items ≡ line.old.items ++ rule_text rule) }
     ensures begun { IsBegun line.old.items (rule_text rule) line.new.items }
 {

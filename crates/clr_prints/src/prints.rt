@@ -23,7 +23,7 @@ pub enum Ending {
 impl Ending {
     /// Returns the ending of lines that tell whether something was refused and whether something found no
     /// memory.
-    pub fn of(refused: bool, lost: bool) -> Ending
+    fn of(refused: bool, lost: bool) -> Ending
         ensures status { status_by result ≡ status_of refused lost }
         ensures lost { is_lost_ending result ≡ lost }
     {

@@ -25,11 +25,9 @@
 //! The crate also tells, pair by pair, which members of a root are independent: those of which no possible need
 //! involves both.
 //!
-//! - `pairs` gives each pair of a scene's members once, in the order of the list, and whether no
-//!   possible need, touched or not, involves both. `independence_of` gives the first test of
-//!   members that fails (the root, names, conflicts, shared cells), or these pairs of an office's
-//!   members. `independence_lines` and `lines_of_independence` give exactly the lines of that. All
-//!   fail only if memory runs out.
+//! - `independence_of` gives the first test of members that fails (the root, names, conflicts, shared cells), or
+//!   each pair of an office's members once, in the order of the list, and whether no possible need, touched or not,
+//!   involves both. `independence_lines` gives exactly the lines of that. Both fail only if memory runs out.
 #![tactic(auto)]
 
 mod arguments;
@@ -54,8 +52,8 @@ pub use faults::RunFault;
 pub use files::{read_files, text_at};
 pub use independences::independence_output;
 pub use independent_members::{Independence, independence_of};
-pub use lines_of_pairs::{independence_lines, lines_of_independence};
-pub use member_pairs::{Pair, pairs};
+pub use lines_of_pairs::independence_lines;
+pub use member_pairs::Pair;
 pub use name_texts::texts;
 pub use offices::{draft_of, open_office, unheld_output};
 pub use outputs::Output;

@@ -60,7 +60,7 @@ fn unfit_line(
 /// Returns the lines of the independence of members, each ended by `\n`: for each pair
 /// `independent` or `dependent` and both names, or `unfit` and the verdict.
 #[tactic(auto, unfolding(crate::specs::IndependenceLines::independence_text))]
-pub fn lines_of_independence(
+pub(crate) fn lines_of_independence(
     alloc: Global,
     schema: &Schema,
     members: &[&str],

@@ -39,7 +39,7 @@ fn add_pairs(lists: &[Vec<Need>], first: usize, pairs: &mut Vec<Pair>) -> Result
 
 /// Returns the pairs of a scene's members, in the order of the list, and which of them are
 /// independent.
-pub fn pairs<V: RowView, F: RowFinder>(
+pub(crate) fn pairs<V: RowView, F: RowFinder>(
     alloc: Global,
     scene: &Scene<'_, V, F>,
 ) -> Result<Vec<Pair>, AllocError>
