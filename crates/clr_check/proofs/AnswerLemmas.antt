@@ -22,7 +22,7 @@ use Rattle.clr_clearance.proofs.ClearLemmas.{clear_covers, no_member_fault}
 use Rattle.clr_clearance.proofs.HeadlineLemmas.{headline}
 use Rattle.clr_clearance.proofs.ReplyLemmas.{quiet_run}
 use Rattle.clr_clearance.proofs.RunLemmas.{clear_is_safe}
-use Rattle.clr_grid.specs.Fitting.{IsAdmitted}
+use Rattle.clr_engine.specs.Fitting.{IsAdmitted}
 use Rattle.clr_merge_sets.specs.Faults.{IsMergeSetFault, of_member, without_memory}
 use Rattle.clr_merge_sets.proofs.MergeSetLemmas.{names_free, root_holds}
 

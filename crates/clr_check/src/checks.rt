@@ -6,7 +6,7 @@ ghost use Rattle.clr_clearance.specs.Laws.{StaysFree};
 ghost use Rattle.clr_clearance.specs.Safety.{Safe};
 ghost use Rattle.clr_clearance.specs.declared.verdicts.Verdict.TheVariants as verdict;
 ghost use Rattle.clr_steps.specs.Quiet.{MergeSet};
-ghost use Rattle.clr_grid.specs.Fitting.{IsAdmitted};
+ghost use Rattle.clr_engine.specs.Fitting.{IsAdmitted};
 ghost use Rattle.clr_check.specs.Answers.{IsCheckAnswer, verdict_of};
 ghost use Rattle.clr_merge_sets.specs.Certificates.{entries_in, merge_set_of};
 ghost use Rattle.clr_merge_sets.specs.MergeSets.{AreOfMergeSet, AreParts};

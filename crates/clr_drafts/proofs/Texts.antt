@@ -9,7 +9,7 @@ use Rattle.clr_rows.specs.Schemas.{schema_fault}
 use Rattle.clr_workspaces.specs.Workspaces.{live_workspace}
 use Rattle.clr_workspaces.specs.Soundness.{IsSound}
 use Rattle.clr_steps.specs.Offices.{Office}
-use Rattle.clr_grid.specs.Fitting.{IsFitting}
+use Rattle.clr_engine.specs.Fitting.{IsFitting}
 use Rattle.clr_office_text.specs.Fits.{FitsOffice}
 use Rattle.clr_office_text.specs.Offices.{office_in}
 use Rattle.clr_office_json.specs.OfficeData.{office_data}

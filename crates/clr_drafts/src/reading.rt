@@ -4,7 +4,7 @@ ghost use Rattle.std.specs.Prelude.{◌≡◌, ◌∷◌};
 ghost use Rattle.clr_workspaces.specs.Workspaces.{live_workspace};
 ghost use Rattle.clr_parts.specs.Parts.{spaces_of};
 ghost use Rattle.clr_steps.specs.Offices.{office_of};
-ghost use Rattle.clr_grid.specs.Fitting.{IsFitting};
+ghost use Rattle.clr_engine.specs.Fitting.{IsFitting};
 ghost use Rattle.clr_readings.specs.Readings.{Gives};
 ghost use Rattle.clr_rule_text.specs.Fields.{text_lacks_memory};
 ghost use Rattle.clr_office_text.specs.Fits.{FitsOffice};

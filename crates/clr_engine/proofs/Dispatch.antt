@@ -16,7 +16,7 @@ use Rattle.clr_steps.specs.Laws.{IsPerformed}
 use Rattle.clr_steps.specs.Positions.{at_savepoint, effect_at, merge_at, refusal_at, refusal_below, refusals_at}
 use Rattle.clr_steps.specs.Refusals.{first_of, name_in}
 use Rattle.clr_engine.specs.Performed.{IsPerformedAt}
-use Rattle.clr_grid.proofs.Positions.{below}
+use Rattle.clr_engine.proofs.Positions.{below}
 use Rattle.clr_engine.proofs.Readings.{some_below}
 
 module _ (schema : List TableDef) (book : List Rule) (ws : List Workspace) (at : ℕ) (other : at ≡ 0 → ⊥) (reply : Reply) (left : List Workspace) (x : Command)

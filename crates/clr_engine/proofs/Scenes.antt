@@ -21,8 +21,9 @@ use Rattle.clr_needs.specs.Members.{after_in, after_of, setting}
 use Rattle.clr_needs.specs.Settings.{Lived, changer, held_row, new_row, new_version, old_version, version}
 use Rattle.clr_versions.specs.Versions.{FitsSetting}
 use Rattle.clr_workspaces.specs.Workspaces.{Workspace}
-use Rattle.clr_grid.specs.Finders.{IsFinderAt, IsFinderOf, kept_content}
-use Rattle.clr_grid.specs.Fitting.{FitBoth}
+use Rattle.clr_grid.specs.Finders.{IsFinderAt, IsFinderOf}
+use Rattle.clr_engine.specs.KeptContents.{kept_content}
+use Rattle.clr_engine.specs.Fitting.{FitBoth}
 
 module _ (book : List Rule) (content : Content) (changed : Changes) (fit : FitBoth book content (taken_over content changed)) where
   old_fits : (q : CellId) (row : Option Row) (n : Option ℕ) (l : Lived ℕ) → row_at content q ≡ row → old_version n row ≡ Some l → FitsCell fit.tables (q, l.row)

@@ -9,7 +9,7 @@ use Rattle.clr_steps.specs.Steps.{Answer, IsAnswer, is_lost, step, step_or_lost}
 use Rattle.clr_steps.proofs.FitLemmas.{fit_law}
 use Rattle.clr_steps.proofs.RuleLemmas.{rules_law}
 use Rattle.clr_steps.proofs.SchemaLemmas.{schema_law}
-use Rattle.clr_grid.specs.Fitting.{IsFitting}
+use Rattle.clr_engine.specs.Fitting.{IsFitting}
 
 -- what holds before a step and after it holds after an answer
 after_answer : (P : Office → Type 0) (o : Office) (c : Command) (reply : Reply) (left : Office) → P o → P (step o c).office → IsAnswer o c reply left → P left

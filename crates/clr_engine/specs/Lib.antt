@@ -1,3 +1,5 @@
 pub mod Drafts
+pub mod Fitting
+pub mod KeptContents
 pub mod Performed
 pub mod Trees

@@ -16,10 +16,11 @@ ghost use Rattle.clr_steps.specs.Refusals.{bad_edit, broken_where, first_of, is_
 ghost use Rattle.clr_steps.specs.Steps.{is_lost, TakesNoMemory};
 ghost use Rattle.clr_steps.specs.declared.commands.Command.TheVariants as command;
 ghost use Rattle.clr_steps.specs.declared.commands.Reply.TheVariants.{Done, OutOfMemory};
-ghost use Rattle.clr_grid.specs.Fitting.{IsAdmitted, IsFitting};
-ghost use Rattle.clr_grid.specs.Finders.{AreFinders, kept_contents};
+ghost use Rattle.clr_engine.specs.Fitting.{IsAdmitted, IsFitting};
+ghost use Rattle.clr_grid.specs.Finders.{AreFinders};
+ghost use Rattle.clr_engine.specs.KeptContents.{kept_contents};
 ghost use Rattle.clr_engine.specs.Performed.{IsPerformedAt, name_of};
-ghost use Rattle.clr_grid.specs.Fitting.{IsServed};
+ghost use Rattle.clr_engine.specs.Fitting.{IsServed};
 
 use crate::judges::Judge;
 use crate::plain_commands::{create, finish, mark, release, remove, unmark, write_above};
@@ -183,7 +184,7 @@ fn is_in_conflict(tree: &Tree, at: usize, above: usize, cell: CellId) -> bool
 }
 
 /// Returns the row that a workspace has at a cell once it is resolved.
-#[tactic(auto, using(clr_grid::proofs::Contents::set_same))]
+#[tactic(auto, using(crate::proofs::Contents::set_same))]
 fn row_to_keep(tree: &Tree, at: usize, above: usize, cell: CellId, keep: Keep) -> Option<&Row>
     requires child { 0 < at }
     requires within { at < length tree.now.list }

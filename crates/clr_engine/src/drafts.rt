@@ -4,7 +4,7 @@ ghost use Rattle.std.specs.Prelude.{◌≡◌, None, option_map, IfOk, IfErr, On
 ghost use Rattle.clr_steps.specs.Offices.{office_of};
 ghost use Rattle.clr_steps.specs.Readings.{name_at};
 ghost use Rattle.clr_parts.specs.Parts.{first_fault, IsFirstPartFault};
-ghost use Rattle.clr_grid.specs.Fitting.{IsFitting};
+ghost use Rattle.clr_engine.specs.Fitting.{IsFitting};
 ghost use Rattle.clr_engine.specs.Drafts.{IsUnheld, office_of_parts, unheld_in};
 
 use crate::judges::Judge;
@@ -36,7 +36,7 @@ impl Drop for Draft {
 
 impl Model for Draft {
     ghost use Rattle.clr_steps.specs.Offices.{Office as Whole, office_code, office_of};
-    ghost use Rattle.clr_grid.specs.Fitting.{IsFitting};
+    ghost use Rattle.clr_engine.specs.Fitting.{IsFitting};
 
     ghost Value = { Whole };
 

@@ -13,8 +13,9 @@ ghost use Rattle.clr_workspaces.specs.Soundness.{IsSound};
 ghost use Rattle.clr_steps.specs.Invariants.{first_unheld};
 ghost use Rattle.clr_steps.specs.Refusals.{broken_where, first_broken};
 ghost use Rattle.clr_steps.specs.declared.commands.Reply.TheVariants.{RuleBroken};
-ghost use Rattle.clr_grid.specs.Finders.{AreFinders, IsFinderAt, IsFinderOf, IsPrepared, kept_content, kept_contents};
-ghost use Rattle.clr_grid.specs.Fitting.{FitBoth, FitSome, IsServed};
+ghost use Rattle.clr_grid.specs.Finders.{AreFinders, IsFinderAt, IsFinderOf};
+ghost use Rattle.clr_engine.specs.KeptContents.{IsPrepared, kept_content, kept_contents};
+ghost use Rattle.clr_engine.specs.Fitting.{FitBoth, FitSome, IsServed};
 
 use clr_audit::{first_broken, is_seen_to_hold};
 use clr_change::ChangeSet;

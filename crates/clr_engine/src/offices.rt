@@ -9,9 +9,10 @@ ghost use Rattle.clr_workspaces.specs.Soundness.{IsSound};
 ghost use Rattle.clr_steps.specs.Offices.{content_of, is_kept, office_of, stands};
 ghost use Rattle.clr_steps.specs.Readings.{changes_in, conflicts_in, if_stands, name_at, parent_in, stored_in};
 ghost use Rattle.clr_steps.specs.Steps.{is_lost, lost_in, run, IsAnswer, TakesNoMemory};
-ghost use Rattle.clr_grid.specs.Fitting.{IsAdmitted};
+ghost use Rattle.clr_engine.specs.Fitting.{IsAdmitted};
 ghost use Rattle.clr_engine.specs.Drafts.{delta_in, part_at};
-ghost use Rattle.clr_grid.specs.Finders.{AreFinders, IsFinderAt, IsPositionOf, current_at, kept_content_at, kept_contents};
+ghost use Rattle.clr_grid.specs.Finders.{AreFinders, IsFinderAt};
+ghost use Rattle.clr_engine.specs.KeptContents.{IsPositionOf, current_at, kept_content_at, kept_contents};
 ghost use Rattle.clr_engine.specs.Trees.{IsSwept};
 
 use crate::commands::perform;
@@ -50,8 +51,9 @@ impl Drop for Office {
 
 impl Model for Office {
     ghost use Rattle.clr_steps.specs.Offices.{Office as Whole, office_code, office_of};
-    ghost use Rattle.clr_grid.specs.Fitting.{IsAdmitted};
-    ghost use Rattle.clr_grid.specs.Finders.{AreFinders, kept_contents};
+    ghost use Rattle.clr_engine.specs.Fitting.{IsAdmitted};
+    ghost use Rattle.clr_grid.specs.Finders.{AreFinders};
+    ghost use Rattle.clr_engine.specs.KeptContents.{kept_contents};
     ghost use Rattle.clr_engine.specs.Trees.{IsSwept};
 
     ghost Value = { Whole };

@@ -14,7 +14,8 @@ ghost use Rattle.clr_steps.specs.Refusals.{first_of, when};
 ghost use Rattle.clr_steps.specs.Steps.{is_lost};
 ghost use Rattle.clr_steps.specs.declared.commands.Command.TheVariants as command;
 ghost use Rattle.clr_steps.specs.declared.commands.Reply.TheVariants.{Done, OutOfMemory, BadName, NameTaken, TooMany};
-ghost use Rattle.clr_grid.specs.Finders.{AreFinders, HasForgotten, HasSettled, IsChangedAt, IsPrepared, StayFinders, kept_contents};
+ghost use Rattle.clr_grid.specs.Finders.{AreFinders, HasForgotten, HasSettled, IsChangedAt};
+ghost use Rattle.clr_engine.specs.KeptContents.{IsPrepared, StayFinders, kept_contents};
 ghost use Rattle.clr_engine.specs.Performed.{IsPerformedAt, name_of};
 
 use clr_change::ChangeSet;
@@ -199,7 +200,7 @@ pub(crate) fn write_above(
 }
 
 /// Says that from now on no rule need hold in the workspace at a position, and drops its finder.
-#[tactic(auto, using(clr_grid::proofs::Served::after_releasing), unfolding(clr_steps::specs::Positions::refusals_at))]
+#[tactic(auto, using(crate::proofs::Served::after_releasing), unfolding(clr_steps::specs::Positions::refusals_at))]
 pub(crate) fn release(tree: &mut Tree, finders: &mut Finders, at: usize) -> Reply
     requires child { 0 < at }
     requires within { at < length tree.old.list }

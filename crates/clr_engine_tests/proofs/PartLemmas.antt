@@ -13,7 +13,7 @@ use Rattle.clr_parts.specs.declared.parts.MarkPart.{MarkPart}
 use Rattle.clr_parts.specs.declared.parts.Part.{Part}
 use Rattle.clr_steps.specs.Invariants.{WorkspaceFits}
 use Rattle.clr_steps.proofs.FitLemmas.{none_fits}
-use Rattle.clr_grid.specs.Fitting.{IsFitting}
+use Rattle.clr_engine.specs.Fitting.{IsFitting}
 use Rattle.clr_engine.specs.Drafts.{office_of_parts}
 use Rattle.clr_engine_tests.specs.Parts.{HasNoRows, SavesNoRows}
 

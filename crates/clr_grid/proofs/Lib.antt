@@ -1,14 +1,8 @@
-pub mod Contents
 pub mod FilingLemmas
-pub mod Fits
 pub mod GainLemmas
 pub mod IndexLemmas
 pub mod Indexes
-pub mod Kept
 pub mod NextLemmas
 pub mod Noting
-pub mod Positions
-pub mod Prepared
-pub mod Served
 pub mod SetLemmas
 pub mod SpotLemmas

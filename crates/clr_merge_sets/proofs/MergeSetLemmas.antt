@@ -25,7 +25,7 @@ use Rattle.clr_steps.specs.Offices.{Office, content_of, current_of, find_name, i
 use Rattle.clr_steps.specs.Quiet.{MergeSet, root_content}
 use Rattle.clr_steps.specs.Readings.{changes_in, conflicts_in, if_stands}
 use Rattle.clr_steps.proofs.FitLemmas.{fits_content_of}
-use Rattle.clr_grid.specs.Fitting.{IsAdmitted}
+use Rattle.clr_engine.specs.Fitting.{IsAdmitted}
 use Rattle.clr_clearance.specs.declared.verdicts.Verdict.{Verdict}
 use Rattle.clr_clearance.specs.declared.verdicts.Verdict.TheVariants as verdict
 use Rattle.clr_clearance.specs.MergeSets.{RootHolds, change_sets, is_child, setting_by_position}

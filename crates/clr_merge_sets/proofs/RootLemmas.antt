@@ -7,7 +7,8 @@ use Rattle.clr_workspaces.specs.Marks.{Name}
 use Rattle.clr_finders.specs.RowMaps.{FiledRows}
 use Rattle.clr_finders.specs.Sharing.{IsSettledFor}
 use Rattle.clr_steps.specs.Offices.{Office, content_of, is_kept, stands}
-use Rattle.clr_grid.specs.Finders.{IsFinderAt, IsPositionOf, current_at, kept_content_at}
+use Rattle.clr_grid.specs.Finders.{IsFinderAt}
+use Rattle.clr_engine.specs.KeptContents.{IsPositionOf, current_at, kept_content_at}
 use Rattle.clr_merge_sets.proofs.NameLemmas.{not_kept}
 
 module _ (o : Office) (name : Name) where

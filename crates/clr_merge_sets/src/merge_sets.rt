@@ -8,7 +8,7 @@ ghost use Rattle.clr_foot.specs.Scenes.{model_of};
 ghost use Rattle.clr_steps.specs.Offices.{content_of, is_kept};
 ghost use Rattle.clr_steps.specs.Quiet.{MergeSet};
 ghost use Rattle.clr_steps.specs.Readings.{changes_in};
-ghost use Rattle.clr_grid.specs.Fitting.{IsAdmitted};
+ghost use Rattle.clr_engine.specs.Fitting.{IsAdmitted};
 ghost use Rattle.clr_clearance.specs.MergeSets.{change_sets};
 ghost use Rattle.clr_clearance.specs.Verdicts.{first_conflict};
 ghost use Rattle.clr_clearance.specs.declared.verdicts.Verdict.TheVariants as verdict;

@@ -4,7 +4,7 @@ ghost use Rattle.std.specs.Prelude.{◌≡◌, ℕ, List, not, position};
 ghost use Rattle.clr_steps.specs.Offices.{is_kept, stands};
 ghost use Rattle.clr_clearance.specs.MergeSets.{is_child};
 ghost use Rattle.clr_clearance.specs.Verdicts.{names_fault};
-ghost use Rattle.clr_grid.specs.Fitting.{IsAdmitted};
+ghost use Rattle.clr_engine.specs.Fitting.{IsAdmitted};
 ghost use Rattle.clr_merge_sets.specs.MergeSetNames.{merge_set};
 
 use crate::name_lists::NameList;

@@ -10,7 +10,7 @@ use Rattle.clr_needs.specs.Settings.{Setting}
 use Rattle.clr_steps.specs.Offices.{Office}
 use Rattle.clr_steps.specs.Quiet.{MergeSet}
 use Rattle.clr_steps.specs.Readings.{changes_in}
-use Rattle.clr_grid.specs.Fitting.{IsAdmitted}
+use Rattle.clr_engine.specs.Fitting.{IsAdmitted}
 use Rattle.clr_clearance.specs.MergeSets.{change_sets, setting_by_position}
 use Rattle.clr_clearance.specs.Verdicts.{member_fault}
 use Rattle.clr_clearance.proofs.ClearLemmas.{faultless}

@@ -2,7 +2,7 @@ use Rattle.std.proofs.Common.{Ok, ◌∷◌, List, subst, sym, ap, ◌∙◌}
 use Rattle.clr_workspaces.specs.Workspaces.{Workspace, live_workspace}
 use Rattle.clr_parts.specs.Parts.{spaces_of}
 use Rattle.clr_steps.specs.Offices.{office_of}
-use Rattle.clr_grid.specs.Fitting.{IsFitting}
+use Rattle.clr_engine.specs.Fitting.{IsFitting}
 use Rattle.clr_readings.specs.Readings.{Fails}
 use Rattle.clr_rule_text.specs.Fields.{text_lacks_memory}
 use Rattle.clr_drafts.specs.Drafts.{if_standing}

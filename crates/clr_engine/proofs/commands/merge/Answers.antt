@@ -1,9 +1,9 @@
 use Rattle.std.proofs.Common.{◌≡◌, subst}
 use Rattle.clr_rows.specs.Contents.{Changes, taken_over}
 use Rattle.clr_workspaces.specs.Workspaces.{workspace_at}
-use Rattle.clr_grid.specs.Finders.{IsPrepared}
-use Rattle.clr_grid.proofs.Fits.{fit_taken}
-use Rattle.clr_grid.proofs.Prepared.{along_mid, where_none}
+use Rattle.clr_engine.specs.KeptContents.{IsPrepared}
+use Rattle.clr_engine.proofs.Fits.{fit_taken}
+use Rattle.clr_engine.proofs.Prepared.{along_mid, where_none}
 use Rattle.clr_engine.proofs.commands.merge.Goals as goal
 
 pub prepare-requires-clause-fit : goal.prepare-requires-clause-fit

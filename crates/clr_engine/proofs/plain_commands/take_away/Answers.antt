@@ -1,7 +1,8 @@
 use Rattle.std.proofs.Common.{List, sym, subst}
 use Rattle.clr_workspaces.specs.Workspaces.{Workspace}
-use Rattle.clr_grid.specs.Finders.{AreFinders, kept_contents}
-use Rattle.clr_grid.proofs.Served.{after_taking}
+use Rattle.clr_grid.specs.Finders.{AreFinders}
+use Rattle.clr_engine.specs.KeptContents.{kept_contents}
+use Rattle.clr_engine.proofs.Served.{after_taking}
 use Rattle.clr_engine.proofs.plain_commands.take_away.Goals as goal
 
 pub returns-clause-finders : goal.returns-clause-finders

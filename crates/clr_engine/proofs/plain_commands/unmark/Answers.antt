@@ -1,6 +1,6 @@
 use Rattle.std.proofs.Common.{sym, ◌∙◌}
 use Rattle.clr_workspaces.specs.Workspaces.{workspace_at}
-use Rattle.clr_grid.proofs.Positions.{found_saved}
+use Rattle.clr_engine.proofs.Positions.{found_saved}
 use Rattle.clr_engine.proofs.plain_commands.unmark.Goals as goal
 
 pub unmark-requires-clause-saved : goal.unmark-requires-clause-saved

@@ -3,8 +3,9 @@ use Rattle.std.specs.Result.{result_err}
 use Rattle.clr_steps.proofs.UnheldLemmas.{unheld_law}
 use Rattle.clr_workspaces.specs.Workspaces.{Workspace}
 use Rattle.clr_steps.specs.Offices.{office_of}
-use Rattle.clr_grid.specs.Fitting.{IsAdmitted}
-use Rattle.clr_grid.specs.Finders.{AreFinders, kept_contents}
+use Rattle.clr_engine.specs.Fitting.{IsAdmitted}
+use Rattle.clr_grid.specs.Finders.{AreFinders}
+use Rattle.clr_engine.specs.KeptContents.{kept_contents}
 use Rattle.clr_engine.proofs.Unheld.{unheld_is}
 use Rattle.clr_engine.proofs.drafts.Draft.admit.Goals as goal
 

@@ -1,8 +1,9 @@
 use Rattle.std.proofs.Common.{◌<◌, ◌≤◌, ◌≡◌, ◌∙◌, None, Some, length, ap, refl, sym, subst, arith, take}
 use Rattle.std.specs.Result.{result_err}
-use Rattle.clr_grid.specs.Finders.{AreFinders, kept_contents}
-use Rattle.clr_grid.proofs.Fits.{fit_current}
-use Rattle.clr_grid.proofs.Served.{all_found, one_found}
+use Rattle.clr_grid.specs.Finders.{AreFinders}
+use Rattle.clr_engine.specs.KeptContents.{kept_contents}
+use Rattle.clr_engine.proofs.Fits.{fit_current}
+use Rattle.clr_engine.proofs.Served.{all_found, one_found}
 use Rattle.clr_engine.proofs.Unheld.{none_past, unheld_here}
 use Rattle.clr_engine.proofs.judges.Judge.finders.Goals as goal
 

@@ -1,6 +1,7 @@
 use Rattle.std.proofs.Common.{◌≡◌, drop, take}
 use Rattle.clr_steps.specs.Invariants.{first_unheld, unheld_from}
-use Rattle.clr_grid.specs.Finders.{AreFinders, kept_contents}
+use Rattle.clr_grid.specs.Finders.{AreFinders}
+use Rattle.clr_engine.specs.KeptContents.{kept_contents}
 use Rattle.clr_engine.proofs.judges.Judge.finders.Given as goal
 
 -- the first that breaks a rule is among those that are left, and the others have their finders

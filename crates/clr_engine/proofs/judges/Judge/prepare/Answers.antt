@@ -5,9 +5,9 @@ use Rattle.clr_rows.specs.Contents.{taken_over}
 use Rattle.clr_steps.specs.declared.commands.Reply.TheVariants.{RuleBroken}
 use Rattle.clr_steps.specs.Refusals.{broken_where}
 use Rattle.clr_grid.specs.Finders.{FitAfter, HasNoted, IsChangedAt}
-use Rattle.clr_grid.proofs.Fits.{next_fits}
+use Rattle.clr_engine.proofs.Fits.{next_fits}
 use Rattle.clr_grid.proofs.Indexes.{fit_after}
-use Rattle.clr_grid.proofs.Prepared.{free, not_kept, one_is, prepared, within}
+use Rattle.clr_engine.proofs.Prepared.{free, not_kept, one_is, prepared, within}
 use Rattle.clr_engine.proofs.Scenes.{served_at, unserved}
 use Rattle.clr_engine.proofs.judges.Judge.prepare.Goals as goal
 

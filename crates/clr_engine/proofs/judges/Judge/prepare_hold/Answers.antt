@@ -1,9 +1,9 @@
 use Rattle.std.proofs.Common.{◌∙◌, not, None, Some, Ok, refl, ap, sym}
 use Rattle.clr_workspaces.specs.Workspaces.{workspace_at}
-use Rattle.clr_grid.proofs.Contents.{judged}
-use Rattle.clr_grid.proofs.Fits.{fit_current}
-use Rattle.clr_grid.proofs.Prepared.{within}
-use Rattle.clr_grid.proofs.Served.{after_holding}
+use Rattle.clr_engine.proofs.Contents.{judged}
+use Rattle.clr_engine.proofs.Fits.{fit_current}
+use Rattle.clr_engine.proofs.Prepared.{within}
+use Rattle.clr_engine.proofs.Served.{after_holding}
 use Rattle.clr_engine.proofs.judges.Judge.prepare_hold.Goals as goal
 
 pub finder_or_need_now-requires-clause-fit : goal.finder_or_need_now-requires-clause-fit

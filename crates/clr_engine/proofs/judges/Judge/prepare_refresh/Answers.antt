@@ -5,11 +5,11 @@ use Rattle.clr_rows.specs.Contents.{Content, taken_over}
 use Rattle.clr_workspaces.specs.Workspaces.{workspace_at}
 use Rattle.clr_steps.specs.Refusals.{broken_where}
 use Rattle.clr_steps.specs.declared.commands.Reply.TheVariants.{RuleBroken}
-use Rattle.clr_grid.specs.Finders.{IsPrepared}
-use Rattle.clr_grid.specs.Fitting.{FitBoth}
-use Rattle.clr_grid.proofs.Contents.{reached}
-use Rattle.clr_grid.proofs.Fits.{fit_taken}
-use Rattle.clr_grid.proofs.Prepared.{not_kept}
+use Rattle.clr_engine.specs.KeptContents.{IsPrepared}
+use Rattle.clr_engine.specs.Fitting.{FitBoth}
+use Rattle.clr_engine.proofs.Contents.{reached}
+use Rattle.clr_engine.proofs.Fits.{fit_taken}
+use Rattle.clr_engine.proofs.Prepared.{not_kept}
 use Rattle.clr_engine.proofs.judges.Judge.prepare_refresh.Goals as goal
 
 pub returns-then-not-kept-clause-prepared : goal.returns-then-not-kept-clause-prepared

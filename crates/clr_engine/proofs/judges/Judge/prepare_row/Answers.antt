@@ -6,10 +6,10 @@ use Rattle.clr_change.specs.ChangeSets.{set_change}
 use Rattle.clr_workspaces.specs.Workspaces.{workspace_at}
 use Rattle.clr_steps.specs.Refusals.{broken_where}
 use Rattle.clr_steps.specs.declared.commands.Reply.TheVariants.{RuleBroken}
-use Rattle.clr_grid.specs.Finders.{IsPrepared}
-use Rattle.clr_grid.specs.Fitting.{FitBoth}
-use Rattle.clr_grid.proofs.Contents.{set_one}
-use Rattle.clr_grid.proofs.Prepared.{not_kept}
+use Rattle.clr_engine.specs.KeptContents.{IsPrepared}
+use Rattle.clr_engine.specs.Fitting.{FitBoth}
+use Rattle.clr_engine.proofs.Contents.{set_one}
+use Rattle.clr_engine.proofs.Prepared.{not_kept}
 use Rattle.clr_engine.proofs.judges.Judge.prepare_row.Goals as goal
 
 pub returns-then-not-kept-clause-prepared : goal.returns-then-not-kept-clause-prepared

@@ -1,6 +1,6 @@
 use Rattle.std.proofs.Common.{sym, ap, ◌∙◌, is_some}
 use Rattle.clr_engine.proofs.Readings.{seen_in}
-use Rattle.clr_grid.proofs.Served.{found_in}
+use Rattle.clr_engine.proofs.Served.{found_in}
 use Rattle.clr_engine.proofs.offices.Office.find.Goals as goal
 
 pub returns-clause-stands : goal.returns-clause-stands

@@ -3,8 +3,9 @@ use Rattle.clr_workspaces.specs.Workspaces.{Workspace}
 use Rattle.clr_steps.specs.Offices.{Office, office_of}
 use Rattle.clr_steps.specs.Steps.{IsAnswer}
 use Rattle.clr_steps.proofs.StepLemmas.{answer_law}
-use Rattle.clr_grid.specs.Fitting.{IsAdmitted}
-use Rattle.clr_grid.specs.Finders.{AreFinders, kept_contents}
+use Rattle.clr_engine.specs.Fitting.{IsAdmitted}
+use Rattle.clr_grid.specs.Finders.{AreFinders}
+use Rattle.clr_engine.specs.KeptContents.{kept_contents}
 use Rattle.clr_engine.proofs.Steps.{fits_after, holds_after}
 use Rattle.clr_engine.proofs.offices.Office.perform.Goals as goal
 

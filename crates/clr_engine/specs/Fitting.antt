@@ -1,22 +1,18 @@
 -- Offices that fit their schema and hold their rules, and trees of such, with their finders.
-use Rattle.std.specs.Prelude.{◌≡◌, ℕ, List, Option}
-use Rattle.clr_rows.specs.Contents.{Content}
-use Rattle.clr_rows.specs.declared.tables.TableDef.{TableDef}
-use Rattle.clr_workspaces.specs.Workspaces.{Workspace}
-use Rattle.clr_rules.specs.declared.rules.Rule.{Rule}
-use Rattle.clr_rules.specs.Books.{FitsBook}
-use Rattle.clr_steps.specs.Invariants.{HoldsWhereKept, OfficeFits}
-use Rattle.clr_steps.specs.Offices.{Office}
 use Rattle.std.specs.Prelude.{◌≡◌, ℕ, true, List, Option}
+use Rattle.clr_rows.specs.declared.tables.TableDef.{TableDef}
 use Rattle.clr_rows.specs.Contents.{Content, row_at}
 use Rattle.clr_rows.specs.Schemas.{FitsSchema}
+use Rattle.clr_rules.specs.declared.rules.Rule.{Rule}
+use Rattle.clr_rules.specs.Books.{FitsBook}
 use Rattle.clr_rules.specs.Needs.{Holds}
-use Rattle.clr_finders.specs.RowMaps.{FiledRows}
 use Rattle.clr_workspaces.specs.Soundness.{IsSound}
 use Rattle.clr_workspaces.specs.Workspaces.{Workspace, workspace_at}
-use Rattle.clr_grid.specs.Finders.{AreFinders, kept_contents}
-use Rattle.clr_steps.specs.Offices.{office_of}
-use Rattle.clr_grid.specs.Finders.{AreFinders, kept_contents}
+use Rattle.clr_finders.specs.RowMaps.{FiledRows}
+use Rattle.clr_steps.specs.Invariants.{HoldsWhereKept, OfficeFits}
+use Rattle.clr_steps.specs.Offices.{Office, office_of}
+use Rattle.clr_grid.specs.Finders.{AreFinders}
+use Rattle.clr_engine.specs.KeptContents.{kept_contents}
 
 -- the rules and each row fit the schema
 pub record IsFitting (o : Office) : Type 0 where

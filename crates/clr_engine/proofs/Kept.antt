@@ -17,7 +17,7 @@ use Rattle.clr_workspaces.specs.Operations.{with_current, with_mark_of, with_mar
 use Rattle.clr_workspaces.specs.declared.rebases.Keep.{Keep}
 use Rattle.clr_workspaces.specs.declared.rebases.Keep.TheVariants as keeps
 use Rattle.clr_workspaces.specs.declared.rebases.Rebase.TheVariants as ways
-use Rattle.clr_grid.specs.Finders.{kept_content, kept_contents}
+use Rattle.clr_engine.specs.KeptContents.{kept_content, kept_contents}
 
 -- the content of one workspace, where rules are to hold in it
 pub content_at : (ws : List Workspace) (at : ℕ) → slice_index_or (kept_contents ws) at None ≡ kept_content (workspace_at ws at)

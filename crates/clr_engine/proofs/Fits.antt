@@ -16,8 +16,8 @@ use Rattle.clr_workspaces.specs.declared.rebases.Keep.{Keep}
 use Rattle.clr_steps.specs.Invariants.{OfficeFits, WorkspaceFits}
 use Rattle.clr_steps.specs.Offices.{office_of}
 use Rattle.clr_steps.proofs.FitLemmas.{keep_row_fits, none_fits, taken_fits}
-use Rattle.clr_grid.specs.Fitting.{IsFitting}
-use Rattle.clr_grid.specs.Fitting.{FitBoth, FitSome}
+use Rattle.clr_engine.specs.Fitting.{IsFitting}
+use Rattle.clr_engine.specs.Fitting.{FitBoth, FitSome}
 
 abbrev content_fits : (schema : List TableDef) (book : List Rule) (content : Content) → FitsBook schema book → FitsSchema schema content
     → FitsContent book content

@@ -10,9 +10,10 @@ use Rattle.clr_rows.proofs.ChangeLemmas.{taken_over-own}
 use Rattle.clr_rules.specs.declared.rules.Rule.{Rule}
 use Rattle.clr_finders.specs.RowMaps.{FiledRows}
 use Rattle.clr_workspaces.specs.Workspaces.{Workspace, workspace_at}
-use Rattle.clr_grid.specs.Finders.{AreFinders, HasForgotten, HasNoted, HasSettled, IsChangedAt, IsFinderAt, IsPrepared, kept_content, kept_contents}
+use Rattle.clr_grid.specs.Finders.{AreFinders, HasForgotten, HasNoted, HasSettled, IsChangedAt, IsFinderAt}
+use Rattle.clr_engine.specs.KeptContents.{IsPrepared, kept_content, kept_contents}
 use Rattle.clr_grid.proofs.Indexes.{all_forgotten, all_settled, as_many, finder_at, one_at}
-use Rattle.clr_grid.proofs.Kept.{content_at, with_content}
+use Rattle.clr_engine.proofs.Kept.{content_at, with_content}
 
 -- ---- what a call answered
 pub where_none : {A P : Type 0} (Q : Type 0) (o : Option A) → o ≡ None → MatchOption o P (λ _. Q) → P

@@ -21,11 +21,12 @@ use Rattle.clr_steps.specs.Offices.{Office, below_live, office_of}
 use Rattle.clr_steps.specs.Positions.{at_savepoint}
 use Rattle.clr_steps.specs.declared.commands.Reply.{Reply}
 use Rattle.clr_steps.proofs.SeenLemmas.{name_is, name_law, within}
-use Rattle.clr_grid.specs.Fitting.{IsAdmitted}
-use Rattle.clr_grid.specs.Finders.{AreFinders, IsFinderAt, IsFinderOf, IsPositionOf, StayFinders, kept_content_at, kept_content, kept_contents}
-use Rattle.clr_grid.specs.Fitting.{HoldInKept, IsServed}
+use Rattle.clr_engine.specs.Fitting.{IsAdmitted}
+use Rattle.clr_grid.specs.Finders.{AreFinders, IsFinderAt, IsFinderOf}
+use Rattle.clr_engine.specs.KeptContents.{IsPositionOf, StayFinders, kept_content_at, kept_content, kept_contents}
+use Rattle.clr_engine.specs.Fitting.{HoldInKept, IsServed}
 use Rattle.clr_grid.proofs.Indexes.{one_at, one_less, one_more, one_set}
-use Rattle.clr_grid.proofs.Kept.{after_creating, after_removing, content_at, same_content}
+use Rattle.clr_engine.proofs.Kept.{after_creating, after_removing, content_at, same_content}
 
 module _ (schema : List TableDef) (book : List Rule) (ws : List Workspace) (sound : IsSound ws) where
   below_within : (vs : List Workspace) (at : ℕ) → (workspace_at vs at).kept ≡ true → at < length vs
