@@ -1,24 +1,20 @@
 -- Lists to which the first of some elements were added.
 use Rattle.std.proofs.Common.{◌≡◌, ◌∙◌, ℕ, Bool, true, false, cond, List, [], ◌∷◌, ◌++◌, append-nil, append_assoc, ap, drop, refl, sym, take}
 use Rattle.std.specs.List.{flat_map}
-use Rattle.std.proofs.lemmas.Grind.{flat_map-append}
-use Rattle.std.proofs.lemmas.List.{take-append-drop}
 use Rattle.clr_rules.specs.declared.roles.Roles.{Roles}
 use Rattle.clr_spots.specs.declared.spots.Spot.{Spot}
 use Rattle.clr_spots.specs.declared.spot_maps.FiledPart.{FiledPart}
 use Rattle.clr_audit.specs.declared.role_index.RoleIndex.{RoleIndex}
 use Rattle.clr_rows.specs.Beginnings.{IsBegun}
-use Rattle.clr_rows.proofs.BeginningLaws.{all_begun, none_begun, some_begun, then_begun}
+use Rattle.clr_rows.proofs.BeginningLaws.{some_begun, then_begun}
 use Rattle.clr_spots.specs.Filing.{near}
+use Rattle.clr_spots.proofs.Beginnings.{flat_parts}
 use Rattle.clr_audit.specs.RoleFiling.{partners}
 
+-- what is made of the first of some things was added
 module _ {X Y : Type 0} (f : Y → List X) where
-  -- what is made of the first of some things, and of the others
-  pub flat_parts : (ys : List Y) (k : ℕ) → flat_map f ys ≡ flat_map f (take k ys) ++ flat_map f (drop k ys)
-  flat_parts ys k = ap (flat_map f) (sym (take-append-drop k ys)) ∙ flat_map-append f (take k ys) (drop k ys)
-
   pub flat_begun : (old mid new : List X) (ys : List Y) (k : ℕ) → mid ≡ old ++ flat_map f (take k ys) → new ≡ mid → IsBegun old (flat_map f ys) new
-  flat_begun old mid new ys k is same = some_begun old (flat_map f ys) new (flat_map f (take k ys)) (flat_map f (drop k ys)) (same ∙ is) (flat_parts ys k)
+  flat_begun old mid new ys k is same = some_begun old (flat_map f ys) new (flat_map f (take k ys)) (flat_map f (drop k ys)) (same ∙ is) (flat_parts f ys k)
 
 -- the subjects that may stand beside a row: of three maps, one after another
 module _ (index : RoleIndex) (roles : Roles) (xs : List Spot) (wide : Bool) (old : List FiledPart) where

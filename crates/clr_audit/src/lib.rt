@@ -13,14 +13,10 @@
 #![tactic(auto)]
 
 mod audits;
-mod limits;
-mod pairs;
 mod part_servers;
 mod quick_audits;
 mod role_index;
-mod rows;
 mod searching;
-mod servers;
 
 pub use audits::{audit, first_broken};
-pub use rows::is_seen_to_hold;
+pub use quick_audits::is_seen_to_hold;

@@ -1,7 +1,13 @@
 //! What a quick audit looks at.
 
+mod limits;
+mod pairs;
+mod rows;
+mod servers;
+
 use clr_rows::Sheet;
 use clr_rules::RuleBook;
+pub use rows::is_seen_to_hold;
 
 /// A book, the rows of a content, and a finder that has these rows.
 #[derive(Drop)]

@@ -1,7 +1,7 @@
 use Rattle.clr_rows.specs.Contents.{row_at}
 use Rattle.clr_rules.specs.Needs.{rows_in}
 use Rattle.clr_audit.proofs.MeetingLaws.{AreLeft}
-use Rattle.clr_audit.proofs.rows.is_seen_to_hold.Given as goal
+use Rattle.clr_audit.proofs.quick_audits.rows.is_seen_to_hold.Given as goal
 
 -- the needs of the rows so far are met
 abbrev pub invariant-loop-cell : goal.invariant-loop-cell

@@ -7,8 +7,8 @@ ghost use Rattle.clr_rows.specs.Held.{held_of};
 ghost use Rattle.clr_rules.specs.Books.{FitTogether};
 ghost use Rattle.clr_rules.specs.Needs.{IsMet, rows_in};
 
-use crate::limits::MOST_TRIED;
 use crate::quick_audits::QuickAudit;
+use crate::quick_audits::limits::MOST_TRIED;
 use clr_finders::{RowFinder, RuleSpots};
 use clr_rows::{CellId, Held};
 use clr_rules::Ask;

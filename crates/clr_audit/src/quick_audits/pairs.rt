@@ -10,8 +10,8 @@ ghost use Rattle.clr_rules.specs.Needs.{Stands, rows_in};
 ghost use Rattle.clr_finders.specs.Sharing.{IsSettledFor, rule_spots};
 ghost use Rattle.clr_audit.specs.Meeting.{IsMetBeside, IsMetIfCalled, IsPairMet, IsPartMet};
 
-use crate::limits::{MOST_NEAR, MOST_PARTS};
 use crate::quick_audits::QuickAudit;
+use crate::quick_audits::limits::{MOST_NEAR, MOST_PARTS};
 use clr_finders::{RowFinder, RuleSpots};
 use clr_rows::{CellId, Held};
 use clr_rules::Ask;

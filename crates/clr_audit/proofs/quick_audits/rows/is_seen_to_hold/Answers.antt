@@ -5,7 +5,7 @@ use Rattle.clr_rows.specs.Contents.{row_at}
 use Rattle.clr_rules.specs.Needs.{rows_in}
 use Rattle.clr_rules.proofs.BrokenLemmas.{listed_stands}
 use Rattle.clr_audit.proofs.MeetingLaws.{AreLeft, all_left, none_left, one_less}
-use Rattle.clr_audit.proofs.rows.is_seen_to_hold.Goals as goal
+use Rattle.clr_audit.proofs.quick_audits.rows.is_seen_to_hold.Goals as goal
 
 pub loop-cell-init : goal.loop-cell-init
 loop-cell-init g c =
