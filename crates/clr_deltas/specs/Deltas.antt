@@ -25,23 +25,24 @@ pub record Delta : Type 0 where
   pub marks : List StoredMark
   pub kept : Bool
 
-abbrev pub StoredParts : Type 0
-StoredParts = (Name × Differences) ⊎ Name
+abbrev pub StoredMarkParts : Type 0
+StoredMarkParts = (Name × Differences) ⊎ Name
 
-abbrev pub stored_parts : StoredMark → StoredParts
-stored_parts (stored.Saved name d) = inl (name, d)
-stored_parts (stored.Child name) = inr name
+abbrev pub stored_mark_parts : StoredMark → StoredMarkParts
+stored_mark_parts (stored.Saved name d) = inl (name, d)
+stored_mark_parts (stored.Child name) = inr name
 
-abbrev pub stored_of_parts : StoredParts → StoredMark
-stored_of_parts (inl saved) = stored.Saved saved.0 saved.1
-stored_of_parts (inr name) = stored.Child name
+abbrev pub stored_mark_of_parts : StoredMarkParts → StoredMark
+stored_mark_of_parts (inl saved) = stored.Saved saved.0 saved.1
+stored_mark_of_parts (inr name) = stored.Child name
 
-pub stored_of_parts_of_stored : (mark : StoredMark) → stored_of_parts (stored_parts mark) ≡ mark
-stored_of_parts_of_stored (stored.Saved name d) = refl
-stored_of_parts_of_stored (stored.Child name) = refl
+pub stored_mark_of_parts_of_stored_mark : (mark : StoredMark) → stored_mark_of_parts (stored_mark_parts mark) ≡ mark
+stored_mark_of_parts_of_stored_mark (stored.Saved name d) = refl
+stored_mark_of_parts_of_stored_mark (stored.Child name) = refl
 
 abbrev pub coded_stored : Coded StoredMark
-coded_stored = code_by StoredParts (coded⊎ (coded× coded_name coded_differences) coded_name) stored_parts stored_of_parts stored_of_parts_of_stored
+coded_stored = code_by StoredMarkParts (coded⊎ (coded× coded_name coded_differences) coded_name) stored_mark_parts stored_mark_of_parts
+    stored_mark_of_parts_of_stored_mark
 
 abbrev pub coded_delta : Coded Delta
 coded_delta =
