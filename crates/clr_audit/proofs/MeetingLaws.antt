@@ -32,7 +32,8 @@ use Rattle.clr_finders.proofs.PassingCells.{passes_in}
 use Rattle.clr_finders.proofs.SharingLemmas.{found_sharing}
 
 -- the rows of a content that stand fit beside all of them
-pub fit_standing : (rules : List Rule) (content : Content) (s : Held) → FitsContent rules content → Stands (row_at content) s → FitTogether rules (s ∷ rows_in content)
+pub fit_standing : (rules : List Rule) (content : Content) (s : Held) → FitsContent rules content → Stands (row_at content) s
+    → FitTogether rules (s ∷ rows_in content)
 fit_standing rules content s fits at = fit_part rules (s ∷ rows_in content) (rows_in content) (rows_fit rules content fits) each
   where
     each : AreAmong (s ∷ rows_in content) (rows_in content)
@@ -49,8 +50,8 @@ fit_two_standing rules content s t fits at beside = fit_part rules (s ∷ (t ∷
     each x (inr (inr h)) = h
 
 -- the second subject is found beside the first
-pub is_found : (rules : List Rule) (content : Content) (settled : Settled) (ask : Ask) (s t : Held) → FitsContent rules content → IsSettledFor settled rules content
-    → ask.rule < length rules → Stands (row_at content) t → calls rules ask s (Some t) ≡ true
+pub is_found : (rules : List Rule) (content : Content) (settled : Settled) (ask : Ask) (s t : Held) → FitsContent rules content
+    → IsSettledFor settled rules content → ask.rule < length rules → Stands (row_at content) t → calls rules ask s (Some t) ≡ true
     → Contains (found_cells false settled ask.rule (rule_spots rules ask.rule s)) t.0
 unfolding sharing has_role share_under
 is_found rules content settled ask s t fits is below stands called =
@@ -60,7 +61,8 @@ is_found rules content settled ask s t fits is below stands called =
     let sharing_both : are_sharing rules ask.rule s t ≡ true =
     (λ i. has_role_by (at i) s && (has_role_by (at i) t && share_by (at i) s t)) ∙ (λ i. roles.0 i && (roles.1 i && shared i)) in
     contained t.0 (found_cells false settled ask.rule (rule_spots rules ask.rule s))
-    (subst (Among t.0) (sym (found_sharing rules content settled ask.rule s is below)) (passes_in (are_sharing rules ask.rule s) content t.0 t.1 stands sharing_both))
+    (subst (Among t.0) (sym (found_sharing rules content settled ask.rule s is below))
+    (passes_in (are_sharing rules ask.rule s) content t.0 t.1 stands sharing_both))
 
 -- a row alone is asked one thing
 pub asked_alone : (rules : List Rule) (ask : Ask) (s : Held) (number : ℕ) → ask.rule ≡ number → calls rules ask s None ≡ true → ask ≡ plain_ask number
