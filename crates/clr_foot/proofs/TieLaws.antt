@@ -61,7 +61,7 @@ module _ (c : Setting ℕ) where
     changed_found : (n : Need) → IsNeedOfChangedSubjects c number v.id n → IsNeedAmong c.rules number None v near n
     changed_found n (with_it, (first, (w, second, other))) =
         by (with_found c fits number v at near (IsChangedVersion c) found.are sought n with_it
-            (λ u e f. subst (IsChangedVersion c) (same u f) other) (λ e. first))
+        (λ u e f. subst (IsChangedVersion c) (same u f) other) (λ e. first))
       where
         same : (u : VersionId) → n.second ≡ Some u → w ≡ u
         same u f = let both : Some w ≡ Some u = sym second ∙ f in cc
