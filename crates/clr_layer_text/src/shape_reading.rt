@@ -41,7 +41,7 @@ fn single(text: &str) -> Result<&str, LayerFault>
 /// Returns the one part in parentheses of its own, of what stands before its `(` and behind it. Fails with
 /// `SeveralParts` where a comma stands behind its `)`, and with `NotWkt` where other bytes stand around it.
 #[tactic(auto, unfolding(crate::specs::Wkt::inner_of))]
-fn inner<'a>(before: &str, behind: &'a str) -> Result<&'a str, LayerFault>
+fn text_in_one_part<'a>(before: &str, behind: &'a str) -> Result<&'a str, LayerFault>
     ensures { Gives layer_lacks_memory (λ inside. inside.now) result (inner_of before.now behind.now) }
 {
     let (inside, tail) = cut(behind, ')').ok_or(LayerFault::NotWkt)?;
@@ -60,7 +60,7 @@ fn one_part(text: &str) -> Result<&str, LayerFault>
 {
     match cut(text, '(') {
         None => single(text),
-        Some((before, behind)) => inner(before, behind),
+        Some((before, behind)) => text_in_one_part(before, behind),
     }
 }
 

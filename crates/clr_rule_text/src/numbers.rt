@@ -25,7 +25,7 @@ fn nearest(negative: bool, numeral: &Numeral<'_>) -> Option<Option<i64>>
     }
 }
 
-fn signed(number: u64) -> Option<i64>
+fn as_signed(number: u64) -> Option<i64>
     ensures { result ≡ as_i64 (unsigned number) }
 {
     if number <= i64::MAX as u64 {
@@ -39,7 +39,7 @@ fn number_above(numeral: &Numeral<'_>) -> Option<Option<i64>>
     ensures { result ≡ option_map as_i64 (number_from false numeral.now) }
 {
     match numeral.to_u64() {
-        Some(number) => Some(signed(number)),
+        Some(number) => Some(as_signed(number)),
         None => nearest(false, numeral),
     }
 }
