@@ -69,7 +69,7 @@ fn is_finer(digits: &str) -> bool
 }
 
 /// Returns the digits behind the point as millimetres, a half rounded up.
-fn nearest(digits: &str) -> u64
+fn nearest_thousandths(digits: &str) -> u64
     ensures value { result ≡ nearest digits.now }
     ensures small { result ≤ 2 ^ 16 }
 {
@@ -91,7 +91,7 @@ fn behind_point(rounded: bool, digits: &str) -> Result<u64, LayerFault>
     } else if is_finer(digits) && !rounded {
         Err(LayerFault::Finer)
     } else {
-        Ok(nearest(digits))
+        Ok(nearest_thousandths(digits))
     }
 }
 

@@ -29,7 +29,7 @@ fn inside_brackets(text: &str) -> Result<&str, LayerFault>
 }
 
 /// Returns what stands before a text's end in parentheses, if it isn't followed by another part.
-fn single(text: &str) -> Result<&str, LayerFault>
+fn rest_behind_one_part(text: &str) -> Result<&str, LayerFault>
     ensures { Gives layer_lacks_memory (λ inside. inside.now) result (single_of text.now) }
 {
     if contains_byte(text, b',') {
@@ -45,7 +45,7 @@ fn text_in_one_part<'a>(before: &str, behind: &'a str) -> Result<&'a str, LayerF
     ensures { Gives layer_lacks_memory (λ inside. inside.now) result (inner_of before.now behind.now) }
 {
     let (inside, tail) = cut(behind, ')').ok_or(LayerFault::NotWkt)?;
-    let rest = single(tail)?;
+    let rest = rest_behind_one_part(tail)?;
     if is_blank(before) && is_blank(rest) {
         Ok(inside)
     } else {
@@ -59,7 +59,7 @@ fn one_part(text: &str) -> Result<&str, LayerFault>
     ensures { Gives layer_lacks_memory (λ inside. inside.now) result (one_part (cut_of opening text.now) text.now) }
 {
     match cut(text, '(') {
-        None => single(text),
+        None => rest_behind_one_part(text),
         Some((before, behind)) => text_in_one_part(before, behind),
     }
 }
