@@ -17,7 +17,7 @@ use csv::StringRecord;
 use std::alloc::{AllocError, Global};
 
 /// Returns the certificate that no record makes: its root is LIVE, without members and entries.
-fn empty(alloc: Global) -> Result<Certificate, AllocError>
+fn empty_certificate(alloc: Global) -> Result<Certificate, AllocError>
     ensures { IfOk result (λ certificate. certificate ≡ nothing_said) }
 {
     Ok(Certificate {
@@ -49,7 +49,7 @@ fn read_records(
 ) -> Result<Certificate, (usize, CertFault)>
     ensures { GivesAt cert_lacks_memory (λ x. x) result (certificate_of schema.now (map fields_of records.now)) }
 {
-    let Ok(mut certificate) = empty(alloc) else {
+    let Ok(mut certificate) = empty_certificate(alloc) else {
         return Err((0, CertFault::OutOfMemory));
     };
     let mut rooted = false;

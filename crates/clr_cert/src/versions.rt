@@ -44,7 +44,7 @@ fn cell<'a>(schema: &Schema, text: &'a str) -> Option<(CellId, &'a str)>
 }
 
 /// Returns whether a word says the new version, or none for a word that says neither.
-fn fresh(word: &str) -> Option<bool>
+fn fresh_in_word(word: &str) -> Option<bool>
     ensures { result ≡ fresh_of word.now }
 {
     match word {
@@ -60,7 +60,7 @@ fn version(schema: &Schema, text: &str) -> Option<VersionId>
     ensures { result ≡ written_version_of schema.now text.now }
 {
     let (cell, word) = cell(schema, text)?;
-    let fresh = fresh(word)?;
+    let fresh = fresh_in_word(word)?;
     Some(VersionId { cell, fresh })
 }
 
@@ -92,7 +92,7 @@ fn subject(schema: &Schema, text: &str) -> Option<(VersionId, u16)>
 {
     let (cell, last) = cell(schema, text)?;
     let (word, part) = word_with_part(last)?;
-    let fresh = fresh(word)?;
+    let fresh = fresh_in_word(word)?;
     Some((VersionId { cell, fresh }, part))
 }
 

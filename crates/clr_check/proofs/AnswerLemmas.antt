@@ -16,14 +16,14 @@ use Rattle.clr_clearance.specs.Safety.{Safe}
 use Rattle.clr_clearance.specs.MergeSets.{RootHolds, change_sets, setting_by_position}
 use Rattle.clr_clearance.specs.Verdicts.{IsVerdict, member_fault, of_cell, of_need, of_none}
 use Rattle.clr_clearance.specs.Verdicts.{of_member as member}
-use Rattle.clr_check.specs.Answers.{IsCheckAnswer, IsRefusingVerdict, of_memory, of_verdict, verdict_of}
+use Rattle.clr_check.specs.Answers.{IsCheckAnswer, IsRefusingVerdict, of_memory, of_verdict}
 use Rattle.clr_check.specs.Entries.{IsLeastUncovered}
 use Rattle.clr_clearance.proofs.ClearLemmas.{clear_covers, no_member_fault}
 use Rattle.clr_clearance.proofs.HeadlineLemmas.{headline}
 use Rattle.clr_clearance.proofs.ReplyLemmas.{quiet_run}
 use Rattle.clr_clearance.proofs.RunLemmas.{clear_is_safe}
 use Rattle.clr_engine.specs.Fitting.{IsAdmitted}
-use Rattle.clr_merge_sets.specs.Faults.{IsMergeSetFault, of_member, without_memory}
+use Rattle.clr_merge_sets.specs.Faults.{IsMergeSetFault, of_member, verdict_of, without_memory}
 use Rattle.clr_merge_sets.proofs.MergeSetLemmas.{names_free, root_holds}
 
 -- what an answer says ------------------------------------------------------------------------------

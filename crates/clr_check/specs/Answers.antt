@@ -1,7 +1,5 @@
 -- What is answered: the verdict, or want of memory where no test of names fails.
 use Rattle.std.specs.Prelude.{◌≡◌, List, None}
-use Rattle.clr_needs.specs.declared.faults.SceneFault.{SceneFault}
-use Rattle.clr_needs.specs.declared.faults.SceneFault.TheVariants as scene
 use Rattle.clr_needs.specs.Covers.{Entry}
 use Rattle.clr_steps.specs.Offices.{Office}
 use Rattle.clr_steps.specs.Quiet.{MergeSet}
@@ -17,8 +15,3 @@ pub data IsCheckAnswer (o : Office) (s : MergeSet) (entries : List Entry) (v : V
 pub record IsRefusingVerdict (o : Office) (s : MergeSet) (entries : List Entry) (v : Verdict) : Type 0 where
   pub answer : IsCheckAnswer o s entries v
   pub not_clear : ¬ (v ≡ verdict.Clear)
-
--- what is said where change sets make no scene
-abbrev pub verdict_of : SceneFault → Verdict
-verdict_of (scene.SharedCell cell first second) = verdict.SharedCell cell first second
-verdict_of scene.OutOfMemory = verdict.OutOfMemory

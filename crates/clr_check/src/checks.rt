@@ -7,7 +7,7 @@ ghost use Rattle.clr_clearance.specs.Safety.{Safe};
 ghost use Rattle.clr_clearance.specs.declared.verdicts.Verdict.TheVariants as verdict;
 ghost use Rattle.clr_steps.specs.Quiet.{MergeSet};
 ghost use Rattle.clr_engine.specs.Fitting.{IsAdmitted};
-ghost use Rattle.clr_check.specs.Answers.{IsCheckAnswer, verdict_of};
+ghost use Rattle.clr_check.specs.Answers.{IsCheckAnswer};
 ghost use Rattle.clr_merge_sets.specs.Certificates.{entries_in, merge_set_of};
 ghost use Rattle.clr_merge_sets.specs.MergeSets.{AreOfMergeSet, AreParts};
 
@@ -15,27 +15,8 @@ use crate::covers::first_uncovered;
 use clr_cert::{Certificate, Entry};
 use clr_clearance::Verdict;
 use clr_engine::Office;
-use clr_merge_sets::{MergeSetParts, read_merge_set};
-use clr_needs::SceneFault;
+use clr_merge_sets::{MergeSetParts, read_merge_set, verdict_of};
 use std::alloc::Global;
-
-/// Returns what is said where change sets make no scene.
-fn verdict_of(fault: SceneFault) -> Verdict
-    ensures { result ≡ verdict_of fault }
-{
-    match fault {
-        SceneFault::SharedCell {
-            cell,
-            first,
-            second,
-        } => Verdict::SharedCell {
-            cell,
-            first: first as usize,
-            second: second as usize,
-        },
-        SceneFault::OutOfMemory => Verdict::OutOfMemory,
-    }
-}
 
 /// Returns what the tests of cells and needs say of the parts of a merge set.
 fn judge_parts(alloc: Global, office: &Office, parts: &MergeSetParts, entries: &[Entry]) -> Verdict

@@ -31,7 +31,8 @@ use Rattle.clr_lines.specs.Rows.{place_fields, row_fields, rows_writer, shape_fi
 use Rattle.clr_scripts.specs.Edits.{edits_from}
 use Rattle.clr_scripts.specs.Scripts.{apply_of, command_of, plain_step_of, script_in_text, script_of, step_of, steps_from}
 use Rattle.clr_designs.specs.Scripts.{apply_fields, cell_fields, create_fields, design_records, design_script, design_steps, edit_fields, script_text}
-use Rattle.clr_designs.specs.ReadBack.{Fits, HasTexts, IsText, ReadBackLaw}
+use Rattle.clr_records.specs.Values.{IsText}
+use Rattle.clr_designs.specs.ReadBack.{Fits, HasTexts, ReadBackLaw}
 use Rattle.clr_designs.proofs.EditAgain.{edit_again}
 
 -- the records are read -----------------------------------------------------------------------------

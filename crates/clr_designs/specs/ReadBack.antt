@@ -1,12 +1,11 @@
 -- Edits whose script is read back as the same edits.
 use Rattle.std.specs.Prelude.{◌≡◌, ◌<◌, ◌^◌, ℕ, List, length, None, Ok, IsUtf8}
 use Rattle.std.specs.List.{All}
-use Rattle.clr_rows.specs.declared.rows.Value.{Value}
-use Rattle.clr_rows.specs.declared.rows.Value.TheVariants.{Int, Words}
 use Rattle.clr_rows.specs.declared.tables.TableDef.{TableDef}
 use Rattle.clr_rows.specs.Schemas.{cell_fault, row_fault, schema_fault}
 use Rattle.clr_change.specs.declared.edits.Edit.{Edit}
 use Rattle.clr_change.specs.declared.edits.Edit.TheVariants.{Insert, Update, Delete}
+use Rattle.clr_records.specs.Values.{IsText}
 use Rattle.clr_scripts.specs.Scripts.{script_in_text}
 use Rattle.clr_designs.specs.Scripts.{design_script, design_steps}
 
@@ -15,11 +14,6 @@ abbrev pub Fits : List TableDef → Edit → Type 0
 Fits tables (Insert cell row) = row_fault tables cell row ≡ None
 Fits tables (Update cell row) = row_fault tables cell row ≡ None
 Fits tables (Delete cell) = cell_fault tables cell ≡ None
-
--- a number, or a text in UTF-8, as every text of the program is
-abbrev pub IsText : Value → Type 0
-IsText (Int n) = Unit {0}
-IsText (Words text) = IsUtf8 text
 
 -- the texts of an edit are in UTF-8
 abbrev pub HasTexts : Edit → Type 0

@@ -6,7 +6,7 @@ ghost use Rattle.std.specs.List.{All, flat_map};
 ghost use Rattle.csv.specs.Records.{fields_of, partial_of};
 ghost use Rattle.clr_lines.specs.Rows.{place_fields, shape_fields, value_field};
 ghost use Rattle.clr_designs.specs.Scripts.{cell_fields};
-ghost use Rattle.clr_designs.specs.ReadBack.{IsText};
+ghost use Rattle.clr_records.specs.Values.{IsText};
 
 use clr_rows::{CellId, Place, Row, Schema, Shape, Value};
 use csv::ByteRecord;

@@ -8,7 +8,8 @@ ghost use Rattle.clr_lines.specs.Rows.{IsBetweenRows, row_fields, rows_writer};
 ghost use Rattle.clr_scripts.specs.Scripts.{script_in_text};
 ghost use Rattle.clr_records.specs.Writing.{written_by};
 ghost use Rattle.clr_designs.specs.Scripts.{cell_fields, design_script, design_steps, edit_fields, script_text};
-ghost use Rattle.clr_designs.specs.ReadBack.{Fits, HasTexts, IsText};
+ghost use Rattle.clr_records.specs.Values.{IsText};
+ghost use Rattle.clr_designs.specs.ReadBack.{Fits, HasTexts};
 
 use crate::fields::{add, add_cell, add_row};
 use clr_change::Edit;

@@ -9,7 +9,7 @@ ghost use Rattle.clr_prints.specs.Printing.{IsMadePrintout, IsPrintoutIn, printe
 
 use clr_cert::write_certificate;
 use clr_engine::Office;
-use clr_office::{Plan, RunFault, Words, open_office, texts};
+use clr_office::{Plan, RunFault, Words, open_office, texts_of_names};
 use clr_plan::plan_lines;
 use clr_prints::{Print, notes_of, plan_members, with_hints};
 use std::alloc::{AllocError, Global};
@@ -59,7 +59,7 @@ fn print_of_members(
 ) -> Result<Print, AllocError>
     ensures { IfOk result (λ p. IsCertificatePrint (merge_set root.now names.now) office.now (printed p)) }
 {
-    let members = texts(alloc, names)?;
+    let members = texts_of_names(alloc, names)?;
     let plan = plan_members(alloc, office, root, members.as_slice());
     plan_print(alloc, office, root, members.as_slice(), &plan)
 }

@@ -15,7 +15,7 @@ use crate::children::members_asked;
 use crate::names_lines::names_line;
 use clr_cert::{Certificate, write_certificate};
 use clr_engine::Office;
-use clr_office::{Plan, RunFault, Words, open_office, texts};
+use clr_office::{Plan, RunFault, Words, open_office, texts_of_names};
 use clr_plan::plan_lines;
 use clr_prints::{Print, notes_of, plan_members, with_hints};
 use clr_rows::Schema;
@@ -69,7 +69,7 @@ fn try_name(
 ) -> Result<Trial, AllocError>
     ensures { IfOk result (IsTried office.now root.now taken.now name.now) }
 {
-    let mut members = texts(alloc, taken)?;
+    let mut members = texts_of_names(alloc, taken)?;
     members.push(name.as_str())?;
     match plan_members(alloc, office, root, members.as_slice()) {
         Plan::Cleared(certificate) => Ok(Trial::Taken(certificate)),
@@ -137,7 +137,7 @@ fn choice_print(alloc: Global, schema: &Schema, choice: &Choice) -> Result<Print
     ensures { IfOk result (λ p. printed p ≡ printout_of (certificate_text schema.now choice.now.certificate)
         (names_line (codes "kept") choice.now.taken.items ++ choice.now.left.items) choice.now.is_any_left false) }
 {
-    let taken = texts(alloc, choice.taken.as_slice())?;
+    let taken = texts_of_names(alloc, choice.taken.as_slice())?;
     let mut notes = names_line(alloc, "kept", taken.as_slice())?;
     notes.extend_from_slice(choice.left.as_slice())?;
     let text = write_certificate(alloc, schema, &choice.certificate)?;
@@ -171,7 +171,7 @@ fn print_of_names(
 ) -> Result<Print, AllocError>
     ensures { IfOk result (λ p. IsChoicePrint root.now names.now office.now (printed p)) }
 {
-    let nobody = texts(alloc, &[])?;
+    let nobody = texts_of_names(alloc, &[])?;
     match plan_members(alloc, office, root, nobody.as_slice()) {
         Plan::Cleared(certificate) => print_of_choice(alloc, office, root, names, certificate),
         plan => plan_print(alloc, office, root, nobody.as_slice(), &plan),

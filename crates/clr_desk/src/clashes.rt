@@ -13,7 +13,7 @@ use crate::clash_lines::clashes_lines;
 use clr_clearance::Verdict;
 use clr_engine::Office;
 use clr_merge_clashes::{MergeClashes, merge_clashes};
-use clr_office::{Plan, RunFault, Words, open_office, texts};
+use clr_office::{Plan, RunFault, Words, open_office, texts_of_names};
 use clr_prints::{Print, notes_of, with_hints};
 use std::alloc::{AllocError, Global};
 
@@ -74,7 +74,7 @@ fn print_of_names(
     ensures { IfOk result (λ p. IsClashesPrint root.now names.now office.now (printed p)) }
 {
     let asked = members_asked(alloc, office, root, names)?;
-    let members = texts(alloc, asked.as_slice())?;
+    let members = texts_of_names(alloc, asked.as_slice())?;
     print_of_merge_set(alloc, office, root, members.as_slice())
 }
 

@@ -7,7 +7,7 @@ ghost use Rattle.clr_desk.specs.Orders.{IsOrderPrint, order_print};
 ghost use Rattle.clr_prints.specs.Printing.{IsMadePrintout, IsPrintoutIn, printed};
 
 use clr_engine::Office;
-use clr_office::{RunFault, Words, open_office, texts};
+use clr_office::{RunFault, Words, open_office, texts_of_names};
 use clr_prints::{Print, hint_lines, notes_of};
 use clr_words::{WorkOrder, work_order};
 use std::alloc::{AllocError, Global};
@@ -33,7 +33,7 @@ fn print_of_members(
 ) -> Result<Print, AllocError>
     ensures { IfOk result (λ p. IsOrderPrint (merge_set root.now names.now) office.old (printed p)) }
 {
-    let members = texts(alloc, names)?;
+    let members = texts_of_names(alloc, names)?;
     let order = work_order(alloc, office, root, members.as_slice())?;
     Ok(print_of_order(alloc, order))
 }

@@ -40,7 +40,7 @@ fn layer(alloc: Global, matches: &ArgMatches) -> Result<Asked, AllocError>
 /// Returns what a subcommand over layers or features asks for, and its files, or nothing where no such subcommand has the name, or where its layers
 /// or its first key can't be read.
 #[tactic(auto, unfolding(crate::specs::Asks::geographic_asked))]
-pub(crate) fn geographic(
+pub(crate) fn geographic_ask(
     alloc: Global,
     name: &str,
     matches: &ArgMatches,

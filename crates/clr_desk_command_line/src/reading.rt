@@ -19,7 +19,7 @@ ghost use Rattle.clr_desk_command_line.specs.Program.{program};
 use crate::asks::{Ask, TextKind};
 use crate::command::whole_command;
 use crate::complaints::complaint;
-use crate::layer_reading::geographic;
+use crate::layer_reading::geographic_ask;
 use crate::values::root;
 use clap::ArgMatches;
 use clap::error::ErrorKind;
@@ -108,7 +108,7 @@ fn over_layers_or_members(
     ensures { IfOk result (λ r. or_members_asked (geographic_asked name.now (rows_of (found_of matches.now))) name.now (rows_of (found_of matches.now))
         ≡ option_map (λ p. (p.0, p.1.items)) r) }
 {
-    match geographic(alloc, name, matches)? {
+    match geographic_ask(alloc, name, matches)? {
         Some((ask, files)) => Ok(Some((Ask::Geographic(ask), files))),
         None => over_members(alloc, name, matches),
     }

@@ -6,7 +6,9 @@
 
 use clr_desk::{Ask, AskFault, GeographicAsk, GivenLayer, answer, ask_of, fault_place};
 use clr_office::{Port, RunFault, Sink, Words};
-use clr_reports::{BAD_WORDS, read_files, refuse, refuse_words, text_at, texts_of_words, words};
+use clr_reports::{
+    BAD_WORDS, print_fault, print_parser_message, read_files, text_at, texts_of_words, words,
+};
 use std::io::ErrorKind;
 use std::process::ExitCode;
 
@@ -19,7 +21,7 @@ fn refuse_texts(
     office: &[u8],
     second: &[u8],
 ) -> u8 {
-    let status = refuse(rt, fault);
+    let status = print_fault(rt, fault);
     if let Ok(place) = fault_place(rt.alloc(), fault, files, office, second) {
         let _ = Port::new(rt.stderr()).put(place.as_slice());
     }
@@ -81,7 +83,7 @@ fn run_words(rt: &HostRuntime, words: &[String]) -> Result<u8, RunFault> {
     let texts = texts_of_words(rt, words)?;
     match ask_of(rt.alloc(), texts.as_slice()) {
         Ok((ask, files)) => answer_files(rt, &ask, files.as_slice()),
-        Err(AskFault::Refused(error)) => Ok(refuse_words(rt, &error)),
+        Err(AskFault::Refused(error)) => Ok(print_parser_message(rt, &error)),
         Err(AskFault::OutOfMemory) => Err(RunFault::OutOfMemory),
     }
 }
@@ -97,7 +99,7 @@ fn main(rt: HostRuntime) -> ExitCode {
     };
     let status = match ended {
         Ok(status) => status,
-        Err(fault) => refuse(&rt, fault),
+        Err(fault) => print_fault(&rt, fault),
     };
     ExitCode::from(status)
 }

@@ -89,7 +89,7 @@ impl Labels {
         ensures { IfOk result (λ found. IfSome found (λ placed. CoversNone self.now.taken.items placed.area)) }
     {
         let places = places_for(self.alloc, anchors, width, height, gap)?;
-        Ok(cheapest(
+        Ok(cheapest_place(
             places.as_slice(),
             self.frame,
             self.taken.as_slice(),
@@ -143,7 +143,7 @@ fn cost_of(area: Area, busy: &[Spot]) -> i64 {
 
 /// Returns the place in the frame that costs least, of those that overlap nothing that is taken, or
 /// none.
-fn cheapest(places: &[Placed], frame: Area, taken: &[Area], busy: &[Spot]) -> Option<Placed>
+fn cheapest_place(places: &[Placed], frame: Area, taken: &[Area], busy: &[Spot]) -> Option<Placed>
     ensures { IfSome result (λ placed. CoversNone taken.now placed.area) }
 {
     let mut best = None;

@@ -12,7 +12,7 @@ const MOST_BEFORE: usize = 40;
 
 /// Returns the characters of a line; where it isn't UTF-8, a sign for each of its bytes beyond
 /// ASCII.
-fn readable(alloc: Global, line: &[u8]) -> Result<String, AllocError> {
+fn readable_text(alloc: Global, line: &[u8]) -> Result<String, AllocError> {
     if let Ok(text) = str::from_utf8(line) {
         return String::from_str(alloc, text);
     }
@@ -48,7 +48,7 @@ pub fn marked_line(alloc: Global, text: &[u8], offset: usize) -> Result<String, 
     requires { offset ≤ length text.now }
 {
     let (start, end) = line_around(text, offset);
-    let shown = readable(alloc, &text[start..end])?;
+    let shown = readable_text(alloc, &text[start..end])?;
     let before = place_of(text, offset).column.saturating_sub(1);
     let first = before.saturating_sub(MOST_BEFORE);
     let mut lines = String::from_str(alloc, "  | ")?;

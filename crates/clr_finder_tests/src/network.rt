@@ -78,7 +78,7 @@ pub(crate) struct RowAt {
 }
 
 impl RowAt {
-    pub(crate) fn held(&self) -> Held
+    pub(crate) fn as_held(&self) -> Held
         ensures cell { result.cell ≡ self.now.cell }
         ensures row { result.row.now ≡ self.now.row }
     {
@@ -213,9 +213,9 @@ impl Network {
             return Err("no such rule".into());
         }
         if servers {
-            Ok(finder.sharing_servers(&self.book, rule, row.held())?)
+            Ok(finder.sharing_servers(&self.book, rule, row.as_held())?)
         } else {
-            Ok(finder.sharing(&self.book, rule, row.held())?)
+            Ok(finder.sharing(&self.book, rule, row.as_held())?)
         }
     }
 

@@ -36,8 +36,8 @@ fn find_within<F: RowFinder>(
     }
     hoard.leave(budget)?;
     let found = match asked {
-        Asked::All => finder.sharing(&network.book, CROSSING, row.held()),
-        Asked::Servers => finder.sharing_servers(&network.book, CROSSING, row.held()),
+        Asked::All => finder.sharing(&network.book, CROSSING, row.as_held()),
+        Asked::Servers => finder.sharing_servers(&network.book, CROSSING, row.as_held()),
     };
     hoard.give_back();
     Ok(found.ok())

@@ -27,7 +27,8 @@ use Rattle.clr_rows.proofs.SchemaLemmas.{good_column_name, key_within, row_fits}
 use Rattle.clr_records.specs.Records.{in_turn}
 use Rattle.clr_layer_text.specs.declared.rows.LayerRow.{LayerRow}
 use Rattle.clr_layer_text.specs.Layers.{cell_of, header_of, key_text, layer_text, row_fields, rows_from, shape_fields, shape_name, value_text}
-use Rattle.clr_layer_text.specs.ReadBack.{IsLayerRow, IsText, ReadBackLaw}
+use Rattle.clr_records.specs.Values.{IsText}
+use Rattle.clr_layer_text.specs.ReadBack.{IsLayerRow, ReadBackLaw}
 use Rattle.clr_layer_text.specs.Wkt.{shape_text}
 use Rattle.clr_layer_text.proofs.HeaderAgain.{header_again, written_fields}
 use Rattle.clr_layer_text.proofs.HeaderNames.{header_differs}

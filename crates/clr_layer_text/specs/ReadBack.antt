@@ -1,17 +1,11 @@
 -- Rows whose layer is read back as the same rows.
-use Rattle.std.specs.Prelude.{◌≡◌, ℕ, List, Bool, true, Some, None, Ok, slice_get, IsUtf8}
+use Rattle.std.specs.Prelude.{◌≡◌, ℕ, List, Bool, true, Some, None, Ok, slice_get}
 use Rattle.std.specs.List.{All}
-use Rattle.clr_rows.specs.declared.rows.Value.{Value}
-use Rattle.clr_rows.specs.declared.rows.Value.TheVariants.{Int, Words}
 use Rattle.clr_rows.specs.declared.tables.TableDef.{TableDef}
 use Rattle.clr_rows.specs.Schemas.{row_fault, schema_fault}
+use Rattle.clr_records.specs.Values.{IsText}
 use Rattle.clr_layer_text.specs.declared.rows.LayerRow.{LayerRow}
 use Rattle.clr_layer_text.specs.Layers.{can_be_layer, cell_of, layer_in_text, layer_text}
-
--- a number, or a text in UTF-8, as every text of the program is
-abbrev pub IsText : Value → Type 0
-IsText (Int n) = Unit {0}
-IsText (Words text) = IsUtf8 text
 
 -- a row whose texts are in UTF-8
 abbrev pub HasTexts : LayerRow → Type 0

@@ -15,7 +15,7 @@ use clr_rows::RowFault;
 
 /// Returns the whole metres of a text. Fails with `NotDecimal` where it isn't a number of 0 or more in
 /// its one form, and with `OutOfRange` where it is above 1,000,000,000.
-fn whole(text: &str) -> Result<u64, LayerFault>
+fn whole_metres(text: &str) -> Result<u64, LayerFault>
     ensures value { result ≡ whole_metres_of (number_of text.now) }
     ensures small { IfOk result (λ n. n ≤ MOST_METRES) }
 {
@@ -69,7 +69,7 @@ fn is_finer(digits: &str) -> bool
 }
 
 /// Returns the digits behind the point as millimetres, a half rounded up.
-fn nearest(digits: &str) -> u64
+fn nearest_thousandths(digits: &str) -> u64
     ensures value { result ≡ nearest digits.now }
     ensures small { result ≤ 2 ^ 16 }
 {
@@ -91,7 +91,7 @@ fn behind_point(rounded: bool, digits: &str) -> Result<u64, LayerFault>
     } else if is_finer(digits) && !rounded {
         Err(LayerFault::Finer)
     } else {
-        Ok(nearest(digits))
+        Ok(nearest_thousandths(digits))
     }
 }
 
@@ -105,7 +105,7 @@ fn unsigned_millimetres(rounded: bool, text: &str) -> Result<u64, LayerFault>
         Some(parts) => parts,
         None => (text, ""),
     };
-    let metres = whole(front)?;
+    let metres = whole_metres(front)?;
     let behind = behind_point(rounded, digits)?;
     Ok(metres * 1000 + behind)
 }

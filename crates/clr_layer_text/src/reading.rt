@@ -70,7 +70,7 @@ fn shape(
 }
 
 /// Returns the row, if it fits its table. A row without a key fits where it fits at key 1.
-fn fitting(schema: &Schema, table: u16, row: LayerRow) -> Result<LayerRow, LayerFault>
+fn fitting_row(schema: &Schema, table: u16, row: LayerRow) -> Result<LayerRow, LayerFault>
     ensures { result ≡ fitting schema.now table row }
 {
     let key = row.key.unwrap_or(1);
@@ -95,7 +95,7 @@ fn whole_row(
     let key = key(field(fields, headings.key))?;
     let values = values(alloc, headings.columns.as_slice(), fields)?;
     let shape = shape(alloc, rounded, headings.shape, fields)?;
-    fitting(
+    fitting_row(
         schema,
         table,
         LayerRow {

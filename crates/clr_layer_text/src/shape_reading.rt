@@ -29,7 +29,7 @@ fn inside_brackets(text: &str) -> Result<&str, LayerFault>
 }
 
 /// Returns what stands before a text's end in parentheses, if it isn't followed by another part.
-fn single(text: &str) -> Result<&str, LayerFault>
+fn rest_behind_one_part(text: &str) -> Result<&str, LayerFault>
     ensures { Gives layer_lacks_memory (λ inside. inside.now) result (single_of text.now) }
 {
     if contains_byte(text, b',') {
@@ -41,11 +41,11 @@ fn single(text: &str) -> Result<&str, LayerFault>
 /// Returns the one part in parentheses of its own, of what stands before its `(` and behind it. Fails with
 /// `SeveralParts` where a comma stands behind its `)`, and with `NotWkt` where other bytes stand around it.
 #[tactic(auto, unfolding(crate::specs::Wkt::inner_of))]
-fn inner<'a>(before: &str, behind: &'a str) -> Result<&'a str, LayerFault>
+fn text_in_one_part<'a>(before: &str, behind: &'a str) -> Result<&'a str, LayerFault>
     ensures { Gives layer_lacks_memory (λ inside. inside.now) result (inner_of before.now behind.now) }
 {
     let (inside, tail) = cut(behind, ')').ok_or(LayerFault::NotWkt)?;
-    let rest = single(tail)?;
+    let rest = rest_behind_one_part(tail)?;
     if is_blank(before) && is_blank(rest) {
         Ok(inside)
     } else {
@@ -59,8 +59,8 @@ fn one_part(text: &str) -> Result<&str, LayerFault>
     ensures { Gives layer_lacks_memory (λ inside. inside.now) result (one_part (cut_of opening text.now) text.now) }
 {
     match cut(text, '(') {
-        None => single(text),
-        Some((before, behind)) => inner(before, behind),
+        None => rest_behind_one_part(text),
+        Some((before, behind)) => text_in_one_part(before, behind),
     }
 }
 

@@ -1,9 +1,9 @@
 //! Lines of replies, reports and verdicts.
 //!
 //! - `reply_line`, `rows_lines`, `changes_lines`, `conflicts_lines`, `audit_lines`,
-//!   `unheld_line` and `verdict_line` each give the exact bytes, memory aside. `verdict_line` is for the
-//!   verdict on a certificate or of a plan; it has the names of members and cells. `row_fault_word` is the name
-//!   of a row's fault.
+//!   `unheld_line`, `verdict_line` and `unfit_line` each give the exact bytes, memory aside. `verdict_line` is for the
+//!   verdict on a certificate or of a plan; it has the names of members and cells. `unfit_line` is for
+//!   members that fail a test. `row_fault_word` is the name of a row's fault.
 //! - `add_cell`, `add_need` and `add_workspace` [`ok`, `begun`], and `add_count` [`ok`, `err`],
 //!   add their bytes to a line or to lines. If memory runs out, what stood there still stands there, and behind it at
 //!   most a beginning of these bytes; of a count, nothing.
@@ -22,4 +22,4 @@ pub use report_lines::{
     add_workspace, audit_lines, changes_lines, conflicts_lines, count_line, unheld_line,
 };
 pub use row_lines::rows_lines;
-pub use verdict_lines::{member_name, verdict_line};
+pub use verdict_lines::{member_name, unfit_line, verdict_line};

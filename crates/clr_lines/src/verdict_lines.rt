@@ -1,6 +1,6 @@
 //! The lines of verdicts.
 
-ghost use Rattle.std.specs.Prelude.{◌≡◌, map, IfOk};
+ghost use Rattle.std.specs.Prelude.{◌≡◌, ◌++◌, codes, map, IfOk};
 ghost use Rattle.clr_lines.specs.Verdicts.{conflict_text, member_name as name_of_member, name_text, shared_text, uncovered_text, verdict_text};
 
 use crate::needs::add_need_of_versions;
@@ -126,4 +126,20 @@ pub fn verdict_line(
         Verdict::Uncovered(need) => uncovered_line(alloc, schema, &need),
         Verdict::NotKept => name_line(alloc, "7 NotKept ", root),
     }
+}
+
+/// Returns the line that says why members of a root are unfit, ended by `\n`: `unfit`, and then what `verdict_line` writes of the verdict.
+pub fn unfit_line(
+    alloc: Global,
+    schema: &Schema,
+    members: &[&str],
+    root: &str,
+    verdict: &Verdict,
+) -> Result<Vec<u8>, AllocError>
+    ensures { IfOk result (λ line. line.items ≡ codes "unfit " ++ verdict_text schema.now (map (λ name. name.now) members.now) root.now verdict.now) }
+{
+    let mut line = Vec::from_slice(alloc, b"unfit ")?;
+    let verdict = verdict_line(alloc, schema, members, root, verdict)?;
+    line.extend_from_slice(verdict.as_slice())?;
+    Ok(line)
 }

@@ -106,7 +106,12 @@ pub fn names_text(field: Field<'_>) -> Result<String, AllocError>
 }
 
 /// Returns a text, cut behind as many characters as there is room for.
-fn fitting(alloc: Global, text: &str, size: Pixels, room: Pixels) -> Result<String, AllocError> {
+fn text_that_fits(
+    alloc: Global,
+    text: &str,
+    size: Pixels,
+    room: Pixels,
+) -> Result<String, AllocError> {
     if words_width(text, size) <= room {
         return String::from_str(alloc, text);
     }
@@ -135,7 +140,7 @@ pub fn add_heading(
         x: start,
         y: Pixels::whole(46),
     };
-    let names = fitting(alloc, names, Pixels::whole(17), right - start)?;
+    let names = text_that_fits(alloc, names, Pixels::whole(17), right - start)?;
     sketch.add_words(
         names.as_str(),
         at,
@@ -145,7 +150,7 @@ pub fn add_heading(
         Weight::Plain,
     )?;
     let size = Pixels::of_tenths(155);
-    let sentence = fitting(alloc, sentence, size, right - LEFT)?;
+    let sentence = text_that_fits(alloc, sentence, size, right - LEFT)?;
     let at = Spot {
         x: LEFT,
         y: Pixels::whole(78),

@@ -43,7 +43,7 @@ fn on_pixels(spot: Spot) -> Spot {
 }
 
 /// Returns the steps of a path moved to whole pixels, without the lines that then have no length.
-fn coarse(alloc: Global, steps: &[Step]) -> Result<Vec<Step>, AllocError> {
+fn coarse_steps(alloc: Global, steps: &[Step]) -> Result<Vec<Step>, AllocError> {
     let mut coarse = Vec::new(alloc);
     let mut last = None;
     for step in steps {
@@ -69,7 +69,7 @@ fn add_rows(sketch: &mut Sketch, scene: &Scene<'_>, view: &View) -> Result<(), A
     for (_, row) in scene.field.rows.iter() {
         add_shape(&mut steps, view, &row.shape)?;
     }
-    let steps = coarse(alloc, steps.as_slice())?;
+    let steps = coarse_steps(alloc, steps.as_slice())?;
     sketch.add_path(steps, Ink::of_line(PLAIN, Pixels::of_tenths(6)))
 }
 

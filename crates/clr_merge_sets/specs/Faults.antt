@@ -1,5 +1,8 @@
--- Why the parts of a merge set aren't read: a test of members that fails, or want of memory where no test of names fails.
+-- Why the parts of a merge set aren't read: a test of members that fails, or want of memory where no test of names fails; and the verdict where they
+-- make no scene.
 use Rattle.std.specs.Prelude.{◌≡◌, Some, None}
+use Rattle.clr_needs.specs.declared.faults.SceneFault.{SceneFault}
+use Rattle.clr_needs.specs.declared.faults.SceneFault.TheVariants as scene
 use Rattle.clr_steps.specs.Offices.{Office}
 use Rattle.clr_steps.specs.Quiet.{MergeSet}
 use Rattle.clr_clearance.specs.declared.verdicts.Verdict.{Verdict}
@@ -10,3 +13,8 @@ use Rattle.clr_clearance.specs.Verdicts.{member_fault, names_fault}
 pub data IsMergeSetFault (o : Office) (s : MergeSet) (v : Verdict) : Type 0 where
   of_member : member_fault o s ≡ Some v → IsMergeSetFault o s v
   without_memory : names_fault o s ≡ None → v ≡ verdict.OutOfMemory → IsMergeSetFault o s v
+
+-- what is said where change sets make no scene
+abbrev pub verdict_of : SceneFault → Verdict
+verdict_of (scene.SharedCell cell first second) = verdict.SharedCell cell first second
+verdict_of scene.OutOfMemory = verdict.OutOfMemory

@@ -8,7 +8,7 @@
 //!   fails, the rows of the root, which aren't copied, and what each member changed; else the first
 //!   test that fails, or want of memory where no test of names does.
 //! - `MergeSetParts::scene` [`scene`, `shared`]: the scene of those rows and changes, or the least cell
-//!   that two members change, or want of memory.
+//!   that two members change, or want of memory. `verdict_of` gives such a fault as a verdict.
 #![tactic(auto)]
 
 mod merge_set_parts;
@@ -16,8 +16,10 @@ mod merge_sets;
 mod name_lists;
 mod name_tests;
 mod repeats;
+mod scene_faults;
 
 pub use merge_set_parts::MergeSetParts;
 pub use merge_sets::read_merge_set;
 pub use name_lists::NameList;
 pub use name_tests::name_fault;
+pub use scene_faults::verdict_of;

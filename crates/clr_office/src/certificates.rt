@@ -9,7 +9,7 @@ use crate::disposals::Disposal;
 use clr_cert::Certificate;
 use clr_check::{CaseFault, Verdict, judge_texts};
 use clr_lines::verdict_line;
-use clr_reports::{Output, RunFault, texts, unheld_output};
+use clr_reports::{Output, RunFault, texts_of_names, unheld_output};
 use clr_rows::Schema;
 use std::alloc::{AllocError, Global};
 
@@ -42,7 +42,7 @@ pub fn verdict_output(
     ensures refused { IfOk result (λ o. o.refused ≡ not (is_clear_verdict verdict.now)) }
     ensures lost { IfOk result (λ o. o.lost ≡ is_lost_verdict verdict.now) }
 {
-    let members = texts(alloc, certificate.members.as_slice())?;
+    let members = texts_of_names(alloc, certificate.members.as_slice())?;
     let root = certificate.root.as_str();
     Ok(Output {
         lines: verdict_line(alloc, schema, members.as_slice(), root, verdict)?,

@@ -38,7 +38,7 @@
 //! - For other programs: the lines of parts, `verdict_output`, `fault_output`, `replies_output` and
 //!   `stop_output`, by which what such a program prints is the same, and `merge_commands`. What is
 //!   printed of an office without its plans is in `clr_reports`, of which `open_office`, `dump_text`,
-//!   `texts`, `read_input`, `Output` and `RunFault` are handed on.
+//!   `texts_of_names`, `read_input`, `Output` and `RunFault` are handed on.
 //! - `Source`, `Sink`, `Text`, `Page` and `Port`, what a run reads from and writes to, are those of
 //!   `clr_devices`.
 #![tactic(auto)]
@@ -63,7 +63,7 @@ pub use clr_drafts::TextFault;
 pub use clr_needs::{Need, VersionId};
 pub use clr_plan::Plan;
 pub use clr_reports::{
-    MOST_INPUT_BYTES, Output, RunFault, dump_text, open_office, read_input, texts,
+    MOST_INPUT_BYTES, Output, RunFault, dump_text, open_office, read_input, texts_of_names,
 };
 pub use clr_rows::{CellId, Names, Words};
 pub use clr_rules::Broken;

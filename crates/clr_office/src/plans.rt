@@ -6,7 +6,7 @@ ghost use Rattle.clr_reports.specs.Outcomes.{outcome_of};
 
 use clr_engine::Office;
 use clr_plan::{plan, plan_lines};
-use clr_reports::{Output, texts};
+use clr_reports::{Output, texts_of_names};
 use clr_rows::Words;
 use std::alloc::{AllocError, Global};
 
@@ -20,7 +20,7 @@ pub fn plan_output(
 ) -> Result<Output, AllocError>
     ensures { IfOk result (λ o. IsPlanOutcome office.now (merge_set root.now names.now) (outcome_of o office.now)) }
 {
-    let members = texts(alloc, names)?;
+    let members = texts_of_names(alloc, names)?;
     let plan = plan(alloc, office, root, members.as_slice());
     let lines = plan_lines(alloc, office.schema(), members.as_slice(), root, &plan)?;
     Ok(Output {

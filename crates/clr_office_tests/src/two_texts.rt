@@ -44,7 +44,7 @@ fn main(key: i64) -> CellId {
     CellId { table: 1, key }
 }
 
-fn old(key: i64) -> VersionId {
+fn old_main(key: i64) -> VersionId {
     VersionId {
         cell: main(key),
         fresh: false,
@@ -53,7 +53,7 @@ fn old(key: i64) -> VersionId {
 
 /// Returns the verdict that nothing covers the crossing of the mains.
 fn no_cover() -> Checked {
-    let need = Need::new(Ask::plain(1), old(1), Some(old(2)));
+    let need = Need::new(Ask::plain(1), old_main(1), Some(old_main(2)));
     Checked::Answer(Verdict::Uncovered(need))
 }
 

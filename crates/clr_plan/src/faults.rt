@@ -11,6 +11,7 @@ ghost use Rattle.clr_plan.specs.Plans.{IsBlockedIn, IsPlan};
 
 use crate::plans::Plan;
 use clr_clearance::Verdict;
+use clr_merge_sets::verdict_of;
 use clr_needs::SceneFault;
 use std::alloc::Global;
 
@@ -55,21 +56,10 @@ pub(crate) fn plan_shared(alloc: Global, fault: SceneFault) -> Plan
 {
     match fault {
         SceneFault::OutOfMemory => Plan::OutOfMemory,
-        SceneFault::SharedCell {
-            cell,
-            first,
-            second,
-        } => {
-            let (first, second) = (first as usize, second as usize);
-            blocked_plan(
-                alloc,
-                &[first, second],
-                Verdict::SharedCell {
-                    cell,
-                    first,
-                    second,
-                },
-            )
-        }
+        SceneFault::SharedCell { first, second, .. } => blocked_plan(
+            alloc,
+            &[first as usize, second as usize],
+            verdict_of(fault),
+        ),
     }
 }

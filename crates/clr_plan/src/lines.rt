@@ -1,13 +1,12 @@
 //! The lines of plans.
 
-ghost use Rattle.std.specs.Prelude.{◌≡◌, ◌++◌, codes, map, IfOk, OnOk};
-ghost use Rattle.clr_lines.specs.Verdicts.{verdict_text};
+ghost use Rattle.std.specs.Prelude.{◌≡◌, ◌++◌, map, IfOk, OnOk};
 ghost use Rattle.clr_plan.specs.PlanLines.{blocked_text, cleared_text, order_name, order_text, plan_text};
 
 use crate::plans::Plan;
 use clr_cert::{Certificate, write_certificate};
 use clr_clearance::Verdict;
-use clr_lines::{add_count, count_line, member_name, verdict_line};
+use clr_lines::{add_count, count_line, member_name, unfit_line, verdict_line};
 use clr_rows::Schema;
 use std::alloc::{AllocError, Global};
 
@@ -46,23 +45,7 @@ fn order_line(alloc: Global, members: &[&str], order: &[usize]) -> Result<Vec<u8
     Ok(line)
 }
 
-/// Adds a word and the line of a verdict.
-fn add_verdict(
-    lines: &mut Vec<u8>,
-    alloc: Global,
-    schema: &Schema,
-    members: &[&str],
-    root: &str,
-    word: &str,
-    verdict: &Verdict,
-) -> Result<(), AllocError>
-    ensures { OnOk result (lines.new.items ≡ lines.old.items ++ word.now ++ verdict_text schema.now (map (λ name. name.now) members.now) root.now verdict.now) }
-{
-    lines.extend_from_slice(word.as_bytes())?;
-    let line = verdict_line(alloc, schema, members, root, verdict)?;
-    lines.extend_from_slice(line.as_slice())
-}
-
+/// Returns the lines of a plan that is blocked: the order, and the verdict that is its cause.
 fn blocked_lines(
     alloc: Global,
     schema: &Schema,
@@ -74,22 +57,10 @@ fn blocked_lines(
     ensures { IfOk result (λ lines. lines.items ≡ blocked_text schema.now (map (λ name. name.now) members.now) root.now order.now cause.now) }
 {
     let mut lines = order_line(alloc, members, order)?;
-    add_verdict(&mut lines, alloc, schema, members, root, "cause ", cause)?;
+    let line = verdict_line(alloc, schema, members, root, cause)?;
+    lines.extend_from_slice(b"cause ")?;
+    lines.extend_from_slice(line.as_slice())?;
     Ok(lines)
-}
-
-fn unfit_line(
-    alloc: Global,
-    schema: &Schema,
-    members: &[&str],
-    root: &str,
-    verdict: &Verdict,
-) -> Result<Vec<u8>, AllocError>
-    ensures { IfOk result (λ line. line.items ≡ codes "unfit " ++ verdict_text schema.now (map (λ name. name.now) members.now) root.now verdict.now) }
-{
-    let mut line = Vec::new(alloc);
-    add_verdict(&mut line, alloc, schema, members, root, "unfit ", verdict)?;
-    Ok(line)
 }
 
 /// Returns the lines of a plan of members of a root, each ended by `\n`. Of a certificate they are

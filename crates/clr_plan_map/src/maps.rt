@@ -47,7 +47,7 @@ fn paper(scene: &Scene<'_>, height: Pixels) -> Result<Layer, AllocError> {
 }
 
 /// Returns what is seen through the window of the map.
-fn inner(scene: &Scene<'_>) -> Result<Layer, AllocError> {
+fn inner_layer(scene: &Scene<'_>) -> Result<Layer, AllocError> {
     let mut sketch = Sketch::new(scene.field.alloc);
     if has_frames(scene) {
         add_grounds(&mut sketch, scene)?;
@@ -70,7 +70,7 @@ fn inner(scene: &Scene<'_>) -> Result<Layer, AllocError> {
 }
 
 /// Returns what stands over the map and round it, and below the legend, which goes this far down.
-fn outer(
+fn outer_layer(
     scene: &Scene<'_>,
     plan: &Plan,
     names: &str,
@@ -93,9 +93,9 @@ fn drawn_with(field: Field<'_>, plan: &Plan, cause: Option<&Cause>) -> Result<Dr
     let sentence = plan_sentence(field, plan)?;
     let mut layers = Vec::with_capacity(field.alloc, 4)?;
     layers.push(paper(&scene, height)?)?;
-    layers.push(inner(&scene)?)?;
+    layers.push(inner_layer(&scene)?)?;
     let (legend, down) = legend_of(&scene)?;
-    layers.push(outer(&scene, plan, names.as_str(), sentence.as_str(), down)?)?;
+    layers.push(outer_layer(&scene, plan, names.as_str(), sentence.as_str(), down)?)?;
     layers.push(legend)?;
     Ok(Drawn {
         height,

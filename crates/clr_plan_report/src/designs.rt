@@ -1,6 +1,6 @@
 //! What each design changes.
 
-use crate::sections::{Builder, plain, row_of, table_of};
+use crate::sections::{Builder, plain_text, row_of, table_of};
 use clr_change::ChangeSet;
 use clr_drawing::design_colours;
 use clr_html::{Block, Fold, Row as TableRow, Table, Text};
@@ -76,7 +76,7 @@ fn changes_table(setting: Setting<'_>, set: &ChangeSet) -> Result<Table, AllocEr
         let rest = set.len() - MOST_ROWS;
         let words = format!(in setting.alloc; "and {rest} more")?;
         let mut cells = Vec::new(setting.alloc);
-        cells.push(plain(setting.alloc, words.as_str())?)?;
+        cells.push(plain_text(setting.alloc, words.as_str())?)?;
         table.rows.push(TableRow { cells })?;
     }
     Ok(table)

@@ -11,12 +11,12 @@ pub(crate) struct Builder {
 }
 
 /// Returns a plain text.
-pub(crate) fn plain(alloc: Global, words: &str) -> Result<Text, AllocError> {
+pub(crate) fn plain_text(alloc: Global, words: &str) -> Result<Text, AllocError> {
     Ok(Text::Plain(Vec::from_slice(alloc, words.as_bytes())?))
 }
 
 /// Returns a text in bold letters.
-pub(crate) fn strong(alloc: Global, words: &str) -> Result<Text, AllocError> {
+pub(crate) fn strong_text(alloc: Global, words: &str) -> Result<Text, AllocError> {
     Ok(Text::Strong(Vec::from_slice(alloc, words.as_bytes())?))
 }
 
@@ -24,7 +24,7 @@ pub(crate) fn strong(alloc: Global, words: &str) -> Result<Text, AllocError> {
 pub(crate) fn table_of(alloc: Global, heads: &[&str]) -> Result<Table, AllocError> {
     let mut texts = Vec::with_capacity(alloc, heads.len())?;
     for head in heads {
-        texts.push(plain(alloc, head)?)?;
+        texts.push(plain_text(alloc, head)?)?;
     }
     Ok(Table {
         heads: texts,
@@ -37,9 +37,9 @@ pub(crate) fn row_of(alloc: Global, cells: &[&str]) -> Result<Row, AllocError> {
     let mut texts = Vec::with_capacity(alloc, cells.len())?;
     for (at, cell) in cells.iter().enumerate() {
         let text = if at == 0 {
-            strong(alloc, cell)?
+            strong_text(alloc, cell)?
         } else {
-            plain(alloc, cell)?
+            plain_text(alloc, cell)?
         };
         texts.push(text)?;
     }
@@ -66,7 +66,7 @@ impl Builder {
         if words.is_empty() {
             return Ok(());
         }
-        let text = plain(self.alloc, words)?;
+        let text = plain_text(self.alloc, words)?;
         self.add(Block::Paragraph(text))
     }
 

@@ -13,7 +13,7 @@ use crate::plans::{plan_members, print_of_plan_text};
 use crate::prints::{Print, notes_of};
 use crate::systems::{print_of_no_system, system_of};
 use clr_engine::Office;
-use clr_office::{RunFault, Words, open_office, texts};
+use clr_office::{RunFault, Words, open_office, texts_of_names};
 use clr_plan_features::plan_features;
 use std::alloc::{AllocError, Global};
 
@@ -27,7 +27,7 @@ fn print_of_members(
 ) -> Result<Print, AllocError>
     ensures { IfOk result (λ p. IsFeaturesPrint (merge_set root.now names.now) system office.now (printed p)) }
 {
-    let members = texts(alloc, names)?;
+    let members = texts_of_names(alloc, names)?;
     let plan = plan_members(alloc, office, root, members.as_slice());
     let text = plan_features(alloc, office, root, members.as_slice(), &plan, system)?;
     Ok(print_of_plan_text(alloc, text, &plan))

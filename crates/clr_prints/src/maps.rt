@@ -10,7 +10,7 @@ use crate::name_hints::with_hints;
 use crate::plans::{plan_members, print_of_plan_text};
 use crate::prints::{Print, notes_of};
 use clr_engine::Office;
-use clr_office::{RunFault, Words, open_office, texts};
+use clr_office::{RunFault, Words, open_office, texts_of_names};
 use clr_plan_map::plan_map;
 use std::alloc::{AllocError, Global};
 
@@ -23,7 +23,7 @@ fn print_of_members(
 ) -> Result<Print, AllocError>
     ensures { IfOk result (λ p. IsMapPrint (merge_set root.now names.now) office.now (printed p)) }
 {
-    let members = texts(alloc, names)?;
+    let members = texts_of_names(alloc, names)?;
     let plan = plan_members(alloc, office, root, members.as_slice());
     let text = plan_map(alloc, office, root, members.as_slice(), &plan)?;
     Ok(print_of_plan_text(alloc, text, &plan))

@@ -7,7 +7,8 @@
 
 use clr_office::{Ask, AskFault, Disposal, Port, RunFault, Words, answer, ask_of, run_office};
 use clr_reports::{
-    BAD_WORDS, has_words, read_files, refuse, refuse_words, text_at, texts_of_words, words,
+    BAD_WORDS, has_words, print_fault, print_parser_message, read_files, text_at, texts_of_words,
+    words,
 };
 use std::io::ErrorKind;
 use std::process::ExitCode;
@@ -32,7 +33,7 @@ fn run_words(rt: &HostRuntime, words: &[String]) -> Result<u8, RunFault> {
     let texts = texts_of_words(rt, words)?;
     match ask_of(rt.alloc(), texts.as_slice()) {
         Ok((ask, files)) => answer_files(rt, &ask, files.as_slice()),
-        Err(AskFault::Refused(error)) => Ok(refuse_words(rt, &error)),
+        Err(AskFault::Refused(error)) => Ok(print_parser_message(rt, &error)),
         Err(AskFault::OutOfMemory) => Err(RunFault::OutOfMemory),
     }
 }
@@ -57,7 +58,7 @@ fn main(rt: HostRuntime) -> ExitCode {
     };
     let status = match ended {
         Ok(status) => status,
-        Err(fault) => refuse(&rt, fault),
+        Err(fault) => print_fault(&rt, fault),
     };
     ExitCode::from(status)
 }

@@ -1,3 +1,4 @@
 pub mod Decimals
 pub mod Records
+pub mod Values
 pub mod Writing

@@ -7,7 +7,7 @@ ghost use Rattle.clr_reports.specs.Outcomes.{IsIndependenceOutcome, has_dependen
 use crate::independent_members::{Independence, independence_of};
 use crate::lines_of_pairs::lines_of_independence;
 use crate::member_pairs::Pair;
-use crate::name_texts::texts;
+use crate::name_texts::texts_of_names;
 use crate::outputs::Output;
 use clr_engine::Office;
 use clr_rows::Words;
@@ -40,7 +40,7 @@ pub fn independence_output(
 ) -> Result<Output, AllocError>
     ensures { IfOk result (λ o. IsIndependenceOutcome office.now (merge_set root.now names.now) (outcome_of o office.now)) }
 {
-    let members = texts(alloc, names)?;
+    let members = texts_of_names(alloc, names)?;
     let said = independence_of(alloc, office, root, members.as_slice())?;
     let lines = lines_of_independence(alloc, office.schema(), members.as_slice(), root, &said)?;
     Ok(Output {

@@ -14,7 +14,7 @@ ghost use Rattle.clr_reports.specs.Independences.{IsIndependenceOf};
 use crate::member_pairs::{Pair, pairs};
 use clr_clearance::Verdict;
 use clr_engine::Office;
-use clr_merge_sets::{MergeSetParts, read_merge_set};
+use clr_merge_sets::{MergeSetParts, read_merge_set, verdict_of};
 use clr_needs::SceneFault;
 use std::alloc::{AllocError, Global};
 
@@ -44,18 +44,7 @@ fn of_shared(fault: SceneFault) -> Result<Independence, AllocError>
 {
     match fault {
         SceneFault::OutOfMemory => Err(AllocError),
-        SceneFault::SharedCell {
-            cell,
-            first,
-            second,
-        } => {
-            let (first, second) = (first as usize, second as usize);
-            Ok(Independence::Unfit(Verdict::SharedCell {
-                cell,
-                first,
-                second,
-            }))
-        }
+        fault => Ok(Independence::Unfit(verdict_of(fault))),
     }
 }
 

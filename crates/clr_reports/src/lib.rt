@@ -13,14 +13,14 @@
 //!   place; `draft_of` one in which rules may not hold, and `unheld_output` the line of a rule that
 //!   doesn't.
 //! - `read_input` [`whole`, `good`, `fault`] reads a whole input. `RunFault` says why a run ends without
-//!   an exit status. `texts` are the texts of names.
+//!   an exit status. `texts_of_names` are the texts of names.
 //!
 //! What programs share of the command line and of standard error:
 //!
 //! - `words`, `has_words`: the words of the command line; no contract says what they are. `texts_of_words`:
 //!   exactly these as texts. `read_files` [`each`, `within`]: one text for each file, none too long;
 //!   `text_at`: that at a position.
-//! - `refuse`, `refuse_words` [`either`, `bad`]: the exit status. What is printed, and what a file holds, no contract says.
+//! - `print_fault`, `print_parser_message` [`either`, `bad`]: the exit status. What is printed, and what a file holds, no contract says.
 //!
 //! The crate also tells, pair by pair, which members of a root are independent: those of which no possible need
 //! involves both.
@@ -54,11 +54,11 @@ pub use independences::independence_output;
 pub use independent_members::{Independence, independence_of};
 pub use lines_of_pairs::independence_lines;
 pub use member_pairs::Pair;
-pub use name_texts::texts;
+pub use name_texts::texts_of_names;
 pub use offices::{draft_of, open_office, unheld_output};
 pub use outputs::Output;
 pub use reading::{MOST_INPUT_BYTES, read_input};
-pub use refusals::{BAD_WORDS, refuse, refuse_words};
+pub use refusals::{BAD_WORDS, print_fault, print_parser_message};
 pub use replies::reply_output;
 pub use reports::{
     audit_output, changes_output, conflicts_output, dump_output, dump_text, rows_output,

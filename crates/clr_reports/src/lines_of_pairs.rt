@@ -1,16 +1,14 @@
 //! The lines of the independence of members.
 
-ghost use Rattle.std.specs.Prelude.{◌≡◌, ◌++◌, codes, map, IfOk, OnOk};
+ghost use Rattle.std.specs.Prelude.{◌≡◌, ◌++◌, map, IfOk, OnOk};
 ghost use Rattle.std.specs.List.{flat_map};
 ghost use Rattle.clr_merge_sets.specs.MergeSetNames.{merge_set};
-ghost use Rattle.clr_lines.specs.Verdicts.{verdict_text};
 ghost use Rattle.clr_reports.specs.IndependenceLines.{AreIndependenceLines, independence_line, independence_text};
 
 use crate::independent_members::{Independence, independence_of};
 use crate::member_pairs::Pair;
-use clr_clearance::Verdict;
 use clr_engine::Office;
-use clr_lines::{member_name, verdict_line};
+use clr_lines::{member_name, unfit_line};
 use clr_rows::Schema;
 use std::alloc::{AllocError, Global};
 
@@ -39,22 +37,6 @@ fn pair_lines(alloc: Global, members: &[&str], pairs: &[Pair]) -> Result<Vec<u8>
         add_pair(&mut lines, members, *pair)?;
     }
     Ok(lines)
-}
-
-/// Returns the line of members that are unfit.
-fn unfit_line(
-    alloc: Global,
-    schema: &Schema,
-    members: &[&str],
-    root: &str,
-    verdict: &Verdict,
-) -> Result<Vec<u8>, AllocError>
-    ensures { IfOk result (λ line. line.items ≡ codes "unfit " ++ verdict_text schema.now (map (λ name. name.now) members.now) root.now verdict.now) }
-{
-    let mut line = Vec::from_slice(alloc, b"unfit ")?;
-    let verdict = verdict_line(alloc, schema, members, root, verdict)?;
-    line.extend_from_slice(verdict.as_slice())?;
-    Ok(line)
 }
 
 /// Returns the lines of the independence of members, each ended by `\n`: for each pair

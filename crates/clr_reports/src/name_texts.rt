@@ -5,7 +5,7 @@ use clr_rows::Words;
 use std::alloc::{AllocError, Global};
 
 /// Returns the texts of names.
-pub fn texts<'a>(alloc: Global, names: &'a [Words]) -> Result<Vec<&'a str>, AllocError>
+pub fn texts_of_names<'a>(alloc: Global, names: &'a [Words]) -> Result<Vec<&'a str>, AllocError>
     ensures { IfOk result (λ texts. map (λ text. text.now) texts.items ≡ names.entry.now) }
 {
     let mut texts = Vec::with_capacity(alloc, names.len())?;

@@ -12,7 +12,7 @@ pub const BAD_WORDS: u8 = 2;
 
 /// Prints a fault's line on standard error, and gives its exit status. A line that can't be printed
 /// changes nothing.
-pub fn refuse(rt: &HostRuntime, fault: RunFault) -> u8
+pub fn print_fault(rt: &HostRuntime, fault: RunFault) -> u8
     ensures { result ≡ exit_status fault }
 {
     let _ = eprintln!(rt; "{fault}");
@@ -21,7 +21,7 @@ pub fn refuse(rt: &HostRuntime, fault: RunFault) -> u8
 
 /// Prints what the parser of the command line says, and gives the exit status: 0 where it is help or a
 /// version and is printed, and otherwise 2.
-pub fn refuse_words(rt: &HostRuntime, error: &clap::Error) -> u8
+pub fn print_parser_message(rt: &HostRuntime, error: &clap::Error) -> u8
     ensures either { (result ≡ 0) ⊎ (result ≡ BAD_WORDS) }
     ensures bad { kind_of error.now ≢ ErrorKind.DisplayHelp → kind_of error.now ≢ ErrorKind.DisplayVersion → result ≡ BAD_WORDS }
 {

@@ -66,7 +66,7 @@ fn count_text(alloc: Global, spots: &Spots) -> Option<String> {
 }
 
 /// Returns what two orders of subjects are answered alike.
-fn alike(first: bool, second: bool) -> Option<bool> {
+fn answer_of_both(first: bool, second: bool) -> Option<bool> {
     if first == second { Some(first) } else { None }
 }
 
@@ -75,12 +75,12 @@ fn alike(first: bool, second: bool) -> Option<bool> {
 fn is_so(rule: &OneRule, word: &str, parts: Parts, rows: &[RowAt]) -> Option<bool> {
     let (m, n) = parts;
     match (word, rows) {
-        ("calls", [one, other]) => alike(
+        ("calls", [one, other]) => answer_of_both(
             rule.calls_two((m, n), one, other)?,
             rule.calls_two((n, m), other, one)?,
         ),
         ("serves", [one, server]) => rule.serves_one((m, n), one, server),
-        ("serves", [one, other, server]) => alike(
+        ("serves", [one, other, server]) => answer_of_both(
             rule.serves_two((m, n), one, other, server)?,
             rule.serves_two((n, m), other, one, server)?,
         ),

@@ -11,7 +11,7 @@ use clr_spots::{Spots, spots_of};
 use std::alloc::Global;
 
 impl RowAt {
-    fn held(&self) -> Held
+    fn as_held(&self) -> Held
         ensures cell { result.cell ≡ self.now.cell }
         ensures row { result.row.now ≡ self.now.row }
     {
@@ -58,26 +58,29 @@ impl OneRule {
     /// Returns the spots of a row.
     pub(crate) fn spots_of(&self, alloc: Global, row: &RowAt) -> Option<Spots> {
         self.schema.fits(row.cell, &row.row).ok()?;
-        spots_of(alloc, &self.book, 0, row.held()).ok()
+        spots_of(alloc, &self.book, 0, row.as_held()).ok()
     }
 
     /// Returns how many parts of a row the rule is asked of.
     pub(crate) fn part_count(&self, row: &RowAt) -> Option<u16> {
         self.schema.fits(row.cell, &row.row).ok()?;
-        Some(self.book.part_count(0, row.held()))
+        Some(self.book.part_count(0, row.as_held()))
     }
 
     /// Returns whether a row alone calls the rule.
     pub(crate) fn calls_one(&self, row: &RowAt) -> Option<bool> {
         self.schema.fits(row.cell, &row.row).ok()?;
-        Some(self.book.calls_one(0, row.held()))
+        Some(self.book.calls_one(0, row.as_held()))
     }
 
     /// Returns whether these parts of two rows call the rule.
     pub(crate) fn calls_two(&self, parts: Parts, first: &RowAt, second: &RowAt) -> Option<bool> {
         self.schema.fits(first.cell, &first.row).ok()?;
         self.schema.fits(second.cell, &second.row).ok()?;
-        Some(self.book.calls_two(ask(parts), first.held(), second.held()))
+        Some(
+            self.book
+                .calls_two(ask(parts), first.as_held(), second.as_held()),
+        )
     }
 
     /// Returns whether a row serves one row where these numbers of parts are asked.
@@ -86,7 +89,7 @@ impl OneRule {
         self.schema.fits(server.cell, &server.row).ok()?;
         Some(
             self.book
-                .serves(ask(parts), first.held(), None, server.held()),
+                .serves(ask(parts), first.as_held(), None, server.as_held()),
         )
     }
 
@@ -101,10 +104,10 @@ impl OneRule {
         self.schema.fits(first.cell, &first.row).ok()?;
         self.schema.fits(second.cell, &second.row).ok()?;
         self.schema.fits(server.cell, &server.row).ok()?;
-        let second = Some(second.held());
+        let second = Some(second.as_held());
         Some(
             self.book
-                .serves(ask(parts), first.held(), second, server.held()),
+                .serves(ask(parts), first.as_held(), second, server.as_held()),
         )
     }
 }

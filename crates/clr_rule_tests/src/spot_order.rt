@@ -26,7 +26,7 @@ fn spot(alloc: Global, text: &str) -> Option<Spot> {
     }
 }
 
-fn ascending(alloc: Global) -> Option<Vec<Spot>> {
+fn ascending_spots(alloc: Global) -> Option<Vec<Spot>> {
     let mut spots = Vec::new(alloc);
     for line in ASCENDING.lines() {
         spots.push(spot(alloc, line)?).ok()?;
@@ -44,7 +44,7 @@ fn are_in_order(spots: &[Spot], i: usize, j: usize) -> Option<bool> {
 
 /// Returns whether all spots are in ascending order.
 fn ascend(alloc: Global) -> Option<bool> {
-    let spots = ascending(alloc)?;
+    let spots = ascending_spots(alloc)?;
     let mut all = spots.len() == 12;
     for i in 0..spots.len() {
         for j in 0..spots.len() {
@@ -73,7 +73,7 @@ fn positions(alloc: Global) -> Option<BTreeMap<Spot, usize>> {
 fn are_keys(alloc: Global) -> Option<bool> {
     let map = positions(alloc)?;
     let mut all = map.len() == 12;
-    for (i, spot) in ascending(alloc)?.iter().enumerate() {
+    for (i, spot) in ascending_spots(alloc)?.iter().enumerate() {
         all = map.get(spot) == Some(&i) && all;
     }
     Some(all)

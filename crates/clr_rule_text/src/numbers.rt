@@ -15,7 +15,7 @@ fn has_minus(bytes: &[u8]) -> bool
 }
 
 /// Returns no whole number, where the nearest float is one, and none where it is too large.
-fn nearest(negative: bool, numeral: &Numeral<'_>) -> Option<Option<i64>>
+fn of_nearest_float(negative: bool, numeral: &Numeral<'_>) -> Option<Option<i64>>
     ensures { result ≡ option_map as_i64 (float_of negative numeral.now) }
 {
     if numeral.to_float::<f64>(negative).is_finite() {
@@ -25,7 +25,7 @@ fn nearest(negative: bool, numeral: &Numeral<'_>) -> Option<Option<i64>>
     }
 }
 
-fn signed(number: u64) -> Option<i64>
+fn as_signed(number: u64) -> Option<i64>
     ensures { result ≡ as_i64 (unsigned number) }
 {
     if number <= i64::MAX as u64 {
@@ -39,8 +39,8 @@ fn number_above(numeral: &Numeral<'_>) -> Option<Option<i64>>
     ensures { result ≡ option_map as_i64 (number_from false numeral.now) }
 {
     match numeral.to_u64() {
-        Some(number) => Some(signed(number)),
-        None => nearest(false, numeral),
+        Some(number) => Some(as_signed(number)),
+        None => of_nearest_float(false, numeral),
     }
 }
 
@@ -52,7 +52,7 @@ fn number_below(numeral: &Numeral<'_>) -> Option<Option<i64>>
             return Some(Some(number));
         }
     }
-    nearest(true, numeral)
+    of_nearest_float(true, numeral)
 }
 
 /// Returns of a number, as it is written, the whole number of 64 bits that it is, or that it is

@@ -1,5 +1,5 @@
 use Rattle.clr_lines.specs.Rows.{value_field}
-use Rattle.clr_designs.specs.ReadBack.{IsText}
+use Rattle.clr_records.specs.Values.{IsText}
 use Rattle.clr_records.proofs.Turns.{each_more, seen_more}
 use Rattle.clr_designs.proofs.fields.add_values.Goals as goal
 

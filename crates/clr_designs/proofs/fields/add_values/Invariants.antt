@@ -3,7 +3,7 @@ use Rattle.std.specs.Prelude.{slice_index_or}
 use Rattle.csv.specs.Records.{fields_of, partial_of}
 use Rattle.clr_rows.specs.declared.rows.Value.{Value}
 use Rattle.clr_lines.specs.Rows.{value_field}
-use Rattle.clr_designs.specs.ReadBack.{IsText}
+use Rattle.clr_records.specs.Values.{IsText}
 use Rattle.clr_designs.proofs.fields.add_values.Given as goal
 
 -- the values so far are added, and their texts are in UTF-8

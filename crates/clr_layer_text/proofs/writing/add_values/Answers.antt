@@ -1,5 +1,5 @@
 use Rattle.clr_layer_text.specs.Layers.{value_text}
-use Rattle.clr_layer_text.specs.ReadBack.{IsText}
+use Rattle.clr_records.specs.Values.{IsText}
 use Rattle.clr_records.proofs.Turns.{each_more, seen_more}
 use Rattle.clr_layer_text.proofs.writing.add_values.Goals as goal
 

@@ -1,7 +1,7 @@
 use Rattle.std.proofs.Common.{◌≡◌, ◌++◌, ◌<◌, ℕ, [], map, take}
 use Rattle.std.specs.Prelude.{slice_index_or}
 use Rattle.clr_rows.specs.declared.rows.Value.{Value}
-use Rattle.clr_layer_text.specs.ReadBack.{IsText}
+use Rattle.clr_records.specs.Values.{IsText}
 use Rattle.csv.specs.Records.{fields_of, partial_of}
 use Rattle.clr_layer_text.specs.Layers.{value_text}
 use Rattle.clr_layer_text.proofs.writing.add_values.Given as goal

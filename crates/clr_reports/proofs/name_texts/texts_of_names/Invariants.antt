@@ -1,5 +1,5 @@
 use Rattle.std.proofs.Common.{◌≡◌, map, take}
-use Rattle.clr_reports.proofs.name_texts.texts.Given as goal
+use Rattle.clr_reports.proofs.name_texts.texts_of_names.Given as goal
 
 -- the texts so far are those of the names so far
 abbrev pub invariant-loop-name : goal.invariant-loop-name

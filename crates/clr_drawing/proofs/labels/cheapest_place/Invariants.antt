@@ -1,6 +1,6 @@
 use Rattle.std.proofs.Common.{IfSome}
 use Rattle.clr_views.specs.Areas.{CoversNone}
-use Rattle.clr_drawing.proofs.labels.cheapest.Given as goal
+use Rattle.clr_drawing.proofs.labels.cheapest_place.Given as goal
 
 -- what was found so far covers nothing that is taken
 abbrev pub invariant-loop-place : goal.invariant-loop-place
