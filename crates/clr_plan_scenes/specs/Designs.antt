@@ -2,10 +2,9 @@
 use Rattle.std.specs.Prelude.{ℕ, ◌==◌, Bool, List, [], ◌∷◌, ◌++◌, flat_map, length, position, take, Option, Some, None, slice_get, unwrap_or, if◌then◌else◌}
 use Rattle.std.specs.FinMap as finite
 use Rattle.std.specs.List.{list_any, range_with_len}
-use Rattle.std.specs.Option.{option_and_then, option_map}
+use Rattle.std.specs.Option.{option_and_then}
 use Rattle.clr_rows.specs.declared.cells.CellId.{CellId}
 use Rattle.clr_rows.specs.declared.cells.Change.{Change}
-use Rattle.clr_rows.specs.declared.rows.Row.{Row}
 use Rattle.clr_rows.specs.Contents.{Changes}
 use Rattle.clr_needs.specs.Members.{after_of, positions}
 use Rattle.clr_needs.specs.Settings.{first_changer}
@@ -13,7 +12,6 @@ use Rattle.clr_drawing.specs.declared.palette.DesignColours.{DesignColours}
 use Rattle.clr_drawing.specs.Palette.{colours_of}
 use Rattle.clr_plan_words.specs.declared.changes.Counts.{Counts}
 use Rattle.clr_plan_words.specs.Counts.{counts_of}
-use Rattle.clr_plan_words.specs.Versions.{set_row}
 use Rattle.clr_plan_scenes.specs.declared.designs.Designs.{Designs}
 
 abbrev pub is_among : List ℕ → ℕ → Bool
@@ -52,14 +50,6 @@ change_of sets at q = option_and_then (λ set. finite.get set q) (slice_get sets
 -- the first design that changes a cell
 abbrev pub changer_of : List Changes → CellId → Option ℕ
 changer_of sets q = first_changer (after_of sets) (positions sets) q
-
--- a design with the row that it has at a cell, if it has one
-abbrev pub row_with : List Changes → CellId → ℕ → Option (ℕ × Row)
-row_with sets q at = option_map (λ row. (at, row)) (set_row (λ e. e.after) sets at q)
-
--- the first design that changes a cell, with its row
-abbrev pub newest_at : List Changes → CellId → Option (ℕ × Row)
-newest_at sets q = option_and_then (row_with sets q) (changer_of sets q)
 
 abbrev pub counts_by : Option Changes → Counts
 counts_by None = record { added = 0; changed = 0; removed = 0 }

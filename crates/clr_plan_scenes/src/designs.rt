@@ -1,20 +1,20 @@
 //! The designs that a plan is about, and what each changes.
 
 ghost use Rattle.std.specs.Prelude.{◌≡◌, ◌++◌, length, map, IfOk, OnOk};
-ghost use Rattle.std.specs.Option.{option_copied, option_map};
+ghost use Rattle.std.specs.Option.{option_copied};
 ghost use Rattle.std.specs.Prelude.{slice_get};
 ghost use Rattle.clr_drawing.specs.Palette.{colours_of};
 ghost use Rattle.clr_steps.specs.Quiet.{MergeSet};
 ghost use Rattle.clr_lines.specs.Verdicts.{member_name};
 ghost use Rattle.clr_plan_words.specs.Versions.{AreMembers};
-ghost use Rattle.clr_plan_scenes.specs.Designs.{change_of, changer_of, counts_at, follower, index_of_design, is_among, leaders_of, newest_at, order_of};
+ghost use Rattle.clr_plan_scenes.specs.Designs.{change_of, changer_of, counts_at, follower, index_of_design, is_among, leaders_of, order_of};
 ghost use Rattle.clr_plan_scenes.specs.Designs.{rank_of, sets_of};
 
 use clr_change::ChangeSet;
 use clr_drawing::{DesignColours, design_colours};
 use clr_engine::Office;
 use clr_plan_words::{Counts, Members, count_rows};
-use clr_rows::{CellId, Change, Row};
+use clr_rows::{CellId, Change};
 use std::alloc::{AllocError, Global};
 
 /// The designs by position, with what each changes, and the order in which they are told: those that a cause names first.
@@ -154,15 +154,6 @@ impl<'a> Designs<'a> {
         ensures { result ≡ changer_of (sets_of self.now) cell }
     {
         self.members.changer_of(cell)
-    }
-
-    /// Returns the first design that changes a cell, with the row that it has there; or none where no design changes it or that one removes
-    /// the row.
-    pub fn newest(&self, cell: CellId) -> Option<(usize, &Row)>
-        ensures { option_map (λ found. (found.0, found.1.now)) result ≡ newest_at (sets_of self.now) cell }
-    {
-        let at = self.members.changer_of(cell)?;
-        Some((at, self.members.row_after(at, cell)?))
     }
 
     /// Returns how many rows the design at a position adds, changes and removes.

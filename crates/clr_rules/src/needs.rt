@@ -1,9 +1,8 @@
 //! What a rule asks of rows, and needs that no row serves.
 
 ghost use Rattle.std.specs.Prelude.{◌≡◌};
-ghost use Rattle.std.specs.Ordering.{is_lt};
 ghost use Rattle.clr_rules.specs.Calls.{plain_ask, is_plain};
-ghost use Rattle.clr_rules.specs.Needs.{broken_cmp, need_named};
+ghost use Rattle.clr_rules.specs.Needs.{need_named};
 
 use clr_rows::CellId;
 
@@ -61,13 +60,5 @@ impl Broken {
             first_part: ask.first_part,
             second_part: ask.second_part,
         }
-    }
-
-    /// Returns whether this need comes before another one.
-    #[tactic(auto, unfolding(crate::specs::Needs::broken_cmp))]
-    pub fn is_before(&self, other: &Broken) -> bool
-        ensures { result ≡ is_lt (broken_cmp self.now other.now) }
-    {
-        self.cmp(other).is_lt()
     }
 }

@@ -1,5 +1,5 @@
 -- Boxes of the world, in millimetres. What leaves 64 bits stops at their limit.
-use Rattle.std.specs.Prelude.{ℤ, pos, ◌+ℤ◌, ◌-ℤ◌, ◌*ℤ◌, List, fold, Option, Some, None, int_div}
+use Rattle.std.specs.Prelude.{ℤ, pos, ◌+ℤ◌, ◌-ℤ◌, ◌*ℤ◌, Option, Some, None, int_div}
 use Rattle.std.specs.Int.{int_max, int_min}
 use Rattle.clr_rows.specs.declared.places.Place.{Place}
 use Rattle.clr_rows.specs.declared.places.Shape.{Shape}
@@ -30,10 +30,6 @@ with_extent extent (Some b) = Some (box_with_box extent b)
 -- the least box that holds a box, if there is one, and a shape, if it has vertices
 abbrev pub extent_with : Option Bounds → Shape → Option Bounds
 extent_with extent shape = with_extent extent (box_of_shape shape)
-
--- the extent of shapes, beside one that there may be
-abbrev pub extent_with_all : Option Bounds → List Shape → Option Bounds
-extent_with_all extent shapes = fold extent_with extent shapes
 
 unfoldable pub length_between : ℤ → ℤ → ℤ
 length_between low high = stopped (high -ℤ low)

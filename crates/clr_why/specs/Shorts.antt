@@ -2,19 +2,14 @@
 use Rattle.std.specs.Prelude.{◌≡◌, ℕ, List}
 use Rattle.clr_rows.specs.declared.tables.TableDef.{TableDef}
 use Rattle.clr_cert.specs.declared.faults.CertFault.{CertFault}
-use Rattle.clr_scripts.specs.declared.faults.RecordFault.{RecordFault}
 use Rattle.clr_rule_text.specs.declared.faults.TextFault.{TextFault}
 use Rattle.clr_fault_lines.specs.FaultLines.{short_line}
 use Rattle.clr_fault_lines.specs.declared.remarks.Remark.{Remark}
-use Rattle.clr_why.specs.Whys.{IsRemarkedCertificateFault, IsRemarkedOfficeFault, IsRemarkedScriptFault}
+use Rattle.clr_why.specs.Whys.{IsRemarkedCertificateFault, IsRemarkedOfficeFault}
 
 -- the file, the line, the column and the sentence of a remark on the fault that the text has
 abbrev pub IsShortOfficeFault : List ℕ → List ℕ → List ℕ → Type 0
 IsShortOfficeFault text file line = (e : TextFault) × (remark : Remark) × IsRemarkedOfficeFault text e remark × (line ≡ short_line text file remark)
-
-abbrev pub IsShortScriptFault : List TableDef → List ℕ → List ℕ → List ℕ → Type 0
-IsShortScriptFault tables text file line =
-    (e : RecordFault) × (remark : Remark) × IsRemarkedScriptFault tables text e remark × (line ≡ short_line text file remark)
 
 abbrev pub IsShortCertificateFault : List TableDef → List ℕ → List ℕ → List ℕ → Type 0
 IsShortCertificateFault tables text file line =

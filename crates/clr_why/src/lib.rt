@@ -4,7 +4,7 @@
 //!   where it is an office in which one doesn't, with its least broken need; lines of a fault only where it is none: they begin with
 //!   the reader's own fault, and their line, column and path are those of the item that has it.
 //! - `why_script`, `why_certificate` [`why`]: the same of these texts over an office, whose own fault comes first.
-//! - `short_office_fault`, `short_script_fault`, `short_certificate_fault` [`line`]: the file, line, column and sentence of the fault.
+//! - `short_office_fault`, `short_certificate_fault` [`line`]: the file, line, column and sentence of the fault.
 #![tactic(auto)]
 
 mod needs;
@@ -14,6 +14,6 @@ mod texts;
 mod whys;
 
 pub use offices::why_office;
-pub use shorts::{short_certificate_fault, short_office_fault, short_script_fault};
+pub use shorts::{short_certificate_fault, short_office_fault};
 pub use texts::{why_certificate, why_script};
 pub use whys::Why;

@@ -2,14 +2,13 @@
 ghost use Rattle.std.specs.Prelude.{◌≡◌, Err, IfOk, IfSome};
 ghost use Rattle.clr_cert.specs.Certificates.{certificate_in};
 ghost use Rattle.clr_record_explanations.specs.RecordRemarks.{IsRecordRemark};
-ghost use Rattle.clr_scripts.specs.Scripts.{script_in_text};
-ghost use Rattle.clr_why.specs.Shorts.{IsShortCertificateFault, IsShortOfficeFault, IsShortScriptFault};
+ghost use Rattle.clr_why.specs.Shorts.{IsShortCertificateFault, IsShortOfficeFault};
 ghost use Rattle.clr_why.specs.Whys.{IsRemarkedOfficeFault};
 
 use crate::offices::office_fault;
 use clr_explanations::OfficeFault;
 use clr_fault_lines::short_line;
-use clr_record_explanations::{CertificateFault, ScriptFault, explain_certificate, explain_script};
+use clr_record_explanations::{CertificateFault, explain_certificate};
 use clr_rows::Schema;
 use std::alloc::{AllocError, Global};
 
@@ -23,23 +22,6 @@ fn office_line(
     requires { IsRemarkedOfficeFault text.now found.now.fault found.now.remark }
     ensures { IfOk result (λ line. IsShortOfficeFault text.now file.now line.items) }
 {
-    let line = short_line(alloc, text, file, &found.remark)?;
-    Ok(line)
-}
-
-/// Returns the line of the fault of a script.
-fn script_line(
-    alloc: Global,
-    schema: &Schema,
-    text: &[u8],
-    file: &str,
-    found: &ScriptFault,
-) -> Result<Vec<u8>, AllocError>
-    requires told { script_in_text schema.now text.now ≡ Err (found.now.number, found.now.fault) }
-    requires at { IsRecordRemark text.now found.now.number found.now.remark }
-    ensures { IfOk result (λ line. IsShortScriptFault schema.now text.now file.now line.items) }
-{
-    let _schema = schema;
     let line = short_line(alloc, text, file, &found.remark)?;
     Ok(line)
 }
@@ -72,21 +54,6 @@ pub fn short_office_fault(
 {
     match office_fault(alloc, text)? {
         Some(found) => Ok(Some(office_line(alloc, text, file, &found)?)),
-        None => Ok(None),
-    }
-}
-
-/// Returns the line that names the fault of a script over a schema and its place, or none where the script can be read.
-pub fn short_script_fault(
-    alloc: Global,
-    schema: &Schema,
-    text: &[u8],
-    file: &str,
-) -> Result<Option<Vec<u8>>, AllocError>
-    ensures line { IfOk result (λ found. IfSome found (λ line. IsShortScriptFault schema.now text.now file.now line.items)) }
-{
-    match explain_script(alloc, schema, text)? {
-        Some(found) => Ok(Some(script_line(alloc, schema, text, file, &found)?)),
         None => Ok(None),
     }
 }
