@@ -27,10 +27,10 @@ use Rattle.clr_records.proofs.Decimals.{number_again}
 use Rattle.clr_records.proofs.RecordsAgain.{IsPlain, records_again}
 use Rattle.clr_records.proofs.Turns.{joined}
 use Rattle.clr_records.proofs.Utf8.{name_utf8, number_utf8}
-use Rattle.clr_lines.specs.Rows.{place_fields, row_fields, rows_writer, shape_fields, value_field}
+use Rattle.clr_lines.specs.Rows.{cell_fields, place_fields, row_fields, rows_writer, shape_fields, value_field}
 use Rattle.clr_scripts.specs.Edits.{edits_from}
 use Rattle.clr_scripts.specs.Scripts.{apply_of, command_of, plain_step_of, script_in_text, script_of, step_of, steps_from}
-use Rattle.clr_designs.specs.Scripts.{apply_fields, cell_fields, create_fields, design_records, design_script, design_steps, edit_fields, script_text}
+use Rattle.clr_designs.specs.Scripts.{apply_fields, create_fields, design_records, design_script, design_steps, edit_fields, script_text}
 use Rattle.clr_records.specs.Values.{IsText}
 use Rattle.clr_designs.specs.ReadBack.{Fits, HasTexts, ReadBackLaw}
 use Rattle.clr_designs.proofs.EditAgain.{edit_again}

@@ -1,25 +1,19 @@
 -- The script that makes a design: its two steps, their records, and its text.
 use Rattle.std.specs.Prelude.{ℕ, List, [], ◌∷◌, length, map, codes}
-use Rattle.std.specs.Fmt.{decimal, signed_decimal}
+use Rattle.std.specs.Fmt.{decimal}
 use Rattle.std.specs.List.{flat_map}
 use Rattle.csv.specs.Writing.{row_text}
-use Rattle.clr_rows.specs.declared.cells.CellId.{CellId}
 use Rattle.clr_rows.specs.declared.tables.TableDef.{TableDef}
-use Rattle.clr_rows.specs.Schemas.{name_of_table}
 use Rattle.clr_change.specs.declared.edits.Edit.{Edit}
 use Rattle.clr_change.specs.declared.edits.Edit.TheVariants.{Insert, Update, Delete}
 use Rattle.clr_steps.specs.declared.commands.Command.TheVariants.{Create, Apply}
 use Rattle.clr_scripts.specs.declared.steps.Step.{Step}
 use Rattle.clr_scripts.specs.declared.steps.Step.TheVariants.{Act}
-use Rattle.clr_lines.specs.Rows.{row_fields, rows_writer}
+use Rattle.clr_lines.specs.Rows.{cell_fields, row_fields, rows_writer}
 
 -- the steps that make a design: its workspace is created under the root, and then the edits are made in it, all or none
 abbrev pub design_steps : List ℕ → List ℕ → List Edit → List Step
 design_steps name root edits = Act (Create name root) ∷ Act (Apply name edits) ∷ []
-
--- a cell: its table and its key
-abbrev pub cell_fields : List TableDef → CellId → List (List ℕ)
-cell_fields tables cell = name_of_table tables cell.table ∷ signed_decimal cell.key ∷ []
 
 -- an edit's record: its word, and then the row that it leaves, as it is shown, or the cell that it empties
 abbrev pub edit_fields : List TableDef → Edit → List (List ℕ)

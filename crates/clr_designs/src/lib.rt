@@ -11,7 +11,6 @@
 #![tactic(auto)]
 
 mod designs;
-mod fields;
 mod laws;
 mod writing;
 

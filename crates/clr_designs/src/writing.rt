@@ -4,15 +4,15 @@ ghost use Rattle.std.specs.Prelude.{◌≡◌, ◌++◌, ◌∷◌, [], Ok, IfOk
 ghost use Rattle.std.specs.List.{All};
 ghost use Rattle.csv.specs.Records.{fields_of, partial_of};
 ghost use Rattle.csv.specs.Writing.{row_text};
-ghost use Rattle.clr_lines.specs.Rows.{IsBetweenRows, row_fields, rows_writer};
+ghost use Rattle.clr_lines.specs.Rows.{IsBetweenRows, cell_fields, row_fields, rows_writer};
 ghost use Rattle.clr_scripts.specs.Scripts.{script_in_text};
 ghost use Rattle.clr_records.specs.Writing.{written_by};
-ghost use Rattle.clr_designs.specs.Scripts.{cell_fields, design_script, design_steps, edit_fields, script_text};
+ghost use Rattle.clr_designs.specs.Scripts.{design_script, design_steps, edit_fields, script_text};
 ghost use Rattle.clr_records.specs.Values.{IsText};
 ghost use Rattle.clr_designs.specs.ReadBack.{Fits, HasTexts};
 
-use crate::fields::{add, add_cell, add_row};
 use clr_change::Edit;
+use clr_lines::{add_cell_fields, add_field, add_row_fields};
 use clr_rows::{CellId, Row, Schema};
 use csv::{ByteRecord, Writer, WriterBuilder};
 use itoa::Buffer;
@@ -29,8 +29,8 @@ fn cell_record(
     ensures whole { IfOk result (λ made. partial_of made ≡ []) }
 {
     let mut fields = ByteRecord::new(alloc);
-    add(&mut fields, word.as_bytes())?;
-    add_cell(&mut fields, schema, cell)?;
+    add_field(&mut fields, word.as_bytes())?;
+    add_cell_fields(&mut fields, schema, cell)?;
     Ok(fields)
 }
 
@@ -46,7 +46,7 @@ fn row_record(
     ensures texts { OnOk result (All IsText row.now.values) }
 {
     let mut fields = cell_record(alloc, schema, word, cell)?;
-    add_row(&mut fields, row)?;
+    add_row_fields(&mut fields, row)?;
     Ok(fields)
 }
 
@@ -87,9 +87,9 @@ fn add_command(
     ensures written { OnOk result (written_by writer.new ≡ written_by writer.old ++ row_text rows_writer (command.now ∷ first.now ∷ second.now ∷ [])) }
 {
     let mut fields = ByteRecord::new(alloc);
-    add(&mut fields, command.as_bytes())?;
-    add(&mut fields, first.as_bytes())?;
-    add(&mut fields, second.as_bytes())?;
+    add_field(&mut fields, command.as_bytes())?;
+    add_field(&mut fields, first.as_bytes())?;
+    add_field(&mut fields, second.as_bytes())?;
     add_record(writer, &fields)
 }
 

@@ -30,6 +30,10 @@ shape_fields (At p) = place_fields p
 shape_fields (Line p q) = place_fields p ++ place_fields q
 shape_fields (Chain vertices) = flat_map place_fields vertices
 
+-- a cell: its table and its key
+abbrev pub cell_fields : List TableDef → CellId → List (List ℕ)
+cell_fields tables cell = name_of_table tables cell.table ∷ signed_decimal cell.key ∷ []
+
 -- a row's record: its table, its key, its values and its coordinates
 abbrev pub row_fields : List TableDef → CellId → Row → List (List ℕ)
 row_fields tables cell row = name_of_table tables cell.table ∷ signed_decimal cell.key ∷ (map value_field row.values ++ shape_fields row.shape)

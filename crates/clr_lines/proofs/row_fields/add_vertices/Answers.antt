@@ -1,6 +1,6 @@
 use Rattle.clr_rows.proofs.BeginningLaws.{begun_at}
 use Rattle.clr_lines.specs.Rows.{place_fields}
-use Rattle.clr_lines.proofs.row_lines.add_vertices.Goals as goal
+use Rattle.clr_lines.proofs.row_fields.add_vertices.Goals as goal
 
 pub returns-in_err-add_place-clause-begun : goal.returns-in_err-add_place-clause-begun
 returns-in_err-add_place-clause-begun c =

@@ -1,23 +1,24 @@
-//! The fields of a record, added one behind another.
+//! The fields of a row's record, added one behind another.
 
-ghost use Rattle.std.specs.Prelude.{◌≡◌, ◌++◌, ◌∷◌, [], map, OnOk};
+ghost use Rattle.std.specs.Prelude.{◌≡◌, ◌++◌, ◌∷◌, [], map, OnErr, OnOk};
 ghost use Rattle.std.specs.Fmt.{signed_decimal};
 ghost use Rattle.std.specs.List.{All, flat_map};
 ghost use Rattle.csv.specs.Records.{fields_of, partial_of};
-ghost use Rattle.clr_lines.specs.Rows.{place_fields, shape_fields, value_field};
-ghost use Rattle.clr_designs.specs.Scripts.{cell_fields};
+ghost use Rattle.clr_rows.specs.Beginnings.{IsBegun};
 ghost use Rattle.clr_records.specs.Values.{IsText};
+ghost use Rattle.clr_lines.specs.Rows.{cell_fields, place_fields, shape_fields, value_field};
 
 use clr_rows::{CellId, Place, Row, Schema, Shape, Value};
 use csv::ByteRecord;
 use itoa::Buffer;
 use std::alloc::AllocError;
 
-/// Adds a field to a record that ends with a whole field.
-pub(crate) fn add(fields: &mut ByteRecord, field: &[u8]) -> Result<(), AllocError>
+/// Adds a field to a record that ends with a whole field. If memory runs out, the record keeps its fields.
+pub fn add_field(fields: &mut ByteRecord, field: &[u8]) -> Result<(), AllocError>
     requires { partial_of fields.old ≡ [] }
     ensures added { OnOk result (fields_of fields.new ≡ fields_of fields.old ++ field.now ∷ []) }
     ensures whole { OnOk result (partial_of fields.new ≡ []) }
+    ensures err { OnErr result (fields_of fields.new ≡ fields_of fields.old) }
 {
     fields.push_field(field)
 }
@@ -26,8 +27,9 @@ fn add_number(fields: &mut ByteRecord, number: i64) -> Result<(), AllocError>
     requires { partial_of fields.old ≡ [] }
     ensures added { OnOk result (fields_of fields.new ≡ fields_of fields.old ++ signed_decimal number ∷ []) }
     ensures whole { OnOk result (partial_of fields.new ≡ []) }
+    ensures err { OnErr result (fields_of fields.new ≡ fields_of fields.old) }
 {
-    add(fields, Buffer::new().format(number).as_bytes())
+    add_field(fields, Buffer::new().format(number).as_bytes())
 }
 
 fn add_value(fields: &mut ByteRecord, value: &Value) -> Result<(), AllocError>
@@ -35,10 +37,11 @@ fn add_value(fields: &mut ByteRecord, value: &Value) -> Result<(), AllocError>
     ensures text { OnOk result (IsText value.now) }
     ensures added { OnOk result (fields_of fields.new ≡ fields_of fields.old ++ value_field value.now ∷ []) }
     ensures whole { OnOk result (partial_of fields.new ≡ []) }
+    ensures err { OnErr result (fields_of fields.new ≡ fields_of fields.old) }
 {
     match value {
         Value::Int(number) => add_number(fields, *number),
-        Value::Words(text) => add(fields, text.as_str().as_bytes()),
+        Value::Words(text) => add_field(fields, text.as_str().as_bytes()),
     }
 }
 
@@ -47,6 +50,7 @@ fn add_values(fields: &mut ByteRecord, values: &[Value]) -> Result<(), AllocErro
     ensures texts { OnOk result (All IsText values.now) }
     ensures added { OnOk result (fields_of fields.new ≡ fields_of fields.old ++ map value_field values.now) }
     ensures whole { OnOk result (partial_of fields.new ≡ []) }
+    ensures begun { IsBegun (fields_of fields.old) (map value_field values.now) (fields_of fields.new) }
 {
     for value in values {
         add_value(fields, value)?;
@@ -58,6 +62,7 @@ fn add_place(fields: &mut ByteRecord, place: Place) -> Result<(), AllocError>
     requires { partial_of fields.old ≡ [] }
     ensures added { OnOk result (fields_of fields.new ≡ fields_of fields.old ++ place_fields place) }
     ensures whole { OnOk result (partial_of fields.new ≡ []) }
+    ensures begun { IsBegun (fields_of fields.old) (place_fields place) (fields_of fields.new) }
 {
     add_number(fields, place.x)?;
     add_number(fields, place.y)
@@ -67,6 +72,7 @@ fn add_vertices(fields: &mut ByteRecord, vertices: &[Place]) -> Result<(), Alloc
     requires { partial_of fields.old ≡ [] }
     ensures added { OnOk result (fields_of fields.new ≡ fields_of fields.old ++ flat_map place_fields vertices.now) }
     ensures whole { OnOk result (partial_of fields.new ≡ []) }
+    ensures begun { IsBegun (fields_of fields.old) (flat_map place_fields vertices.now) (fields_of fields.new) }
 {
     for vertex in vertices {
         add_place(fields, *vertex)?;
@@ -77,6 +83,8 @@ fn add_vertices(fields: &mut ByteRecord, vertices: &[Place]) -> Result<(), Alloc
 fn add_shape(fields: &mut ByteRecord, shape: &Shape) -> Result<(), AllocError>
     requires { partial_of fields.old ≡ [] }
     ensures added { OnOk result (fields_of fields.new ≡ fields_of fields.old ++ shape_fields shape.now) }
+    ensures whole { OnOk result (partial_of fields.new ≡ []) }
+    ensures begun { IsBegun (fields_of fields.old) (shape_fields shape.now) (fields_of fields.new) }
 {
     match shape {
         Shape::Bare => Ok(()),
@@ -89,8 +97,9 @@ fn add_shape(fields: &mut ByteRecord, shape: &Shape) -> Result<(), AllocError>
     }
 }
 
-/// Adds what names a cell: its table and its key.
-pub(crate) fn add_cell(
+/// Adds what names a cell to a record that ends with a whole field: the name of its table, empty where the schema hasn't the table, and its
+/// key. If memory runs out, the record has at most the first of the two beside its fields.
+pub fn add_cell_fields(
     fields: &mut ByteRecord,
     schema: &Schema,
     cell: CellId,
@@ -98,16 +107,20 @@ pub(crate) fn add_cell(
     requires { partial_of fields.old ≡ [] }
     ensures added { OnOk result (fields_of fields.new ≡ fields_of fields.old ++ cell_fields schema.now cell) }
     ensures whole { OnOk result (partial_of fields.new ≡ []) }
+    ensures begun { IsBegun (fields_of fields.old) (cell_fields schema.now cell) (fields_of fields.new) }
 {
-    add(fields, schema.name_of_table(cell.table).as_bytes())?;
+    add_field(fields, schema.name_of_table(cell.table).as_bytes())?;
     add_number(fields, cell.key)
 }
 
-/// Adds what stands in a row: its values and its coordinates.
-pub(crate) fn add_row(fields: &mut ByteRecord, row: &Row) -> Result<(), AllocError>
+/// Adds what stands in a row to a record that ends with a whole field: its values, whose texts are in UTF-8, and then its coordinates, in
+/// millimetres. If memory runs out, the record has at most a beginning of these fields beside its own.
+pub fn add_row_fields(fields: &mut ByteRecord, row: &Row) -> Result<(), AllocError>
     requires { partial_of fields.old ≡ [] }
-    ensures added { OnOk result (fields_of fields.new ≡ fields_of fields.old ++ map value_field row.now.values ++ shape_fields row.now.shape) }
     ensures texts { OnOk result (All IsText row.now.values) }
+    ensures added { OnOk result (fields_of fields.new ≡ fields_of fields.old ++ map value_field row.now.values ++ shape_fields row.now.shape) }
+    ensures whole { OnOk result (partial_of fields.new ≡ []) }
+    ensures begun { IsBegun (fields_of fields.old) (map value_field row.now.values ++ shape_fields row.now.shape) (fields_of fields.new) }
 {
     add_values(fields, row.values.as_slice())?;
     add_shape(fields, &row.shape)
