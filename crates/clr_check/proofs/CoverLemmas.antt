@@ -14,9 +14,9 @@ use Rattle.clr_needs.proofs.Reading.{none_taken, one_more, all_taken}
 use Rattle.clr_needs.proofs.PickLaws.{listed_serves, serving_listed}
 use Rattle.clr_clearance.proofs.CheckLemmas.{one_lived}
 use Rattle.clr_check.specs.Entries.{HasCover, is_life_of, lives_with_subject}
-use Rattle.clr_merge_sets.specs.Tests.{IsTestOf}
+use Rattle.clr_needs.specs.Tests.{IsTestOf}
 use Rattle.clr_cert.specs.declared.certificates.Entry.{Entry}
-use Rattle.clr_merge_sets.proofs.SearchLemmas.{either_told, it_is_not, told_as, told_by}
+use Rattle.clr_needs.proofs.TestLemmas.{either_told, it_is_not, told_as, told_by}
 
 -- lives ------------------------------------------------------------------------------------------
 

@@ -14,7 +14,7 @@ use Rattle.clr_clearance.specs.CheckLaws.{IsCovered}
 use Rattle.clr_clearance.proofs.CheckLemmas.{all_judged, first_judged}
 use Rattle.clr_merge_sets.specs.Certificates.{entries_in}
 use Rattle.clr_check.specs.Entries.{HasCover, IsEntryOf, IsLeastUncovered}
-use Rattle.clr_merge_sets.specs.Tests.{IsTestOf}
+use Rattle.clr_needs.specs.Tests.{IsTestOf}
 use Rattle.clr_check.proofs.EntryLemmas.{covered_has, has_covered}
 
 -- what a read past the end would give

@@ -10,7 +10,7 @@ ghost use Rattle.clr_foot.specs.Scenes.{IsReady, model_of, setting_of};
 ghost use Rattle.clr_needs.specs.Settings.{Lived};
 ghost use Rattle.clr_merge_sets.specs.Certificates.{entries_in};
 ghost use Rattle.clr_check.specs.Entries.{HasCover, IsLeastUncovered, is_life_of, lives_with_subject};
-ghost use Rattle.clr_merge_sets.specs.Tests.{IsTestOf};
+ghost use Rattle.clr_needs.specs.Tests.{IsTestOf};
 
 use crate::entries::{entries_of, sort_entries};
 use clr_cert::Entry;

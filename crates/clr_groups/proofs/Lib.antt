@@ -6,6 +6,5 @@ mod LabelSteps
 pub mod LabelledGroups
 mod MemberNeedLists
 pub mod Places
-mod Searches
 pub mod TouchedPairs
 pub mod TyingNeeds

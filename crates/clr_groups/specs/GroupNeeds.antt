@@ -1,5 +1,5 @@
 -- The touched needs of a scene, each with the group in whose scene it is touched.
-use Rattle.std.specs.Prelude.{◌≡◌, ℕ, Bool, true, false, List, Some, Contains, get_or, slice_get}
+use Rattle.std.specs.Prelude.{◌≡◌, ℕ, true, List, Some, Contains, get_or, slice_get}
 use Rattle.std.specs.Ordering.{nat_cmp, ordering_then}
 use Rattle.std.specs.declared.cmp.Ordering.{Ordering}
 use Rattle.clr_rows.specs.Contents.{Changes, Content}
@@ -25,8 +25,3 @@ IsPlaceOf groups x k = (g : List ℕ) × (slice_get groups k ≡ Some g) × Cont
 -- the need of a pair that its member touches, with the place of this member
 abbrev pub IsOfPlace : List ℕ → MemberNeed → GroupNeed → Type 0
 IsOfPlace places p x = (p.touches ≡ true) × (x.need ≡ p.need) × (x.group ≡ get_or places p.member 0)
-
--- the answer is true exactly where the statement holds
-abbrev pub IsAnswerTo : Bool → Type 0 → Type 0
-IsAnswerTo true P = P
-IsAnswerTo false P = ¬ P

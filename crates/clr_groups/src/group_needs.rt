@@ -7,8 +7,9 @@ ghost use Rattle.clr_versions.specs.Gains.{Gains, OfSome};
 ghost use Rattle.clr_needs.specs.declared.limits.TheConstants.{MOST_MEMBERS};
 ghost use Rattle.clr_needs.specs.Members.{AreApart};
 ghost use Rattle.clr_needs.specs.Needs.{Lists};
+ghost use Rattle.clr_needs.specs.Tests.{IsTestOf};
 ghost use Rattle.clr_foot.specs.Scenes.{IsReady, model_of, setting_of};
-ghost use Rattle.clr_groups.specs.GroupNeeds.{IsAnswerTo, IsOfPlace, IsPlaceOf, IsTouchedAt, group_need_cmp};
+ghost use Rattle.clr_groups.specs.GroupNeeds.{IsOfPlace, IsPlaceOf, IsTouchedAt, group_need_cmp};
 ghost use Rattle.clr_groups.specs.Groups.{AreGroups};
 ghost use Rattle.clr_groups.specs.declared.member_needs.MemberNeed.{MemberNeed as Pair};
 
@@ -68,7 +69,7 @@ fn touched_needs(
 /// Returns whether a member is in a group.
 fn is_in(group: &[u16], member: u16) -> bool
     requires { IsStrictlySortedBy nat_cmp group.now }
-    ensures { IsAnswerTo result (Contains group.now member) }
+    ensures { IsTestOf result (Contains group.now member) }
 {
     group.binary_search(&member).is_ok()
 }

@@ -2,5 +2,4 @@ pub mod MemberLemmas
 pub mod NameLemmas
 pub mod RepeatLemmas
 pub mod RootLemmas
-pub mod SearchLemmas
 pub mod MergeSetLemmas

@@ -2,4 +2,3 @@ pub mod Certificates
 pub mod Faults
 pub mod MergeSetNames
 pub mod MergeSets
-pub mod Tests

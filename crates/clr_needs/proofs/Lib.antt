@@ -17,4 +17,5 @@ pub mod Placing
 pub mod PositionLaws
 pub mod Reading
 pub mod RenamingLaws
+pub mod TestLemmas
 pub mod VersionOrder

@@ -11,4 +11,5 @@ pub mod Picks
 pub mod Positions
 pub mod Renamings
 pub mod Settings
+pub mod Tests
 pub mod Witnesses

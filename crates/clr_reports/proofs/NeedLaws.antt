@@ -9,8 +9,8 @@ use Rattle.clr_needs.specs.Needs.{Lists}
 use Rattle.clr_needs.specs.Orders.{need_cmp}
 use Rattle.clr_needs.specs.Settings.{Setting}
 use Rattle.clr_needs.proofs.Reading.{all_taken, one_more, read_in}
-use Rattle.clr_merge_sets.specs.Tests.{IsTestOf}
-use Rattle.clr_merge_sets.proofs.SearchLemmas.{it_is, it_is_not}
+use Rattle.clr_needs.specs.Tests.{IsTestOf}
+use Rattle.clr_needs.proofs.TestLemmas.{it_is, it_is_not}
 use Rattle.clr_foot.proofs.InvolvedLaws.{both_depend}
 use Rattle.clr_groups.proofs.LabelledGroups.{PutAt, earlier, last, put_at}
 use Rattle.clr_reports.specs.declared.member_pairs.Pair.{Pair}

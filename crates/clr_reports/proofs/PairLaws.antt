@@ -10,7 +10,7 @@ use Rattle.std.proofs.lemmas.List.Elements.{Contains-append_cases}
 use Rattle.clr_rules.proofs.Elements.{among}
 use Rattle.clr_needs.specs.declared.needs.Need.{Need}
 use Rattle.clr_needs.specs.Settings.{Setting}
-use Rattle.clr_merge_sets.specs.Tests.{IsTestOf}
+use Rattle.clr_needs.specs.Tests.{IsTestOf}
 use Rattle.clr_reports.specs.declared.member_pairs.Pair.{Pair}
 use Rattle.clr_reports.specs.Pairs.{AddsPairs, AreAscending, AreNeedsOf, ArePairs, IsPairByNeeds, ShareOne, TellsIfApart, pair_members}
 use Rattle.clr_reports.specs.Pairs.{pairs_with}

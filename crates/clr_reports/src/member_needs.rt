@@ -4,7 +4,7 @@ ghost use Rattle.std.specs.Prelude.{◌<◌, length, map, Contains, IfOk};
 ghost use Rattle.std.specs.List.Sorted.{IsStrictlySortedBy};
 ghost use Rattle.clr_needs.specs.Orders.{need_cmp};
 ghost use Rattle.clr_foot.specs.Scenes.{IsReady, model_of, setting_of};
-ghost use Rattle.clr_merge_sets.specs.Tests.{IsTestOf};
+ghost use Rattle.clr_needs.specs.Tests.{IsTestOf};
 ghost use Rattle.clr_reports.specs.Pairs.{AreNeedsOf, ShareOne};
 
 use clr_finders::RowFinder;

@@ -1,7 +1,7 @@
 use Rattle.clr_needs.specs.Members.{lifetime}
 use Rattle.clr_foot.specs.Scenes.{setting_in}
 use Rattle.clr_check.proofs.CoverLemmas.{one_unlisted, other_unlisted, together_told}
-use Rattle.clr_merge_sets.proofs.SearchLemmas.{it_is, it_is_not}
+use Rattle.clr_needs.proofs.TestLemmas.{it_is, it_is_not}
 use Rattle.clr_check.proofs.covers.cover_together.Goals as goal
 use Rattle.clr_check.proofs.covers.cover_together.Goals.{then-not-is_among-via-then-not-is_among, then-not-is_among-via-else-not-is_among+then-not-is_among-2}
 

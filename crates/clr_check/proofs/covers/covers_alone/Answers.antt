@@ -2,7 +2,7 @@ use Rattle.std.proofs.Common.{◌∙◌, ap, sym}
 use Rattle.clr_needs.specs.Members.{lifetime}
 use Rattle.clr_foot.specs.Scenes.{setting_in}
 use Rattle.clr_check.proofs.CoverLemmas.{alone_told, life_at_if_any, unlisted}
-use Rattle.clr_merge_sets.proofs.SearchLemmas.{it_is, it_is_not}
+use Rattle.clr_needs.proofs.TestLemmas.{it_is, it_is_not}
 use Rattle.clr_check.proofs.covers.covers_alone.Goals as goal
 
 pub returns-then-not-is_among : goal.returns-then-not-is_among

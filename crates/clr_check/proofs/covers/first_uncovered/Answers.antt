@@ -6,7 +6,7 @@ use Rattle.clr_needs.proofs.BreakLaws.{touched_possible}
 use Rattle.clr_needs.proofs.Reading.{read_of}
 use Rattle.clr_merge_sets.specs.Certificates.{entries_in}
 use Rattle.clr_check.specs.Entries.{HasCover}
-use Rattle.clr_merge_sets.specs.Tests.{IsTestOf}
+use Rattle.clr_needs.specs.Tests.{IsTestOf}
 use Rattle.clr_cert.specs.declared.certificates.Entry.{Entry}
 use Rattle.clr_needs.proofs.NeedOrder.{unread}
 use Rattle.clr_check.proofs.JudgeLemmas.{AreJudged, all_before, first_after, need_covered, need_uncovered, none_before, one_before}

@@ -2,8 +2,8 @@ use Rattle.std.proofs.Common.{Contains, subst, sym}
 use Rattle.clr_needs.proofs.NeedOrder.{version_exact}
 use Rattle.clr_needs.proofs.VersionOrder.{version_total}
 use Rattle.clr_needs.specs.Orders.{version_cmp}
-use Rattle.clr_merge_sets.specs.Tests.{IsTestOf}
-use Rattle.clr_merge_sets.proofs.SearchLemmas.{found_or_not}
+use Rattle.clr_needs.specs.Tests.{IsTestOf}
+use Rattle.clr_needs.proofs.TestLemmas.{found_or_not}
 use Rattle.clr_check.proofs.covers.is_among.Goals as goal
 
 pub returns : goal.returns

@@ -2,7 +2,7 @@ use Rattle.std.proofs.Common.{◌≡◌, ◌∙◌, inl, inr, Some, Contains, ma
 use Rattle.std.specs.Prelude.{slice_get}
 use Rattle.std.proofs.lemmas.Bool.{cases_lt}
 use Rattle.clr_groups.proofs.Places.{group_at, position_at, positions}
-use Rattle.clr_groups.proofs.Searches.{it_is_not}
+use Rattle.clr_needs.proofs.TestLemmas.{it_is_not}
 use Rattle.clr_groups.proofs.group_needs.place_of.Goals as goal
 
 pub loop-place-preserved : goal.loop-place-preserved

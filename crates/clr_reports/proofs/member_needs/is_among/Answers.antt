@@ -1,8 +1,8 @@
 use Rattle.std.proofs.Common.{Contains, subst, sym}
 use Rattle.clr_needs.specs.Orders.{need_cmp}
 use Rattle.clr_needs.proofs.NeedOrder.{need_exact, need_total}
-use Rattle.clr_merge_sets.specs.Tests.{IsTestOf}
-use Rattle.clr_merge_sets.proofs.SearchLemmas.{found_or_not}
+use Rattle.clr_needs.specs.Tests.{IsTestOf}
+use Rattle.clr_needs.proofs.TestLemmas.{found_or_not}
 use Rattle.clr_reports.proofs.member_needs.is_among.Goals as goal
 
 pub returns : goal.returns

@@ -2,7 +2,7 @@ use Rattle.std.proofs.Common.{◌≡◌, Global, List, Vec, arith, length, map, 
 use Rattle.std.specs.List.Sorted.{IsStrictlySortedBy}
 use Rattle.std.proofs.lemmas.List.{length-map}
 use Rattle.clr_needs.specs.Orders.{need_cmp}
-use Rattle.clr_merge_sets.specs.Tests.{IsTestOf}
+use Rattle.clr_needs.specs.Tests.{IsTestOf}
 use Rattle.clr_reports.specs.Pairs.{ShareOne}
 use Rattle.clr_needs.specs.declared.needs.Need.{Need}
 use Rattle.clr_reports.proofs.PairLaws.{all_pairs_with, no_pairs_with, one_pair_with, there_at}

@@ -9,7 +9,7 @@ use Rattle.std.specs.declared.cmp.Ordering.{Ordering}
 use Rattle.std.specs.declared.cmp.Ordering.TheVariants.{Less, Equal, Greater}
 use Rattle.std.proofs.lemmas.Bool.{false≢true}
 use Rattle.std.proofs.lemmas.List.Sorted.{searchable_from_sorted}
-use Rattle.clr_merge_sets.specs.Tests.{IsTestOf}
+use Rattle.clr_needs.specs.Tests.{IsTestOf}
 
 -- tests ------------------------------------------------------------------------------------------
 
