@@ -24,8 +24,10 @@ impl Slip {
         })
     }
 
-    /// Returns a slip with these words as its sentence.
-    pub fn of_words(alloc: Global, steps: &[Step], sentence: &str) -> Result<Slip, AllocError> {
+    /// Returns a slip with these words as its sentence, without a hint.
+    pub fn of_words(alloc: Global, steps: &[Step], sentence: &str) -> Result<Slip, AllocError>
+        ensures { IfOk result (λ slip. string_bytes slip.sentence ≡ sentence.now) }
+    {
         let sentence = String::from_str(alloc, sentence)?;
         Slip::new(alloc, steps, sentence)
     }

@@ -1,5 +1,8 @@
 //! What a map shows, and how much of it there is room for.
 
+ghost use Rattle.std.specs.Prelude.{◌≡◌, ◌&&◌, not, is_some};
+ghost use Rattle.clr_plan_scenes.specs.Designs.{is_among, leaders_of};
+
 use crate::causes::Cause;
 use crate::designs::Designs;
 use crate::extents::{extent_of_cause, extent_of_changes, extent_of_everything};
@@ -102,12 +105,16 @@ impl<'a> Scene<'a> {
     }
 
     /// Returns the frame of the map.
-    pub fn frame(&self) -> Area {
+    pub fn frame(&self) -> Area
+        ensures { result ≡ self.now.view.frame }
+    {
         self.view.frame
     }
 
     /// Returns whether there is a cause that doesn't name this design.
-    pub fn is_aside(&self, at: usize) -> bool {
+    pub fn is_aside(&self, at: usize) -> bool
+        ensures { result ≡ (is_some self.now.cause && not (is_among (leaders_of self.now.field.designs.now) at)) }
+    {
         self.cause.is_some() && !self.field.designs.leads(at)
     }
 }

@@ -1,5 +1,7 @@
 //! What is wrong with a record.
 
+ghost use Rattle.std.specs.Prelude.{◌≡◌, None, string_bytes, IfOk};
+
 use std::alloc::{AllocError, Global};
 
 /// What is wrong with a record: the field, counted from 0, a sentence, and a hint where one helps.
@@ -12,7 +14,9 @@ pub struct RecordSlip {
 
 impl RecordSlip {
     /// Returns a slip with a sentence on a field, without a hint.
-    pub fn new(field: usize, sentence: String) -> RecordSlip {
+    pub fn new(field: usize, sentence: String) -> RecordSlip
+        ensures { result ≡ record { field = field; sentence = sentence; hint = None } }
+    {
         RecordSlip {
             field,
             sentence,
@@ -20,13 +24,19 @@ impl RecordSlip {
         }
     }
 
-    /// Returns a slip with these words as its sentence.
-    pub fn of_words(alloc: Global, field: usize, sentence: &str) -> Result<RecordSlip, AllocError> {
+    /// Returns a slip with these words as its sentence, without a hint.
+    pub fn of_words(alloc: Global, field: usize, sentence: &str) -> Result<RecordSlip, AllocError>
+        ensures field { IfOk result (λ slip. slip.field ≡ field) }
+        ensures sentence { IfOk result (λ slip. string_bytes slip.sentence ≡ sentence.now) }
+        ensures hint { IfOk result (λ slip. slip.hint ≡ None) }
+    {
         Ok(RecordSlip::new(field, String::from_str(alloc, sentence)?))
     }
 
     /// Returns this slip with a hint, if there is one.
-    pub fn with_hint(self, hint: Option<String>) -> RecordSlip {
+    pub fn with_hint(self, hint: Option<String>) -> RecordSlip
+        ensures { result ≡ record { field = self.field; sentence = self.sentence; hint = hint } }
+    {
         RecordSlip {
             field: self.field,
             sentence: self.sentence,

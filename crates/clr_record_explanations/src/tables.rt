@@ -1,5 +1,9 @@
 //! Names of tables in records.
 
+ghost use Rattle.std.specs.Prelude.{◌≡◌, ◌++◌, codes, string_bytes, IfOk};
+ghost use Rattle.csv.specs.Records.{fields_of};
+ghost use Rattle.clr_records.specs.Records.{field_of};
+
 use crate::record_slips::RecordSlip;
 use clr_hints::{name_hint, table_names};
 use clr_records::field;
@@ -13,7 +17,10 @@ pub fn no_table(
     schema: &Schema,
     fields: &StringRecord,
     at: usize,
-) -> Result<RecordSlip, AllocError> {
+) -> Result<RecordSlip, AllocError>
+    ensures field { IfOk result (λ slip. slip.field ≡ at) }
+    ensures sentence { IfOk result (λ slip. string_bytes slip.sentence ≡ codes "no table is called '" ++ field_of (fields_of fields.now) at ++ codes "'") }
+{
     let name = field(fields, at);
     let names = table_names(alloc, schema)?;
     let sentence = format!(in alloc; "no table is called '{name}'")?;
