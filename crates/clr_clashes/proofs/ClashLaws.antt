@@ -7,13 +7,15 @@ use Rattle.clr_rules.specs.declared.rules.Rule.{Rule}
 use Rattle.clr_rules.specs.Needs.{Holds}
 use Rattle.clr_rules.proofs.Elements.{among, contained}
 use Rattle.clr_needs.specs.declared.needs.Need.{Need}
+use Rattle.clr_needs.specs.Blocking.{IsBlockerOf}
 use Rattle.clr_needs.specs.Covers.{IsBlocker}
 use Rattle.clr_needs.specs.Members.{AreApart, setting}
 use Rattle.clr_needs.specs.Needs.{IsTouchedBy}
 use Rattle.clr_needs.specs.Parts.{setting_at}
 use Rattle.clr_needs.specs.Picks.{Blocks}
 use Rattle.clr_needs.specs.Settings.{Setting, AreDisjoint}
-use Rattle.clr_needs.proofs.BlockerLaws.{AreBlockersTo, all_block, none_blocks_yet, one_blocks, one_blocks_not}
+use Rattle.clr_needs.proofs.BlockerLaws.{AreBlockersTo, all_block}
+use Rattle.clr_needs.proofs.ListedNumbers.{none_listed, one_left_out, one_listed}
 use Rattle.clr_needs.proofs.NeedSubjects.{subjects_once}
 use Rattle.clr_needs.proofs.PartLaws.{IsPart, possible_up}
 use Rattle.clr_needs.proofs.PartLives.{IsInside}
@@ -30,10 +32,10 @@ module _ (rules : List Rule) (root : Content) (sets : List Changes) where
   -- ---- the members that break a need can be listed: it isn't that no list is one of them
 
   listed_to : (n : Need) (k : ℕ) → ((list : List ℕ) → AreBlockersTo c n k list → ⊥) → ⊥
-  listed_to n zero none = none [] (none_blocks_yet c n)
+  listed_to n zero none = none [] (none_listed (IsBlockerOf c n) [] refl)
   listed_to n (suc k) none = listed_to n k (λ list are.
-      none list (subst (λ e. AreBlockersTo c n e list) next (one_blocks_not c n k list
-      (λ blocks. none (list ++ k ∷ []) (subst (λ e. AreBlockersTo c n e (list ++ k ∷ [])) next (one_blocks c n k list (list ++ k ∷ []) refl blocks are))) are)))
+      none list (subst (λ e. AreBlockersTo c n e list) next (one_left_out (IsBlockerOf c n) k list
+      (λ blocks. none (list ++ k ∷ []) (subst (λ e. AreBlockersTo c n e (list ++ k ∷ [])) next (one_listed (IsBlockerOf c n) k list (list ++ k ∷ []) refl blocks are))) are)))
     where
       next : k + 1 ≡ suc k
       next = omega arith

@@ -1,11 +1,11 @@
 -- The first version that serves and is looked for, cell by cell.
-use Rattle.std.proofs.Common.{◌≡◌, ◌∙◌, ◌<◌, ℕ, Bool, true, false, List, ◌⊎◌, inl, inr, Option, Some, None, length, refl, sym, ap, subst}
+use Rattle.std.proofs.Common.{◌≡◌, ◌∙◌, ◌<◌, ℕ, Bool, true, false, List, inl, inr, Option, Some, None, length, refl, sym, ap, subst}
 use Rattle.std.specs.Prelude.{IfSome}
 use Rattle.std.specs.Option.{option_map}
 use Rattle.std.specs.Ordering.{bool_cmp, is_gt, ordering_reverse, ordering_then}
 use Rattle.std.specs.declared.cmp.Ordering.{Ordering}
 use Rattle.std.specs.declared.cmp.Ordering.TheVariants.{Less, Equal, Greater}
-use Rattle.std.proofs.lemmas.Bool.{false≢true, or_cases, or_left, or_right, true≢false}
+use Rattle.std.proofs.lemmas.Bool.{true≢false}
 use Rattle.clr_rows.specs.declared.cells.CellId.{CellId}
 use Rattle.clr_rows.specs.Cells.{cell_cmp}
 use Rattle.clr_rows.specs.Contents.{Changes, Content}
@@ -18,17 +18,15 @@ use Rattle.clr_finders.specs.NextCells.{IsBehind, IsNextOf}
 use Rattle.clr_finders.specs.Sharing.{IsSettledFor, Settled, rule_spots}
 use Rattle.clr_needs.specs.declared.needs.Need.{Need}
 use Rattle.clr_needs.specs.declared.needs.VersionId.{VersionId}
-use Rattle.clr_needs.specs.Blocking.{has_subject_of_life, same_life}
 use Rattle.clr_needs.specs.Broken.{IsServedAfterMerge, is_living_at}
-use Rattle.clr_needs.specs.Covers.{CoversAlone, IsLifeOf, Lasts}
+use Rattle.clr_needs.specs.Covers.{CoversAlone}
 use Rattle.clr_needs.specs.Members.{setting}
 use Rattle.clr_needs.specs.Needs.{IsPossible, IsPossibleNeed, Serves, ask_of}
 use Rattle.clr_needs.specs.Picks.{IsLeastVersion, Picks}
-use Rattle.clr_needs.specs.Settings.{Setting, Always, Lived, held_row, version}
+use Rattle.clr_needs.specs.Settings.{Setting, Lived, held_row, version}
 use Rattle.clr_needs.specs.Witnesses.{lasts}
-use Rattle.clr_needs.proofs.BlockerLaws.{lives_as, same_told, subject_told, told_subject}
 use Rattle.clr_needs.proofs.NeedSubjects.{subjects_once}
-use Rattle.clr_needs.proofs.PickLaws.{least_as}
+use Rattle.clr_needs.proofs.PickLaws.{lasting_told, least_as, told_lasting}
 use Rattle.clr_foot.specs.declared.first_servers.Sought.{Sought}
 use Rattle.clr_foot.specs.declared.first_servers.Sought.TheVariants.{Living, Lasting}
 use Rattle.clr_versions.specs.declared.versions.Version.{Version}
@@ -133,29 +131,13 @@ of_need sought c n s t named named_too possible found = if_some_as (IsLeastVersi
 
 -- the least one that serves and lasts is picked
 module _ (c : Setting ℕ) (n : Need) (a : Lived ℕ) (b : Option (Lived ℕ)) (p : IsPossible c n a b) where
-  told_lasting : (l : Lived ℕ) → lasts c n (Some l) ≡ true → Lasts l.life a b
-  told_lasting l e = by (or_cases (same_life l.life Always) (has_subject_of_life l.life c n) e)
-    where
-      either : (a.life ≡ l.life) ⊎ IsLifeOf l.life b → Lasts l.life a b
-      either (inl h) = inr (inl (sym h))
-      either (inr h) = inr (inr h)
-
-      by : (same_life l.life Always ≡ true) ⊎ (has_subject_of_life l.life c n ≡ true) → Lasts l.life a b
-      by (inl h) = inl (same_told l.life Always h)
-      by (inr h) = either (subject_told c n l.life a b p h)
-
-  lasting_told : (l : Lived ℕ) → Lasts l.life a b → lasts c n (Some l) ≡ true
-  lasting_told l (inl h) = or_left (same_life l.life Always) (has_subject_of_life l.life c n) (lives_as Always l h)
-  lasting_told l (inr (inl h)) = or_right (same_life l.life Always) (has_subject_of_life l.life c n) (told_subject c n l.life a b p (inl (sym h)))
-  lasting_told l (inr (inr h)) = or_right (same_life l.life Always) (has_subject_of_life l.life c n) (told_subject c n l.life a b p (inr h))
-
   covers : (v : VersionId) → IsServingSought Lasting c n v → CoversAlone c n a b v
   covers v ((x, y, l, q, serve), e) =
       let once = subjects_once c n a x b y p q in
-      (l, subst (λ d. Serves c n d b v l) once.0 (subst (λ e. Serves c n x e v l) once.1 serve), told_lasting l (sym (ap (lasts c n) serve.is) ∙ e))
+      (l, subst (λ d. Serves c n d b v l) once.0 (subst (λ e. Serves c n x e v l) once.1 serve), told_lasting c n a b p l (sym (ap (lasts c n) serve.is) ∙ e))
 
   covering : (v : VersionId) → CoversAlone c n a b v → IsServingSought Lasting c n v
-  covering v (l, serve, last) = ((a, b, l, p, serve), ap (lasts c n) serve.is ∙ lasting_told l last)
+  covering v (l, serve, last) = ((a, b, l, p, serve), ap (lasts c n) serve.is ∙ lasting_told c n a b p l last)
 
 pub picks_least : (c : Setting ℕ) (n : Need) (v : VersionId) → IsLeastVersion (IsServingSought Lasting c n) v → Picks c n (Some (v, None))
 picks_least c n v least a b p = least_as (IsServingSought Lasting c n) (CoversAlone c n a b) v (covers c n a b p) (covering c n a b p) least

@@ -1,27 +1,21 @@
 -- The members that are told to break a need are just those that do.
-use Rattle.std.proofs.Common.{◌≡◌, ◌∙◌, ◌<◌, ◌≤◌, ◌+◌, ◌==◌, ℕ, zero, suc, Bool, true, false, List, [], ◌∷◌, ◌++◌, ◌⊎◌, inl, inr, Option, Some, None, Contains}
+use Rattle.std.proofs.Common.{◌≡◌, ◌∙◌, ◌<◌, ◌≤◌, ◌+◌, ◌==◌, ℕ, zero, suc, Bool, true, false, List, ◌⊎◌, inl, inr, Option, Some, None}
 use Rattle.std.proofs.Common.{length, refl, sym, ap, subst, arith}
 use Rattle.std.specs.List.{range_with_len}
-use Rattle.std.specs.List.Sorted.{IsStrictlySortedBy}
-use Rattle.std.specs.Ordering.{nat_cmp}
-use Rattle.std.specs.declared.cmp.Ordering.TheVariants.{Less}
-use Rattle.std.proofs.lemmas.Bool.{cases_lt, false≢true, true≢false, or_cases, or_left, or_right}
+use Rattle.std.proofs.lemmas.Bool.{false≢true, true≢false, or_cases, or_left, or_right}
 use Rattle.std.proofs.lemmas.Bool.Decides.{Decides-eqb}
-use Rattle.std.proofs.lemmas.List.Elements.{Contains-append_left, Contains-append_right, Contains-append_cases}
 use Rattle.clr_rows.specs.Contents.{Changes, Content}
 use Rattle.clr_rules.specs.declared.rules.Rule.{Rule}
-use Rattle.clr_rules.proofs.AskLemmas.{less_number}
-use Rattle.clr_rules.proofs.Elements.{Among, among, contained, rising_joined}
 use Rattle.clr_needs.specs.declared.needs.Need.{Need}
 use Rattle.clr_needs.specs.declared.needs.VersionId.{VersionId}
 use Rattle.clr_needs.specs.Blocking.{IsBlockerOf, has_life, has_life_by, has_subject_of_life, same_life}
 use Rattle.clr_needs.specs.Covers.{IsBlocker, IsLifeOf}
-use Rattle.clr_needs.specs.Independence.{Names}
 use Rattle.clr_needs.specs.Members.{setting}
-use Rattle.clr_needs.specs.Needs.{AreServers, IsBesideIfAny, IsPossible, IsPossibleNeed, Lists}
+use Rattle.clr_needs.specs.Needs.{AreServers, IsBesideIfAny, IsPossible, IsPossibleNeed}
 use Rattle.clr_needs.specs.Picks.{Blocks}
 use Rattle.clr_needs.specs.Settings.{Setting, Lifetime, Always, With, Without, Lived, has, version}
 use Rattle.clr_needs.specs.Witnesses.{IsLeastPassing, IsPassing, has_life_at}
+use Rattle.clr_needs.proofs.ListedNumbers.{AreListedTo}
 use Rattle.clr_needs.proofs.NeedSubjects.{blocker_involves, involved_member, subjects_once}
 
 pub same_told : (l m : Lifetime ℕ) → same_life l m ≡ true → l ≡ m
@@ -96,53 +90,8 @@ module _ (c : Setting ℕ) (n : Need) where
   -- ---- one member after another
 
   -- the blockers below a position
-  pub record IsBlockerBelow (k x : ℕ) : Type 0 where
-    pub below : x < k
-    pub blocks : IsBlockerOf c n x
-
   abbrev pub AreBlockersTo : ℕ → List ℕ → Type 0
-  AreBlockersTo k list = Lists nat_cmp (IsBlockerBelow k) list
-
-  pub none_blocks_yet : AreBlockersTo 0 []
-  unfolding IsStrictlySortedBy
-  none_blocks_yet = record { ascending = tt; exactly = λ x. (λ h. absurd (among x [] h), λ w. let less = w.below in absurd (omega (arith, less))) }
-
-  pub one_blocks : (k : ℕ) (old new : List ℕ) → new ≡ old ++ k ∷ [] → IsBlockerOf c n k → AreBlockersTo k old → AreBlockersTo (k + 1) new
-  unfolding IsStrictlySortedBy
-  one_blocks k old new put blocks before = subst (AreBlockersTo (k + 1)) (sym put) (record {
-    ascending = rising_joined nat_cmp old (k ∷ []) before.ascending (tt, tt) (λ x y h j. below x y h j);
-    exactly = λ x. (λ h. only x (Contains-append_cases old (k ∷ []) x h), every x);
-  })
-    where
-      last : (x : ℕ) → Among x (k ∷ []) → k ≡ x
-      last x (inl e) = e
-      last x (inr h) = absurd h
-
-      below : (x y : ℕ) → Among x old → Among y (k ∷ []) → nat_cmp x y ≡ Less
-      below x y h j = less_number x y (let less = ((before.exactly x).0 (contained x old h)).below in let same = last y j in omega (arith, less, same))
-
-      only : (x : ℕ) → Contains old x ⊎ Contains (k ∷ []) x → IsBlockerBelow (k + 1) x
-      only x (inl h) = let w = (before.exactly x).0 h in record { below = (let less = w.below in omega (arith, less)); blocks = w.blocks }
-      only x (inr h) = let same = last x (among x (k ∷ []) h) in record { below = omega (arith, same); blocks = subst (IsBlockerOf c n) same blocks }
-
-      every : (x : ℕ) → IsBlockerBelow (k + 1) x → Contains (old ++ k ∷ []) x
-      every x w = elim (cases_lt x k) [
-        | inl less ↦ Contains-append_left old (k ∷ []) x ((before.exactly x).1 (record { below = less; blocks = w.blocks }))
-        | inr most ↦ (let less = w.below in let same : k ≡ x = omega (arith, less, most) in Contains-append_right old (k
-            ∷ []) x (contained x (k ∷ []) (inl same)))
-      ]
-
-  pub one_blocks_not : (k : ℕ) (old : List ℕ) → ¬ (IsBlockerOf c n k) → AreBlockersTo k old → AreBlockersTo (k + 1) old
-  one_blocks_not k old fails before = record { ascending = before.ascending; exactly = λ x. (λ h. only x ((before.exactly x).0 h), every x) }
-    where
-      only : (x : ℕ) → IsBlockerBelow k x → IsBlockerBelow (k + 1) x
-      only x w = record { below = (let less = w.below in omega (arith, less)); blocks = w.blocks }
-
-      every : (x : ℕ) → IsBlockerBelow (k + 1) x → Contains old x
-      every x w = elim (cases_lt x k) [
-        | inl less ↦ (before.exactly x).1 (record { below = less; blocks = w.blocks })
-        | inr most ↦ (let less = w.below in let same : x ≡ k = omega (arith, less, most) in absurd (fails (subst (IsBlockerOf c n) same w.blocks)))
-      ]
+  AreBlockersTo k list = AreListedTo (IsBlockerOf c n) k list
 
 -- a member is below the number of sets
 pub range_below : (len from k : ℕ) → has (λ i j. i == j) (range_with_len from len) k ≡ true → k < from + len
@@ -169,9 +118,9 @@ module _ (rules : List Rule) (root : Content) (sets : List Changes) where
     all_block k list past are a b p = record {
       ascending = are.ascending;
       exactly = λ x. (
-        λ h. only x ((are.exactly x).0 h).blocks,
+        λ h. only x ((are.exactly x).0 h).holds,
         λ w. (are.exactly x).1
-            (record { below = (let less = blocker_below a b p x w in omega (arith, less, past)); blocks = (a, b, p, w) }),
+            (record { below = (let less = blocker_below a b p x w in omega (arith, less, past)); holds = (a, b, p, w) }),
       );
     }
       where

@@ -4,6 +4,7 @@ pub mod BlockerLaws
 pub mod BreakLaws
 pub mod BrokenLaws
 pub mod CoverLaws
+pub mod ListedNumbers
 pub mod Lives
 pub mod Meetings
 pub mod Merges

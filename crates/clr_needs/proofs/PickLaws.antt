@@ -19,6 +19,24 @@ pub least_as : (P Q : VersionId → Type 0) (v : VersionId) → ((w : VersionId)
     → IsLeastVersion Q v
 least_as P Q v there back (is, least) = (there v is, λ w lesser h. least w lesser (back w h))
 
+-- a version lasts beside the subjects of a need just where it is told to
+module _ (c : Setting ℕ) (n : Need) (a : Lived ℕ) (b : Option (Lived ℕ)) (p : IsPossible c n a b) where
+  pub told_lasting : (l : Lived ℕ) → lasts c n (Some l) ≡ true → Lasts l.life a b
+  told_lasting l e = by (or_cases (same_life l.life Always) (has_subject_of_life l.life c n) e)
+    where
+      either : (a.life ≡ l.life) ⊎ IsLifeOf l.life b → Lasts l.life a b
+      either (inl h) = inr (inl (sym h))
+      either (inr h) = inr (inr h)
+
+      by : (same_life l.life Always ≡ true) ⊎ (has_subject_of_life l.life c n ≡ true) → Lasts l.life a b
+      by (inl h) = inl (same_told l.life Always h)
+      by (inr h) = either (subject_told c n l.life a b p h)
+
+  pub lasting_told : (l : Lived ℕ) → Lasts l.life a b → lasts c n (Some l) ≡ true
+  lasting_told l (inl h) = or_left (same_life l.life Always) (has_subject_of_life l.life c n) (lives_as Always l h)
+  lasting_told l (inr (inl h)) = or_right (same_life l.life Always) (has_subject_of_life l.life c n) (told_subject c n l.life a b p (inl (sym h)))
+  lasting_told l (inr (inr h)) = or_right (same_life l.life Always) (has_subject_of_life l.life c n) (told_subject c n l.life a b p (inr h))
+
 module _ (c : Setting ℕ) (n : Need) (servers : List VersionId) (are : AreServers c n servers) (a : Lived ℕ) (b : Option (Lived ℕ))
     (p : IsPossible c n a b) where
   -- ---- the versions that serve
@@ -34,27 +52,11 @@ module _ (c : Setting ℕ) (n : Need) (servers : List VersionId) (are : AreServe
 
   -- ---- the servers that last
 
-  told_lasting : (l : Lived ℕ) → lasts c n (Some l) ≡ true → Lasts l.life a b
-  told_lasting l e = by (or_cases (same_life l.life Always) (has_subject_of_life l.life c n) e)
-    where
-      either : (a.life ≡ l.life) ⊎ IsLifeOf l.life b → Lasts l.life a b
-      either (inl h) = inr (inl (sym h))
-      either (inr h) = inr (inr h)
-
-      by : (same_life l.life Always ≡ true) ⊎ (has_subject_of_life l.life c n ≡ true) → Lasts l.life a b
-      by (inl h) = inl (same_told l.life Always h)
-      by (inr h) = either (subject_told c n l.life a b p h)
-
-  lasting_told : (l : Lived ℕ) → Lasts l.life a b → lasts c n (Some l) ≡ true
-  lasting_told l (inl h) = or_left (same_life l.life Always) (has_subject_of_life l.life c n) (lives_as Always l h)
-  lasting_told l (inr (inl h)) = or_right (same_life l.life Always) (has_subject_of_life l.life c n) (told_subject c n l.life a b p (inl (sym h)))
-  lasting_told l (inr (inr h)) = or_right (same_life l.life Always) (has_subject_of_life l.life c n) (told_subject c n l.life a b p (inr h))
-
   covers : (v : VersionId) → IsPassing (lasts_at c n) servers v → CoversAlone c n a b v
-  covers v (h, e) = let (l, serve) = listed_serves v h in (l, serve, told_lasting l (sym (ap (lasts c n) serve.is) ∙ e))
+  covers v (h, e) = let (l, serve) = listed_serves v h in (l, serve, told_lasting c n a b p l (sym (ap (lasts c n) serve.is) ∙ e))
 
   covers_and_lasts : (v : VersionId) → CoversAlone c n a b v → IsPassing (lasts_at c n) servers v
-  covers_and_lasts v (l, serve, last) = (serving_listed v l serve, ap (lasts c n) serve.is ∙ lasting_told l last)
+  covers_and_lasts v (l, serve, last) = (serving_listed v l serve, ap (lasts c n) serve.is ∙ lasting_told c n a b p l last)
 
   -- ---- the servers with a given life
 

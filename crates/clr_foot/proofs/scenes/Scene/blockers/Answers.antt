@@ -1,9 +1,10 @@
 use Rattle.std.proofs.Common.{◌∙◌, ◌+◌, ◌≤◌, ap, arith, subst, sym}
 use Rattle.std.proofs.lemmas.List.{length-map}
-use Rattle.clr_needs.specs.Blocking.{IsToldBlocker}
+use Rattle.clr_needs.specs.Blocking.{IsBlockerOf, IsToldBlocker}
 use Rattle.clr_needs.specs.Needs.{AreServers}
 use Rattle.clr_foot.specs.Scenes.{setting_in}
-use Rattle.clr_needs.proofs.BlockerLaws.{AreBlockersTo, all_block, none_blocks_yet, one_blocks, one_blocks_not}
+use Rattle.clr_needs.proofs.BlockerLaws.{AreBlockersTo, all_block}
+use Rattle.clr_needs.proofs.ListedNumbers.{none_listed, one_left_out, one_listed}
 use Rattle.clr_versions.proofs.Searches.{sets_of}
 use Rattle.clr_foot.proofs.scenes.Scene.blockers.Goals as goal
 use Rattle.clr_foot.proofs.scenes.Scene.blockers.Goals.{else-is_blocker, then-is_blocker+in_ok-push}
@@ -11,7 +12,7 @@ use Rattle.clr_foot.proofs.scenes.Scene.blockers.Goals.{else-is_blocker, then-is
 pub loop-position-init : goal.loop-position-init
 loop-position-init g c =
     let s = setting_in g.V.RowView.content c.args.self.now in
-    subst (AreBlockersTo s c.args.need.now 0) (sym c.new-list.ensures.items) (none_blocks_yet s c.args.need.now)
+    none_listed (IsBlockerOf s c.args.need.now) c.new-list.result.items c.new-list.ensures.items
 
 pub is_blocker-requires-clause-servers : goal.is_blocker-requires-clause-servers
 is_blocker-requires-clause-servers g c = subst (AreServers (setting_in g.V.RowView.content c.args.self.now) c.args.need.now) (sym c.as_slice.ensures.value)
@@ -23,9 +24,9 @@ loop-position-preserved g c =
     let n = c.args.need.now in
     let k = c.loop-position.position in
     elim c.if-is_blocker.branch [
-      | then-is_blocker+in_ok-push w ↦ one_blocks s n k c.loop-position.list.items _ (ap (λ v. v.items) w.list-is ∙ w.in_ok-push.ensures.items)
+      | then-is_blocker+in_ok-push w ↦ one_listed (IsBlockerOf s n) k c.loop-position.list.items _ (ap (λ v. v.items) w.list-is ∙ w.in_ok-push.ensures.items)
           (subst (IsToldBlocker s n k) w.if-is_blocker.true c.is_blocker.ensures) c.loop-position.invariant
-      | else-is_blocker w ↦ subst (λ v. AreBlockersTo s n (k + 1) v.items) (sym w.list-is) (one_blocks_not s n k c.loop-position.list.items
+      | else-is_blocker w ↦ subst (λ v. AreBlockersTo s n (k + 1) v.items) (sym w.list-is) (one_left_out (IsBlockerOf s n) k c.loop-position.list.items
           (subst (IsToldBlocker s n k) w.if-is_blocker.false c.is_blocker.ensures) c.loop-position.invariant)
     ]
 
