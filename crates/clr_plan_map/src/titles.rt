@@ -12,8 +12,8 @@ use clr_rows::Schema;
 use clr_svg::{Anchor, Colour, Element, Label, Layer, Pixels, Spot, Weight};
 use std::alloc::{AllocError, Global};
 
-/// Returns the word for what a plan says.
-pub(crate) fn plan_word(plan: &Plan) -> &'static str
+/// Returns the word for what a plan says: that its members are cleared, that they aren't, that they weren't looked at, or that memory ran out.
+pub fn plan_word(plan: &Plan) -> &'static str
     ensures { result.now ≡ plan_word plan.now }
 {
     match plan {

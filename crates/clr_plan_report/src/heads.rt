@@ -6,20 +6,9 @@ ghost use Rattle.clr_plan_report.specs.Reports.{BeginsWith};
 
 use clr_html::{Block, Section, Tone};
 use clr_plan::Plan;
+use clr_plan_map::plan_word;
 use clr_wording::add_names;
 use std::alloc::{AllocError, Global};
-
-/// Returns the word for what a plan says.
-pub(crate) fn plan_word(plan: &Plan) -> &'static str
-    ensures { result.now ≡ plan_word plan.now }
-{
-    match plan {
-        Plan::Cleared(_) => "Cleared",
-        Plan::Blocked { .. } => "Not cleared",
-        Plan::Unfit(_) => "Not looked at",
-        Plan::OutOfMemory => "Not decided",
-    }
-}
 
 /// Returns whether what a plan says is welcome.
 fn plan_tone(plan: &Plan) -> Tone {
