@@ -2,3 +2,4 @@ pub mod Examples
 pub mod LineLemmas
 pub mod MetresLemmas
 pub mod NearestLemmas
+pub mod SentenceLemmas

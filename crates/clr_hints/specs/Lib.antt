@@ -2,3 +2,4 @@ pub mod Encodings
 pub mod JsonFaults
 pub mod Metres
 pub mod Names
+pub mod Values
