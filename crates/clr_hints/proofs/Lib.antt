@@ -1,3 +1,4 @@
+pub mod BlankLemmas
 pub mod Examples
 pub mod LineLemmas
 pub mod MetresLemmas

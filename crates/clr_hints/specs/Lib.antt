@@ -1,3 +1,4 @@
+pub mod BlankLines
 pub mod Encodings
 pub mod JsonFaults
 pub mod Metres
