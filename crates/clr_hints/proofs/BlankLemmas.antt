@@ -2,14 +2,14 @@
 use Rattle.std.proofs.Common.{◌≡◌, ◌∙◌, ℕ, suc, ◌+◌, ◌<◌, Bool, true, false, cond, not, ◌&&◌, ◌||◌, List, [], ◌∷◌, drop, filter, length, get_or, refl, ap, arith}
 use Rattle.std.proofs.Math.Seq.{drop-cons}
 use Rattle.clr_places.specs.Places.{is_line_end}
-use Rattle.clr_hints.specs.BlankLines.{has_blank_line, is_carriage_return, repeats_line_end}
+use Rattle.clr_hints.specs.BlankLines.{is_carriage_return, repeats_line_end}
 
-abbrev kept : List ℕ → List ℕ
-kept rest = filter (λ byte. not (is_carriage_return byte)) rest
+abbrev without_returns : List ℕ → List ℕ
+without_returns rest = filter (λ byte. not (is_carriage_return byte)) rest
 
 -- a blank line ends in the rest of a text, before which a line has begun or not
 abbrev pub ends_blank : Bool → List ℕ → Bool
-ends_blank begun rest = repeats_line_end (cond begun 0 10 ∷ kept rest)
+ends_blank begun rest = repeats_line_end (cond begun 0 10 ∷ without_returns rest)
 
 kind_of_end : (ends : Bool) → ends ≡ is_line_end (cond (not ends) 0 10)
 kind_of_end true = refl
@@ -22,7 +22,7 @@ first_by_kind byte (next ∷ rest) =
     ap (λ (ends : Bool). (ends && is_line_end next) || repeats_line_end (next ∷ rest)) (kind_of_end (is_line_end byte))
 
 pub return_stays : (begun : Bool) (byte : ℕ) (rest : List ℕ) → is_carriage_return byte ≡ true → ends_blank begun (byte ∷ rest) ≡ ends_blank begun rest
-return_stays begun byte rest returns = ap (λ (left_out : Bool). repeats_line_end (cond begun 0 10 ∷ cond (not left_out) (byte ∷ kept rest) (kept rest))) returns
+return_stays begun byte rest returns = ap (λ (left_out : Bool). repeats_line_end (cond begun 0 10 ∷ cond (not left_out) (byte ∷ without_returns rest) (without_returns rest))) returns
 
 ends_not : (ends : Bool) → ends && not false ≡ false → ends ≡ false
 ends_not true both = both
@@ -36,8 +36,8 @@ first_passes false byte rest ends = ap (λ (now : Bool). now || repeats_line_end
 pub other_passes : (begun : Bool) (byte : ℕ) (rest : List ℕ) → is_carriage_return byte ≡ false → is_line_end byte && not begun ≡ false
     → ends_blank begun (byte ∷ rest) ≡ ends_blank (not (is_line_end byte)) rest
 other_passes begun byte rest stays ends =
-    ap (λ (left_out : Bool). repeats_line_end (cond begun 0 10 ∷ cond (not left_out) (byte ∷ kept rest) (kept rest))) stays
-    ∙ (first_passes begun byte (kept rest) ends ∙ first_by_kind byte (kept rest))
+    ap (λ (left_out : Bool). repeats_line_end (cond begun 0 10 ∷ cond (not left_out) (byte ∷ without_returns rest) (without_returns rest))) stays
+    ∙ (first_passes begun byte (without_returns rest) ends ∙ first_by_kind byte (without_returns rest))
 
 pub line_ends : (byte : ℕ) (rest : List ℕ) → byte ≡ 10 → ends_blank false (byte ∷ rest) ≡ true
 line_ends byte rest ends = ap (λ (ending : ℕ). ends_blank false (ending ∷ rest)) ends

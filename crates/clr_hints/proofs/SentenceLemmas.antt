@@ -19,7 +19,7 @@ pub lent_hint : (names : List (Bor (List ℕ))) →
 lent_hint names =
     ap (λ (listed : List ℕ). hint_listing (length names) listed) (sym (joined_lent (codes ", ") names))
     ∙ ap (λ (count : ℕ). hint_listing count (join_by (λ name. name) (codes ", ") (map (λ (name : Bor (List ℕ)). name.now) names)))
-        (sym (length-map names (λ (name : Bor (List ℕ)). name.now)))
+    (sym (length-map names (λ (name : Bor (List ℕ)). name.now)))
 
 -- a text that is cut behind its first characters is filled with nothing
 pub cut_text : (fill count : ℕ) (text : List ℕ) → padded (format_spec fill 0 0 0 count) text ≡ take_chars count text

@@ -38,5 +38,5 @@ abbrev pub hint_by : List (List ℕ) → Option (List ℕ) → Option (List ℕ)
 hint_by names None = hint_at_all names
 hint_by names (Some near) = Some (codes "did you mean '" ++ near ++ codes "'?")
 
-abbrev pub IsNameHint : List ℕ → List (List ℕ) → Option (List ℕ) → Type 0
-IsNameHint name names hint = (near : Option (List ℕ)) × IsNearest name names near × (hint ≡ hint_by names near)
+abbrev pub IsHintAtName : List ℕ → List (List ℕ) → Option (List ℕ) → Type 0
+IsHintAtName name names hint = (near : Option (List ℕ)) × IsNearest name names near × (hint ≡ hint_by names near)

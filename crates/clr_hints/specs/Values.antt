@@ -7,12 +7,12 @@ use Rattle.serde_json.specs.Written.{IsInOrder, compact_text, has_float}
 use Rattle.clr_hints.specs.declared.values.TheConstants.{MOST_SHOWN}
 
 -- the most characters of a text that a sentence shows
-abbrev pub shown : List ℕ → List ℕ
-shown text = take_chars MOST_SHOWN text
+abbrev pub shown_front : List ℕ → List ℕ
+shown_front text = take_chars MOST_SHOWN text
 
 -- the text where it is shown whole, and else what is shown of it and two full stops
-abbrev pub shortened : List ℕ → List ℕ
-shortened text = if nat_lt (length (shown text)) (length text) then shown text ++ codes ".." else shown text
+abbrev pub short_text : List ℕ → List ℕ
+short_text text = if nat_lt (length (shown_front text)) (length text) then shown_front text ++ codes ".." else shown_front text
 
 -- a value as it is written: its parts in order, so that it is read again, and exactly one text where no number in it is a float
 pub record IsWritten (value : Data) (text : List ℕ) : Type 0 where
@@ -21,10 +21,10 @@ pub record IsWritten (value : Data) (text : List ℕ) : Type 0 where
   pub exact : has_float value ≡ false → text ≡ compact_text value
 
 -- which kind of value this is, with its article
-abbrev pub kind_of : Data → List ℕ
-kind_of null = codes "null"
-kind_of (boolean _) = codes "a flag"
-kind_of (number _) = codes "a number"
-kind_of (string _) = codes "a text"
-kind_of (array _) = codes "a list"
-kind_of (object _) = codes "an object"
+abbrev pub kind_in_words : Data → List ℕ
+kind_in_words null = codes "null"
+kind_in_words (boolean _) = codes "a flag"
+kind_in_words (number _) = codes "a number"
+kind_in_words (string _) = codes "a text"
+kind_in_words (array _) = codes "a list"
+kind_in_words (object _) = codes "an object"

@@ -3,7 +3,7 @@ ghost use Rattle.std.specs.Prelude.{◌≡◌, codes, length, map, string_bytes,
 ghost use Rattle.std.specs.List.{Contains, join_by};
 ghost use Rattle.std.specs.Option.{option_map};
 ghost use Rattle.strsim.specs.Edits.{InUnit};
-ghost use Rattle.clr_hints.specs.Names.{IsNameHint, IsNearest, hint_listing, likeness};
+ghost use Rattle.clr_hints.specs.Names.{IsHintAtName, IsNearest, hint_listing, likeness};
 
 use crate::schema_names::join_names;
 use std::alloc::{AllocError, Global};
@@ -58,7 +58,7 @@ fn hint_at_all(alloc: Global, names: &[&str]) -> Result<Option<String>, AllocErr
 /// Returns a hint at the name that was meant, or at all names where none is alike enough and they are few, or none.
 #[tactic(auto, using(crate::proofs::SentenceLemmas::lent_hint))]
 pub fn name_hint(alloc: Global, name: &str, names: &[&str]) -> Result<Option<String>, AllocError>
-    ensures { IfOk result (λ hint. IsNameHint name.now (map (λ other. other.now) names.now) (option_map string_bytes hint)) }
+    ensures { IfOk result (λ hint. IsHintAtName name.now (map (λ other. other.now) names.now) (option_map string_bytes hint)) }
 {
     match nearest(alloc, name, names)? {
         Some(other) => Ok(Some(format!(in alloc; "did you mean '{other}'?")?)),
