@@ -1,5 +1,6 @@
 -- Blank lines, found from the front of a text.
-use Rattle.std.proofs.Common.{◌≡◌, ◌∙◌, ℕ, suc, ◌+◌, ◌<◌, Bool, true, false, cond, not, ◌&&◌, ◌||◌, List, [], ◌∷◌, drop, filter, length, get_or, refl, ap, arith}
+use Rattle.std.proofs.Common.{◌≡◌, ◌∙◌, ℕ, suc, ◌+◌, ◌<◌, Bool, true, false, cond, not, ◌&&◌, ◌||◌, List, [], ◌∷◌}
+use Rattle.std.proofs.Common.{drop, filter, length, get_or, refl, ap, arith}
 use Rattle.std.proofs.Math.Seq.{drop-cons}
 use Rattle.clr_places.specs.Places.{is_line_end}
 use Rattle.clr_hints.specs.BlankLines.{is_carriage_return, repeats_line_end}
@@ -22,7 +23,8 @@ first_by_kind byte (next ∷ rest) =
     ap (λ (ends : Bool). (ends && is_line_end next) || repeats_line_end (next ∷ rest)) (kind_of_end (is_line_end byte))
 
 pub return_stays : (begun : Bool) (byte : ℕ) (rest : List ℕ) → is_carriage_return byte ≡ true → ends_blank begun (byte ∷ rest) ≡ ends_blank begun rest
-return_stays begun byte rest returns = ap (λ (left_out : Bool). repeats_line_end (cond begun 0 10 ∷ cond (not left_out) (byte ∷ without_returns rest) (without_returns rest))) returns
+return_stays begun byte rest returns =
+    ap (λ (left_out : Bool). repeats_line_end (cond begun 0 10 ∷ cond (not left_out) (byte ∷ without_returns rest) (without_returns rest))) returns
 
 ends_not : (ends : Bool) → ends && not false ≡ false → ends ≡ false
 ends_not true both = both
