@@ -14,7 +14,8 @@ shown_front text = take_chars MOST_SHOWN text
 abbrev pub short_text : List ℕ → List ℕ
 short_text text = if nat_lt (length (shown_front text)) (length text) then shown_front text ++ codes ".." else shown_front text
 
--- a value as it is written: its parts in order, so that it is read again, and exactly one text where no number in it is a float
+-- a text of a value: it has its parts in order, is read as the value again where that isn't nested too deep, and is exactly one where no number in it is
+-- a float
 pub record IsWritten (value : Data) (text : List ℕ) : Type 0 where
   pub order : IsInOrder text value
   pub reads_back : depth value ≤ max_depth → read text ≡ Some value
