@@ -1,4 +1,6 @@
+pub mod BlankLemmas
 pub mod Examples
 pub mod LineLemmas
 pub mod MetresLemmas
 pub mod NearestLemmas
+pub mod SentenceLemmas

@@ -1,4 +1,6 @@
+pub mod BlankLines
 pub mod Encodings
 pub mod JsonFaults
 pub mod Metres
 pub mod Names
+pub mod Values

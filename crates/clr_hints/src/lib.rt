@@ -5,7 +5,13 @@
 //!   aren't UTF-8, or of the byte at a line and a column, by what stands there and before it.
 //! - `nearest` [`nearest`]: the first of the names that are most alike, where one is alike enough; none else.
 //! - `metres_hint`: a hint at exactly the texts that are decimal numbers of metres with at most three decimals, with their millimetres.
-//! - What else is said of names, blank lines and values is tested.
+//! - `name_hint`: where a name may be meant the hint is at the nearest, and else at all names, where there are some and not too many.
+//! - `table_names`, `column_names`, `join_names`, `table_of`: the names of a schema in their order, names with commas between them, and
+//!   the table of a name.
+//! - `blank_lines_hint`: a hint at exactly the texts in which nothing but carriage returns stands before a line end, behind the one before.
+//! - `shorten`, `kind_of`: a text up to its most characters, with two full stops where it goes on; and the word for a kind of JSON value.
+//! - `shorten_value`: the same of a text that is read as the value again, where it isn't nested too deep, and in exactly one way where
+//!   no number in it is a float.
 #![tactic(auto)]
 
 mod blank_lines;

@@ -1,10 +1,11 @@
 //! Names that are nearly right.
-ghost use Rattle.std.specs.Prelude.{◌≡◌, map, IfOk, IfSome};
-ghost use Rattle.std.specs.List.{Contains};
+ghost use Rattle.std.specs.Prelude.{◌≡◌, codes, length, map, string_bytes, IfOk, IfSome};
+ghost use Rattle.std.specs.List.{Contains, join_by};
 ghost use Rattle.std.specs.Option.{option_map};
 ghost use Rattle.strsim.specs.Edits.{InUnit};
-ghost use Rattle.clr_hints.specs.Names.{IsNearest, likeness};
+ghost use Rattle.clr_hints.specs.Names.{IsHintAtName, IsNearest, hint_listing, likeness};
 
+use crate::schema_names::join_names;
 use std::alloc::{AllocError, Global};
 use strsim::jaro_winkler;
 
@@ -43,19 +44,24 @@ pub fn nearest<'a>(
     Ok(best)
 }
 
-/// Returns a hint at the name that was meant, or at all names where none is alike and they are few, or
-/// none.
-pub fn name_hint(alloc: Global, name: &str, names: &[&str]) -> Result<Option<String>, AllocError> {
-    if let Some(other) = nearest(alloc, name, names)? {
-        return Ok(Some(format!(in alloc; "did you mean '{other}'?")?));
-    }
+/// Returns a hint at all names, or none where there are none or many.
+fn hint_at_all(alloc: Global, names: &[&str]) -> Result<Option<String>, AllocError>
+    ensures { IfOk result (λ hint. option_map string_bytes hint ≡ hint_listing (length names.now) (join_by (λ other. other.now) (codes ", ") names.now)) }
+{
     if names.is_empty() || names.len() > MOST_LISTED {
         return Ok(None);
     }
-    let mut hint = String::from_str(alloc, "known:")?;
-    for (at, other) in names.iter().enumerate() {
-        hint.push_str(if at == 0 { " " } else { ", " })?;
-        hint.push_str(other)?;
+    let listed = join_names(alloc, names)?;
+    Ok(Some(format!(in alloc; "known: {listed}")?))
+}
+
+/// Returns a hint at the name that was meant, or at all names where none is alike enough and they are few, or none.
+#[tactic(auto, using(crate::proofs::SentenceLemmas::lent_hint))]
+pub fn name_hint(alloc: Global, name: &str, names: &[&str]) -> Result<Option<String>, AllocError>
+    ensures { IfOk result (λ hint. IsHintAtName name.now (map (λ other. other.now) names.now) (option_map string_bytes hint)) }
+{
+    match nearest(alloc, name, names)? {
+        Some(other) => Ok(Some(format!(in alloc; "did you mean '{other}'?")?)),
+        None => hint_at_all(alloc, names),
     }
-    Ok(Some(hint))
 }
