@@ -1,5 +1,5 @@
 -- A length by its sign, its whole metres and its three decimals.
-use Rattle.std.proofs.Common.{◌≡◌, ℕ, ℤ, pos, negsuc, List, [], ◌∷◌, ◌++◌, ◌/◌, ◌%◌, ◌<◌, ◌<ℤ◌, ap, arith, refl}
+use Rattle.std.proofs.Common.{◌≡◌, ℕ, ℤ, List, ◌∷◌, ◌++◌, ◌/◌, ◌%◌, arith, refl}
 use Rattle.std.specs.Prelude.{decimal, unsigned_abs}
 use Rattle.std.proofs.lemmas.Fmt.{decimal_digit}
 use Rattle.clr_metres.specs.Metres.{metres_text, sign_text}

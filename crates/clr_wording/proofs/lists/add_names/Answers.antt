@@ -1,4 +1,4 @@
-use Rattle.std.proofs.Common.{◌≡◌, ◌++◌, ap, arith, codes, drop, take, length, rules, string_bytes, take_all, ◌-◌, ◌∙◌}
+use Rattle.std.proofs.Common.{◌≡◌, ◌++◌, ap, drop, take, length, string_bytes, take_all, ◌-◌, ◌∙◌}
 use Rattle.std.proofs.lemmas.Result.{on_ok_weaker}
 use Rattle.std.specs.List.{flat_map}
 use Rattle.clr_wording.proofs.NameLemmas.{added_by_ends, behind_comma, first_on_ok}

@@ -1,4 +1,4 @@
-use Rattle.std.proofs.Common.{◌≡◌, ◌++◌, ◌∙◌, ◌∷◌, ◌⊎◌, inl, inr, ℕ, [], List, ap, append-nil, arith, length, refl, string_bytes, sym}
+use Rattle.std.proofs.Common.{◌≡◌, ◌++◌, ◌∙◌, ◌∷◌, inl, inr, [], List, ap, append-nil, arith, length, refl, string_bytes, sym}
 use Rattle.std.specs.List.{flat_map, zip}
 use Rattle.clr_wording.specs.Rows.{column_text}
 use Rattle.clr_wording.proofs.rows.add_values.Goals as goal

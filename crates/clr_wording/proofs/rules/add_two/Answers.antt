@@ -1,8 +1,8 @@
-use Rattle.std.proofs.Common.{◌≡◌, ◌++◌, ◌∙◌, List, ℕ, ap, sym, append_assoc, true, refl, codes}
+use Rattle.std.proofs.Common.{◌≡◌, ◌++◌, ◌∙◌, List, ℕ, sym, append_assoc, true, codes}
 use Rattle.std.proofs.lemmas.Result.{on_ok_weaker}
 use Rattle.clr_rows.specs.declared.tables.TableDef.{TableDef}
 use Rattle.clr_rules.specs.declared.sides.Side.{Side}
-use Rattle.clr_wording.specs.Rules.{are_one_table, one_text, side_text, two_text}
+use Rattle.clr_wording.specs.Rules.{are_one_table, side_text, two_text}
 use Rattle.clr_wording.proofs.rules.add_two.Goals as goal
 
 -- two sides of one whole table

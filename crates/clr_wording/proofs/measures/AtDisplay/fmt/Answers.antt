@@ -1,4 +1,4 @@
-use Rattle.std.proofs.Common.{◌≡◌, ◌++◌, ◌∷◌, [], ℕ, ℤ, List, refl, rules, arith, append_assoc, ap, codes, w64, SFits, to_z-of_z}
+use Rattle.std.proofs.Common.{◌≡◌, ◌++◌, ◌∷◌, [], ℕ, ℤ, List, rules, arith, append_assoc, ap, w64, SFits, to_z-of_z}
 use Rattle.std.proofs.Output.{has_written_of_eq}
 use Rattle.clr_rows.specs.declared.places.Place.{Place}
 use Rattle.clr_metres.specs.Metres.{metres_text}

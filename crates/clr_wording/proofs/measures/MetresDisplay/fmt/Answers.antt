@@ -1,4 +1,4 @@
-use Rattle.std.proofs.Common.{◌≡◌, ℕ, [], refl, rules, arith, w64, to_z-of_z, ◌∙◌, ap, SFits, unsigned_abs}
+use Rattle.std.proofs.Common.{◌≡◌, rules, arith, w64, to_z-of_z, ◌∙◌, ap, SFits, unsigned_abs}
 use Rattle.std.proofs.Output.{has_written_of_eq}
 use Rattle.clr_metres.specs.Metres.{sign_text}
 use Rattle.clr_wording.proofs.PlaceLemmas.{metres_by_digits}
