@@ -1,1 +1,5 @@
+pub mod Lists
 pub mod Meetings
+pub mod Places
+pub mod Rows
+pub mod Rules

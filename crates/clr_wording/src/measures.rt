@@ -1,5 +1,9 @@
 //! Lengths and places in metres.
 
+ghost use Rattle.std.specs.Prelude.{Some};
+ghost use Rattle.clr_metres.specs.Metres.{metres_text};
+ghost use Rattle.clr_wording.specs.Places.{place_text};
+
 use clr_rows::Place;
 use std::fmt;
 
@@ -11,12 +15,17 @@ const MILLIMETRES: u64 = 1000;
 pub struct Metres(pub i64);
 
 impl fmt::Display for Metres {
+    ghost output = { λ length. Some (metres_text length.0) };
+
     fn fmt<W: fmt::Write>(&self, f: &mut fmt::Formatter<W>) -> fmt::Result {
         let sign = if self.0 < 0 { "-" } else { "" };
         let size = self.0.unsigned_abs();
         let metres = size / MILLIMETRES;
         let rest = size % MILLIMETRES;
-        write!(f, "{sign}{metres}.{rest:03}")
+        let tenths = rest / 100;
+        let hundredths = rest % 100 / 10;
+        let thousandths = rest % 100 % 10;
+        write!(f, "{sign}{metres}.{tenths}{hundredths}{thousandths}")
     }
 }
 
@@ -25,6 +34,8 @@ impl fmt::Display for Metres {
 pub struct At(pub Place);
 
 impl fmt::Display for At {
+    ghost output = { λ at. Some (place_text at.0) };
+
     fn fmt<W: fmt::Write>(&self, f: &mut fmt::Formatter<W>) -> fmt::Result {
         let x = Metres(self.0.x);
         let y = Metres(self.0.y);

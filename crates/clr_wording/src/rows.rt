@@ -1,11 +1,17 @@
 //! A row in words.
 
+ghost use Rattle.std.specs.Prelude.{◌≡◌, ◌++◌, IfOk, OnOk, Some, string_bytes};
+ghost use Rattle.clr_wording.specs.Places.{place_text};
+ghost use Rattle.clr_wording.specs.Rows.{count_text, path_text, row_words, shape_text, value_text, values_text};
+
 use crate::measures::At;
 use clr_rows::{CellId, Place, Row, Schema, Shape, TableDef, Value};
 use std::alloc::{AllocError, Global};
 
 /// Adds a value as it stands in a sentence: a number, or a text in quotes.
-pub(crate) fn add_value(text: &mut String, value: &Value) -> Result<(), AllocError> {
+pub(crate) fn add_value(text: &mut String, value: &Value) -> Result<(), AllocError>
+    ensures { OnOk result (string_bytes text.new ≡ string_bytes text.old ++ value_text value.now) }
+{
     match value {
         Value::Int(number) => write!(text, "{number}"),
         Value::Words(words) => {
@@ -16,7 +22,9 @@ pub(crate) fn add_value(text: &mut String, value: &Value) -> Result<(), AllocErr
 }
 
 /// Adds the values of a row, each behind the name of its column.
-fn add_values(text: &mut String, table: &TableDef, row: &Row) -> Result<(), AllocError> {
+fn add_values(text: &mut String, table: &TableDef, row: &Row) -> Result<(), AllocError>
+    ensures { OnOk result (string_bytes text.new ≡ string_bytes text.old ++ values_text (Some table.now) row.now) }
+{
     for ((name, _), value) in table.columns.as_slice().iter().zip(row.values.as_slice()) {
         text.push_str(name.as_str())?;
         text.push_str(" ")?;
@@ -26,32 +34,55 @@ fn add_values(text: &mut String, table: &TableDef, row: &Row) -> Result<(), Allo
     Ok(())
 }
 
+/// Adds a place by its coordinates in metres.
+fn add_place(text: &mut String, place: Place) -> Result<(), AllocError>
+    ensures { OnOk result (string_bytes text.new ≡ string_bytes text.old ++ place_text place) }
+{
+    let place = At(place);
+    write!(text, "{place}")
+}
+
+/// Adds how many vertices these are.
+fn add_count(text: &mut String, count: usize) -> Result<(), AllocError>
+    ensures { OnOk result (string_bytes text.new ≡ string_bytes text.old ++ count_text count) }
+{
+    let noun = if count == 1 { " vertex" } else { " vertices" };
+    write!(text, "{count}")?;
+    text.push_str(noun)
+}
+
 /// Adds where a path goes: its first and its last vertex, and how many stand between.
-fn add_path(text: &mut String, vertices: &[Place]) -> Result<(), AllocError> {
+fn add_path(text: &mut String, vertices: &[Place]) -> Result<(), AllocError>
+    ensures { OnOk result (string_bytes text.new ≡ string_bytes text.old ++ path_text vertices.now) }
+{
     match vertices {
         [first, between @ .., last] => {
-            let first = At(*first);
-            let last = At(*last);
-            let count = between.len();
-            let noun = if count == 1 { "vertex" } else { "vertices" };
-            write!(text, "from {first} by {count} {noun} to {last}")
+            text.push_str("from ")?;
+            add_place(text, *first)?;
+            text.push_str(" by ")?;
+            add_count(text, between.len())?;
+            text.push_str(" to ")?;
+            add_place(text, *last)
         }
         _ => text.push_str("no shape"),
     }
 }
 
 /// Adds where a shape is.
-fn add_shape(text: &mut String, shape: &Shape) -> Result<(), AllocError> {
+fn add_shape(text: &mut String, shape: &Shape) -> Result<(), AllocError>
+    ensures { OnOk result (string_bytes text.new ≡ string_bytes text.old ++ shape_text shape.now) }
+{
     match shape {
         Shape::Bare => text.push_str("no shape"),
         Shape::At(place) => {
-            let place = At(*place);
-            write!(text, "at {place}")
+            text.push_str("at ")?;
+            add_place(text, *place)
         }
         Shape::Line(first, last) => {
-            let first = At(*first);
-            let last = At(*last);
-            write!(text, "from {first} to {last}")
+            text.push_str("from ")?;
+            add_place(text, *first)?;
+            text.push_str(" to ")?;
+            add_place(text, *last)
         }
         Shape::Chain(vertices) => add_path(text, vertices.as_slice()),
     }
@@ -65,7 +96,9 @@ pub fn row_words(
     schema: &Schema,
     cell: CellId,
     row: &Row,
-) -> Result<String, AllocError> {
+) -> Result<String, AllocError>
+    ensures { IfOk result (λ text. string_bytes text ≡ row_words schema.now cell row.now) }
+{
     let mut text = String::new(alloc);
     if let Some(table) = schema.def(cell.table) {
         add_values(&mut text, table, row)?;
