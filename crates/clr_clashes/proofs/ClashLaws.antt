@@ -35,7 +35,8 @@ module _ (rules : List Rule) (root : Content) (sets : List Changes) where
   listed_to n zero none = none [] (none_listed (IsBlockerOf c n) [] refl)
   listed_to n (suc k) none = listed_to n k (λ list are.
       none list (subst (λ e. AreBlockersTo c n e list) next (one_left_out (IsBlockerOf c n) k list
-      (λ blocks. none (list ++ k ∷ []) (subst (λ e. AreBlockersTo c n e (list ++ k ∷ [])) next (one_listed (IsBlockerOf c n) k list (list ++ k ∷ []) refl blocks are))) are)))
+      (λ blocks. none (list ++ k ∷ []) (subst (λ e. AreBlockersTo c n e (list ++ k ∷ [])) next
+      (one_listed (IsBlockerOf c n) k list (list ++ k ∷ []) refl blocks are))) are)))
     where
       next : k + 1 ≡ suc k
       next = omega arith

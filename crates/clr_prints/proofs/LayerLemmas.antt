@@ -25,7 +25,8 @@ module _ {E : Type 0} (o : Office) (options : LayerOptions) (layers : List Given
       → IfOk result (λ p. IsPrintOfLayers options layers IsPrint o (printed p))
   content_is_printed content is made =
       let want = wanted_in o options layers tables live found (Ok content) schema is_live read is in
-      IfOk-weaker result (λ p. IsPrint o content (printed p)) (λ p. IsPrintOfLayers options layers IsPrint o (printed p)) (λ p h. of_content content want h) made
+      IfOk-weaker result (λ p. IsPrint o content (printed p)) (λ p. IsPrintOfLayers options layers IsPrint o (printed p))
+      (λ p h. of_content content want h) made
 
   pub fault_is_printed : (faulty : FaultyLayer) → found ≡ Err faulty → IfOk result (λ p. printed p ≡ faulty_layer_printout layers faulty)
       → IfOk result (λ p. IsPrintOfLayers options layers IsPrint o (printed p))

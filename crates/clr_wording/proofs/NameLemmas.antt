@@ -10,14 +10,17 @@ abbrev pub behind_comma : Bor (List ℕ) → List ℕ
 behind_comma name = codes ", " ++ name.now
 
 -- the names behind the first, by those between and the last
-behind_first : (d name : Bor (List ℕ)) (names : List (Bor (List ℕ))) → names_behind_first (map (λ n. n.now) (name ∷ names)) ≡ flat_map behind_comma (take (length names) (name ∷ names)) ++ (codes " and " ++ (get_or (name ∷ names) (length names) d).now)
+behind_first : (d name : Bor (List ℕ)) (names : List (Bor (List ℕ))) → names_behind_first (map (λ n. n.now) (name ∷ names))
+    ≡ flat_map behind_comma (take (length names) (name ∷ names)) ++ (codes " and " ++ (get_or (name ∷ names) (length names) d).now)
 behind_first d name [] = refl
 behind_first d name (other ∷ names) =
     ap (λ t. codes ", " ++ (name.now ++ t)) (behind_first d other names)
     ∙ ap (λ t. codes ", " ++ t) (sym (append_assoc name.now (flat_map behind_comma (take (length names) (other ∷ names))) _))
 
 -- all the names, by the first, those between and the last
-pub names_by_ends : (d e : Bor (List ℕ)) (names : List (Bor (List ℕ))) → 2 ≤ length names → names_text (map (λ n. n.now) names) ≡ (get_or names 0 d).now ++ (flat_map behind_comma (take (length names - 1 - 1) (drop 1 names)) ++ (codes " and " ++ (get_or names (length names - 1) e).now))
+pub names_by_ends : (d e : Bor (List ℕ)) (names : List (Bor (List ℕ))) → 2 ≤ length names → names_text (map (λ n. n.now) names)
+    ≡ (get_or names 0 d).now ++ (flat_map behind_comma (take (length names - 1 - 1) (drop 1 names))
+    ++ (codes " and " ++ (get_or names (length names - 1) e).now))
 names_by_ends d e [] few = absurd (omega (arith, few))
 names_by_ends d e (name ∷ []) few = absurd (omega (arith, few))
 names_by_ends d e (first ∷ name ∷ names) few = simp unary_clauses (ap (λ t. first.now ++ t) (behind_first e name names))

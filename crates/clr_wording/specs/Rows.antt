@@ -37,7 +37,8 @@ last_place place (next ∷ places) = last_place next places
 
 -- the first and the last vertex of a path, and how many stand between
 abbrev pub path_text : List Place → List ℕ
-path_text (first ∷ next ∷ places) = codes "from " ++ place_text first ++ codes " by " ++ count_text (length places) ++ codes " to " ++ place_text (last_place next places)
+path_text (first ∷ next ∷ places) =
+    codes "from " ++ place_text first ++ codes " by " ++ count_text (length places) ++ codes " to " ++ place_text (last_place next places)
 path_text _ = codes "no shape"
 
 -- where a shape is

@@ -29,7 +29,8 @@ rule_title (Near a b d) = codes "a distance"
 -- the name of a column of a side's table, and no bytes where it isn't there
 abbrev pub column_name : List TableDef → Side → Col → List ℕ
 column_name tables side column.Key = codes "KEY"
-column_name tables side (column.At n) = unwrap_or (option_map (λ c. c.0) (option_and_then (λ table. slice_get table.columns n) (slice_get tables side.table))) []
+column_name tables side (column.At n) =
+    unwrap_or (option_map (λ c. c.0) (option_and_then (λ table. slice_get table.columns n) (slice_get tables side.table))) []
 
 abbrev pub columns_text : List TableDef → Side → List Col → List ℕ
 columns_text tables side columns = names_text (map (column_name tables side) columns)
@@ -78,11 +79,13 @@ end_word Second = codes "second"
 
 -- what a rule asks for
 abbrev pub rule_sentence : List TableDef → Rule → List ℕ
-rule_sentence tables (Unique subject columns) = codes "No two rows of " ++ side_text tables subject ++ codes " have the same " ++ columns_text tables subject columns ++ codes "."
+rule_sentence tables (Unique subject columns) =
+    codes "No two rows of " ++ side_text tables subject ++ codes " have the same " ++ columns_text tables subject columns ++ codes "."
 rule_sentence tables (Partner subject columns server server_columns) =
-    codes "For each " ++ side_text tables subject ++ codes " there is " ++ one_text tables server ++ codes " whose " ++ columns_text tables server server_columns
-    ++ codes " equals its " ++ columns_text tables subject columns ++ codes "."
+    codes "For each " ++ side_text tables subject ++ codes " there is " ++ one_text tables server ++ codes " whose "
+    ++ columns_text tables server server_columns ++ codes " equals its " ++ columns_text tables subject columns ++ codes "."
 rule_sentence tables (EndNode subject tip server) =
     codes "At the " ++ end_word tip ++ codes " end of each " ++ side_text tables subject ++ codes " stands " ++ one_text tables server ++ codes "."
-rule_sentence tables (Crossing a b server) = codes "Where " ++ two_text tables a b ++ codes " cross or touch, there stands " ++ one_text tables server ++ codes "."
+rule_sentence tables (Crossing a b server) =
+    codes "Where " ++ two_text tables a b ++ codes " cross or touch, there stands " ++ one_text tables server ++ codes "."
 rule_sentence tables (Near a b d) = codes "Between " ++ two_text tables a b ++ codes " there are at least " ++ metres_text d ++ codes " m."
