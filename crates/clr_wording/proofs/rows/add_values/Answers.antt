@@ -18,6 +18,6 @@ returns c =
     let columns = c.loop-name.name-iterator.a.rest.now in
     let values = c.loop-name.name-iterator.b.rest.now in
     let none_left : zip columns values ≡ [] =
-        elim c.in-None.ensures.steps [ inl x ↦ zip_of_no_first columns values x.1.0 | inr x ↦ zip_of_no_second columns values x.1.0 ] in
+    elim c.in-None.ensures.steps [ inl x ↦ zip_of_no_first columns values x.1.0 | inr x ↦ zip_of_no_second columns values x.1.0 ] in
     sym (append-nil (string_bytes c.loop-name.text)) ∙ ap (λ left. string_bytes c.loop-name.text ++ flat_map column_text left) (sym none_left)
     ∙ c.loop-name.invariant

@@ -9,6 +9,6 @@ pub returns-clause-writes : goal.returns-clause-writes
 returns-clause-writes g c plain ok =
     let fits : SFits w64 c.args.self.now.0 = search rules in
     let sign : c.if-self-lt0.sign.now ≡ sign_text c.args.self.now.0 =
-        elim c.if-self-lt0.branch [ then-self-lt0 w ↦ grind arith | else-self-lt0 w ↦ grind arith ] in
+    elim c.if-self-lt0.branch [ then-self-lt0 w ↦ grind arith | else-self-lt0 w ↦ grind arith ] in
     has_written_of_eq _ _ _ _ _ (metres_by_digits _ _ _ sign (c.unsigned_abs-size.ensures.value ∙ ap unsigned_abs (to_z-of_z fits)))
     (c.write.ensures.writes plain ok)
