@@ -1,29 +1,37 @@
--- Hints at names, one name after another.
-use Rattle.std.proofs.Common.{◌≡◌, ◌∙◌, inl, inr, ◌<◌, ◌++◌, ◌∷◌, [], ℕ, suc, List, ap, append-nil, arith, length, slice_index_or, subst, sym}
-use Rattle.std.specs.Prelude.{Contains, flat_map}
-use Rattle.std.proofs.lemmas.Grind.{flat_map-append}
-use Rattle.std.proofs.lemmas.List.Elements.{All-contains_itself, All-push}
+-- Hints at names, one name after another, and the names of workspaces.
+use Rattle.std.proofs.Common.{◌≡◌, ◌∙◌, ◌<◌, ◌+◌, ◌++◌, ◌∷◌, [], ℕ, zero, suc, List, Some, None, ap, append-nil, append_assoc, get_or, length, map, refl, sym, take}
+use Rattle.std.specs.Prelude.{slice_get}
+use Rattle.std.specs.Option.{option_map}
+use Rattle.std.proofs.lemmas.List.{take_more}
+use Rattle.std.proofs.lemmas.Option.{get_or_from_slice_get, slice_get-get_or, slice_get_within}
 use Rattle.clr_workspaces.specs.Marks.{Name}
+use Rattle.clr_workspaces.specs.Workspaces.{Workspace}
 use Rattle.clr_steps.specs.Offices.{Office}
-use Rattle.clr_prints.specs.NameHints.{AddsHint, AreNameHints, IsNameHint, NameHint, hint_text}
+use Rattle.clr_steps.specs.Readings.{name_at}
+use Rattle.clr_prints.specs.NameHints.{AddsHint, AreNameHints, workspace_names}
 
--- an element behind the first
-pub behind : {X : Type 0} (x : X) (xs : List X) (at : ℕ) (d : X) → at < length xs → Contains (x ∷ xs) (slice_index_or xs at d)
-behind x xs at d less = All-contains_itself (x ∷ xs) (suc at) d (omega (arith, less))
+-- what is said at one more name
+pub more_hints : (o : Office) (names : List Name) (name : Name) (old new : List ℕ) → AreNameHints o names old → AddsHint o name old new
+    → AreNameHints o (names ++ name ∷ []) new
+more_hints o [] name old new none (line, is, added) = (line, [], is, refl, added ∙ ap (λ ls. ls ++ line) none ∙ sym (append-nil line))
+more_hints o (n ∷ ns) name old new (first, rest, at, are, e) (line, is, added) =
+    (first, rest ++ line, at, more_hints o ns name rest (rest ++ line) are (line, is, refl), added ∙ ap (λ ls. ls ++ line) e ∙ append_assoc first rest line)
 
--- no hint
-pub no_hints : (o : Office) (names : List Name) (lines : List ℕ) → lines ≡ [] → AreNameHints o names lines
-no_hints o names lines e = ([], (λ k d less. absurd (omega (arith, less))), e)
+names_read : (ws : List Workspace) (at : ℕ) → option_map (λ w. w.name) (slice_get ws at) ≡ slice_get (map (λ w. w.name) ws) at
+names_read [] at = refl
+names_read (w ∷ ws) zero = refl
+names_read (w ∷ ws) (suc at) = names_read ws at
 
--- one more, or none
-pub more_hints : (o : Office) (names : List Name) (name : Name) (old new : List ℕ) → Contains names name → AreNameHints o names old → AddsHint o name old new
-    → AreNameHints o names new
-more_hints o names name old new given are (inl same) = subst (AreNameHints o names) (sym same) are
-more_hints o names name old new given (hints, all, e) (inr (near, nobody, named, added)) =
-    let hint : NameHint = record { name = name; near = near } in
-    let is : IsNameHint o names hint = record { given = given; nobody = nobody; near = named } in (
-      hints ++ hint ∷ [],
-      All-push (IsNameHint o names) hints hint all is,
-      added ∙ ap (λ ls. ls ++ hint_text hint) e ∙ sym (flat_map-append hint_text hints (hint ∷ [])
-          ∙ ap (λ ls. flat_map hint_text hints ++ ls) (append-nil (hint_text hint))),
-    )
+pub name_read : (o : Office) (at : ℕ) → name_at o at ≡ slice_get (workspace_names o) at
+name_read o zero = refl
+name_read o (suc at) = names_read o.workspaces at
+
+-- the names so far, and one more
+pub more_names : (all : List Name) (at : ℕ) (name : Name) (old new : List Name) → slice_get all at ≡ Some name → old ≡ take at all → new ≡ old ++ name ∷ []
+    → new ≡ take (at + 1) all
+more_names all at name old new is before put =
+    put ∙ ap (λ ns. ns ++ name ∷ []) before
+    ∙ sym (take_more all at name (slice_get_within all at name is) ∙ ap (λ n. take at all ++ n ∷ []) (get_or_from_slice_get all at name name is))
+
+pub there_is_one : (all : List Name) (at : ℕ) → at < length all → slice_get all at ≡ None → ⊥
+there_is_one all at less none = absurd (let some = slice_get-get_or all at [] less in let same : Some (get_or all at []) ≡ None = sym some ∙ none in cc)

@@ -3,7 +3,8 @@
 //! - `Print`: a text for standard output, notes for standard error, and an ending, which tells the exit status. A print that
 //!   found no memory shows no text.
 //! - `notes_of`: the lines of an office text that is refused, as notes.
-//! - `with_hints`, `hint_lines`: hints at names that no workspace has. Each names a workspace that stands (`IsHinted`).
+//! - `with_hints`, `hint_lines`: hints at names that no workspace has, each at the workspace whose name is most like it, where one is like
+//!   enough, and no others (`IsHinted`).
 //! - `plan_members`: the plan of members, with what it promises (`IsPlanned`). Over the office of a text, `answer_map` gives the map of such a
 //!   plan (`IsMapPrint`), `answer_report` its report (`IsReportPrint`), and `answer_geojson` its features, in a system of coordinates if one is
 //!   named (`IsFeaturesAnswer`).

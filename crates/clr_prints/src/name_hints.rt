@@ -1,6 +1,6 @@
 //! Hints at names that no workspace has.
-ghost use Rattle.std.specs.Prelude.{◌≡◌, ◌∷◌, All, Contains, IfOk, IfSome, OnOk};
-ghost use Rattle.clr_prints.specs.NameHints.{AddsHint, AreNameHints, HintsAt, IsNobody, IsWorkspaceName, hint_text};
+ghost use Rattle.std.specs.Prelude.{◌≡◌, ◌∷◌, map, option_map, IfOk, OnOk};
+ghost use Rattle.clr_prints.specs.NameHints.{AddsHint, AreNameHints, HintsAt, IsMeant, hint_text, workspace_names};
 ghost use Rattle.clr_prints.specs.Printing.{printed};
 
 use crate::prints::Print;
@@ -12,7 +12,7 @@ use std::alloc::{AllocError, Global};
 
 /// Returns the names of all workspaces, that of LIVE first.
 fn names_of_workspaces<'a>(alloc: Global, office: &'a Office) -> Result<Vec<&'a str>, AllocError>
-    ensures { IfOk result (λ names. All (λ name. IsWorkspaceName office.now name.now) names.items) }
+    ensures { IfOk result (λ names. map (λ name. name.now) names.items ≡ workspace_names office.now) }
 {
     let mut names = Vec::new(alloc);
     for at in 0..office.len() {
@@ -23,14 +23,15 @@ fn names_of_workspaces<'a>(alloc: Global, office: &'a Office) -> Result<Vec<&'a 
     Ok(names)
 }
 
-/// Returns the name of a workspace that may be meant by a name that no workspace has.
+/// Returns the name of a workspace that may be meant by a name, or none where a workspace has it or none is like it.
 fn nearest_name<'a>(
     alloc: Global,
     office: &Office,
     known: &[&'a str],
     name: &str,
 ) -> Result<Option<&'a str>, AllocError>
-    ensures { IfOk result (λ near. IfSome near (λ other. Contains known.now other × IsNobody office.now name.now)) }
+    requires { map (λ other. other.now) known.now ≡ workspace_names office.now }
+    ensures { IfOk result (λ near. IsMeant office.now name.now (option_map (λ other. other.now) near)) }
 {
     if name == LIVE || office.parent_of(name).is_some() {
         return Ok(None);
@@ -58,7 +59,7 @@ fn add_hint(
     name: &str,
     lines: &mut Vec<u8>,
 ) -> Result<(), AllocError>
-    requires { All (λ other. IsWorkspaceName office.now other.now) known.now }
+    requires { map (λ other. other.now) known.now ≡ workspace_names office.now }
     ensures { OnOk result (AddsHint office.now name.now lines.old.items lines.new.items) }
 {
     if let Some(near) = nearest_name(alloc, office, known, name)? {

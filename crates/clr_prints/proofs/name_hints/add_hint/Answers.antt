@@ -1,19 +1,8 @@
-use Rattle.std.proofs.Common.{◌∙◌, ◌++◌, ap, inr, subst}
-use Rattle.std.specs.Prelude.{Contains, IfSome}
-use Rattle.std.proofs.lemmas.List.Elements.{All-contains}
-use Rattle.clr_prints.specs.NameHints.{IsNobody, IsWorkspaceName}
+use Rattle.std.proofs.Common.{[], None, append-nil, option_map, refl, subst, sym}
+use Rattle.clr_prints.specs.NameHints.{IsMeant}
 use Rattle.clr_prints.proofs.name_hints.add_hint.Goals as goal
 
-pub returns-in_ok-extend_from_slice : goal.returns-in_ok-extend_from_slice
-returns-in_ok-extend_from_slice c =
-    let o = c.args.office.now in
-    let known = c.args.known.now in
-    let near = c.in-Some.near in
-    let meant : Contains known near × IsNobody o c.args.name.now =
-    subst (λ r. IfSome r (λ other. Contains known other × IsNobody o c.args.name.now)) c.in-Some.is c.in_ok-near.ensures in
-    inr (
-      near.now,
-      meant.1,
-      All-contains (λ name. IsWorkspaceName o name.now) known near c.requires meant.0,
-      c.in_ok-extend_from_slice.ensures.items ∙ ap (λ ls. c.args.lines.now.items ++ ls) (c.as_slice.ensures.value ∙ c.in_ok-line.ensures),
-    )
+pub returns-in_default : goal.returns-in_default
+returns-in_default c =
+    let meant = subst (λ near. IsMeant c.args.office.now c.args.name.now (option_map (λ other. other.now) near)) c.in_default.is c.in_ok-near.ensures in
+    ([], (None, meant, refl), sym (append-nil c.args.lines.now.items))

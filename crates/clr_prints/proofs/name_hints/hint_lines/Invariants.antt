@@ -1,7 +1,7 @@
-use Rattle.std.specs.Prelude.{◌∷◌}
+use Rattle.std.proofs.Common.{◌∷◌, take}
 use Rattle.clr_prints.specs.NameHints.{AreNameHints}
 use Rattle.clr_prints.proofs.name_hints.hint_lines.Given as goal
 
--- hints at the root and at the names so far
+-- what is said at the root and at the names so far
 abbrev pub invariant-loop-name : goal.invariant-loop-name
-invariant-loop-name l = AreNameHints l.fn.office (l.fn.root ∷ l.fn.names) l.lines.items
+invariant-loop-name l = AreNameHints l.fn.office (l.fn.root ∷ take l.name-index l.fn.names) l.lines.items

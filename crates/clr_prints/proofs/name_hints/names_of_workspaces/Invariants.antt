@@ -1,7 +1,7 @@
-use Rattle.std.specs.Prelude.{All}
-use Rattle.clr_prints.specs.NameHints.{IsWorkspaceName}
+use Rattle.std.proofs.Common.{◌≡◌, map, take}
+use Rattle.clr_prints.specs.NameHints.{workspace_names}
 use Rattle.clr_prints.proofs.name_hints.names_of_workspaces.Given as goal
 
--- the names so far are names of workspaces
+-- the names so far
 abbrev pub invariant-loop-at : goal.invariant-loop-at
-invariant-loop-at l = All (λ name. IsWorkspaceName l.fn.office name.now) l.names.items
+invariant-loop-at l = map (λ name. name.now) l.names.items ≡ take l.at (workspace_names l.fn.office)
