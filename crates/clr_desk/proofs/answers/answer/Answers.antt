@@ -1,5 +1,9 @@
-use Rattle.std.proofs.Common.{rules, sym}
+use Rattle.std.proofs.Common.{◌≡◌, ◌∙◌, ◌||◌, Ok, false, length, rules, subst, sym}
+use Rattle.std.specs.List.{list_any}
+use Rattle.std.proofs.lemmas.Bool.{le-ltb}
+use Rattle.clr_office.specs.Answers.{is_too_long}
 use Rattle.clr_prints.specs.Printing.{Printout, is_lost_ending, status_by, unless_lost}
+use Rattle.clr_desk.specs.Answers.{IsDeskAnswerIf, IsDeskAnswerWithin, is_too_long_layer}
 use Rattle.clr_desk.proofs.answers.answer.Goals as goal
 
 pub returns-in-Ok-put-clause-answers : goal.returns-in-Ok-put-clause-answers
@@ -11,4 +15,14 @@ returns-in-Ok-put-clause-answers g c =
       status =
           status_by print.ending;
     } in
-    (x, search rules, sym c.status-status.ensures, record { text = search rules; notes = search rules; text_sink = search rules; notes_sink = search rules })
+    let ask = c.args.ask.now in
+    let office = c.args.office.now in
+    let second = c.args.second.now in
+    let layers = c.args.layers.now in
+    let within : IsDeskAnswerWithin ask office second layers (Ok x) = c.in-Ok.ensures in
+    let short : is_too_long office ≡ false = le-ltb _ (length office) c.if-office-gt-MOST_INPUT_BYTES.false in
+    let short_too : is_too_long second ≡ false = le-ltb _ (length second) c.if-second-gt-MOST_INPUT_BYTES.false in
+    let short_layers : list_any is_too_long_layer layers ≡ false = sym c.is_any_too_long.ensures ∙ c.if-is_any_too_long.false in
+    let none : (is_too_long office || is_too_long second || list_any is_too_long_layer layers) ≡ false = λ i. short i || short_too i || short_layers i in
+    let answered = subst (λ b. IsDeskAnswerIf b ask office second layers (Ok x)) (sym none) within in
+    (x, answered, sym c.status-status.ensures, record { text = search rules; notes = search rules; text_sink = search rules; notes_sink = search rules })
