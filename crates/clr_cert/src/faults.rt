@@ -2,7 +2,7 @@
 
 ghost use Rattle.std.specs.Prelude.{◌≡◌};
 ghost use Rattle.clr_readings.specs.Readings.{numbered_fault};
-ghost use Rattle.clr_cert.specs.Faults.{cert_lacks_memory};
+ghost use Rattle.clr_cert.specs.Faults.{cert_lacks_memory, cert_fault_number};
 ghost use Rattle.clr_cert.specs.declared.faults.CertFault.TheVariants as fault;
 
 use std::alloc::{AllocError, AllocFailed};
@@ -21,6 +21,15 @@ pub enum CertFault {
     /// A name, a rule, a subject or a witness of a form that isn't allowed, a field that must be
     /// empty and isn't, a root record that names LIVE, or a second root record.
     BadReference = 4,
+}
+
+impl CertFault {
+    /// Returns the number of a fault, which its line shows.
+    pub fn number(self) -> u8
+        ensures { result ≡ cert_fault_number self }
+    {
+        self as u8
+    }
 }
 
 impl From<AllocError> for CertFault {

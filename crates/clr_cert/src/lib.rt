@@ -22,6 +22,6 @@ mod writing;
 
 pub use certificates::{Certificate, Entries, Entry};
 pub use faults::CertFault;
-pub use limits::GREATEST_PART;
+pub use limits::{GREATEST_PART, limits_of_certificates};
 pub use reading::read_certificate;
 pub use writing::{add_subject, write_certificate};

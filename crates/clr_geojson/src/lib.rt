@@ -15,3 +15,4 @@ mod strings;
 pub use collections::{add_feature, begin_collection, end_collection};
 pub use features::{Feature, Properties, Property, PropertyValue};
 pub use laws::texts_are_read_back;
+pub use marks::marks_of_features;

@@ -17,6 +17,7 @@
 mod blank_lines;
 mod encodings;
 mod json_faults;
+mod laws;
 mod metres;
 mod names;
 mod schema_names;
@@ -25,6 +26,7 @@ mod values;
 pub use blank_lines::blank_lines_hint;
 pub use encodings::{encoding_fault, has_byte_order_mark};
 pub use json_faults::json_fault;
+pub use laws::limits_of_hints;
 pub use metres::metres_hint;
 pub use names::{name_hint, nearest};
 pub use schema_names::{column_names, join_names, table_names, table_of};

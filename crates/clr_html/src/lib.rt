@@ -12,6 +12,8 @@ mod tables;
 mod texts;
 
 pub use blocks::{Block, Tone};
+pub use marks::marks_of_pages;
 pub use pages::{Page, Section, write_page};
+pub use styles::frame_of_pages;
 pub use tables::{Fold, Row, Table};
 pub use texts::Text;

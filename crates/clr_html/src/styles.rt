@@ -1,5 +1,7 @@
 //! How pages look: fixed texts.
 
+ghost use Rattle.std.specs.Prelude.{◌≡◌, ◌++◌, codes};
+
 /// What stands before the title of a page. The policy lets a reader load nothing and run no script.
 pub(crate) const OPENING: &str =
     "<!doctype html>\n<html lang=\"en\">\n<head>\n<meta charset=\"utf-8\">\n<meta name=\"viewport\" content=\"width=device-width\">\n\
@@ -51,3 +53,11 @@ details::details-content{content-visibility:visible;height:auto}
 
 /// What stands behind the sections of a page.
 pub(crate) const CLOSING: &str = "</main>\n</body>\n</html>\n";
+
+/// What stands before the title of a page, and what stands behind its sections, is this.
+pub fn frame_of_pages()
+    ensures opening { OPENING.now
+        ≡ codes "<!doctype html>\n<html lang=\"en\">\n<head>\n<meta charset=\"utf-8\">\n<meta name=\"viewport\" content=\"width=device-width\">\n"
+        ++ codes "<meta http-equiv=\"Content-Security-Policy\" content=\"default-src 'none'; style-src 'unsafe-inline'\">\n<title>" }
+    ensures closing { CLOSING.now ≡ codes "</main>\n</body>\n</html>\n" }
+{}

@@ -31,6 +31,6 @@ pub use laws::{
     covered_members_keep_rules, first_broken_is_listed_first, positions_stand_for_names,
     uncovered_needs_are_broken,
 };
-pub use limits::MOST_MEMBERS;
+pub use limits::{MOST_MEMBERS, limit_of_members};
 pub use needs::{Life, Need, VersionId};
 pub use shared_cells::SharedCell;

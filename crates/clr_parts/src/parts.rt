@@ -1,5 +1,8 @@
 //! Parts of a tree: workspaces handed in or out with whole contents.
 
+ghost use Rattle.std.specs.Prelude.{◌≡◌};
+ghost use Rattle.clr_parts.specs.Faults.{part_fault_number};
+
 use clr_rows::{Sheet, Words};
 
 /// A mark of a part: a savepoint with the content that it saved, or the mark of a child.
@@ -38,4 +41,13 @@ pub enum PartFault {
     /// The marks of children aren't exactly the children, each once; or the name of a savepoint
     /// isn't good or stands twice; or there are more than 64 savepoints.
     BadMarks = 5,
+}
+
+impl PartFault {
+    /// Returns the number of a fault.
+    pub fn number(self) -> u8
+        ensures { result ≡ part_fault_number self }
+    {
+        self as u8
+    }
 }

@@ -1,6 +1,6 @@
 //! The foot of a report: the command and the lines on which the report stands.
 
-ghost use Rattle.std.specs.Prelude.{◌≡◌, ◌++◌, map, IfOk, OnOk};
+ghost use Rattle.std.specs.Prelude.{◌≡◌, ◌++◌, codes, map, IfOk, OnOk};
 ghost use Rattle.std.specs.List.{flat_map};
 ghost use Rattle.clr_plan.specs.PlanLines.{plan_text};
 ghost use Rattle.clr_plan_report.specs.Reports.{EndsWith, command_text, under_text, word_text};
@@ -15,6 +15,12 @@ const PLAN: &str = "clr_office plan DB";
 
 /// The command that asks for a plan under a root, which comes next.
 const PLANUNDER: &str = "clr_office planunder DB";
+
+/// The commands that ask for a plan are these.
+pub fn commands_of_reports()
+    ensures plan { PLAN.now ≡ codes "clr_office plan DB" }
+    ensures planunder { PLANUNDER.now ≡ codes "clr_office planunder DB" }
+{}
 
 /// Adds a word of a command, behind a space.
 fn add_word(text: &mut Vec<u8>, word: &str) -> Result<(), AllocError>

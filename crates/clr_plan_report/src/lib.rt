@@ -15,4 +15,5 @@ mod remedies;
 mod reports;
 mod sections;
 
+pub use feet::commands_of_reports;
 pub use reports::plan_report;

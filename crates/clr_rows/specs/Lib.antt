@@ -1,6 +1,7 @@
 pub mod Beginnings
 pub mod Cells
 pub mod Contents
+pub mod Faults
 pub mod Held
 pub mod Laws
 pub mod Names

@@ -1,5 +1,8 @@
 //! Why tables make no schema, and why a row can't stand at a cell.
 
+ghost use Rattle.std.specs.Prelude.{◌≡◌};
+ghost use Rattle.clr_rows.specs.Faults.{schema_fault_number, row_fault_number};
+
 /// Why tables make no schema. Each test is made over all tables before the next.
 #[derive(Clone, Copy, Debug, PartialEq, Eq)]
 pub enum SchemaFault {
@@ -9,6 +12,15 @@ pub enum SchemaFault {
     BadName = 2,
     /// A table's name that stands twice, or a column's name that stands twice in one table.
     NameTaken = 3,
+}
+
+impl SchemaFault {
+    /// Returns the number of a fault.
+    pub fn number(self) -> u8
+        ensures { result ≡ schema_fault_number self }
+    {
+        self as u8
+    }
 }
 
 /// Why a row can't stand at a cell, or why a cell names no row: the first reason that applies.
@@ -31,4 +43,13 @@ pub enum RowFault {
     ZeroSegment = 7,
     /// A path of fewer than 2 or more than 32 vertices.
     BadPath = 8,
+}
+
+impl RowFault {
+    /// Returns the number of a fault.
+    pub fn number(self) -> u8
+        ensures { result ≡ row_fault_number self }
+    {
+        self as u8
+    }
 }

@@ -40,7 +40,7 @@ pub use faults::{RowFault, SchemaFault};
 pub use laws::{changes_law, over_law};
 pub use limits::{
     GREATEST_COORDINATE, GREATEST_KEY, KEY, LEAST_VERTICES, LIVE, MOST_COLUMNS, MOST_NAME_BYTES,
-    MOST_TABLES, MOST_TEXT_BYTES, MOST_VERTICES,
+    MOST_TABLES, MOST_TEXT_BYTES, MOST_VERTICES, limits_of_rows,
 };
 pub use lists::List;
 pub use names::{Names, good_name};

@@ -1,6 +1,8 @@
 //! The limits of schemas, names, texts, keys, coordinates and paths, and the words `KEY` and
 //! `LIVE`.
 
+ghost use Rattle.std.specs.Prelude.{◌≡◌, codes, pos};
+
 /// The most tables of a schema.
 pub const MOST_TABLES: usize = 32;
 
@@ -30,3 +32,17 @@ pub const LEAST_VERTICES: usize = 2;
 
 /// The most vertices of a path.
 pub const MOST_VERTICES: usize = 32;
+
+/// The limits and the two words are these.
+pub fn limits_of_rows()
+    ensures tables { MOST_TABLES ≡ 32 }
+    ensures columns { MOST_COLUMNS ≡ 16 }
+    ensures names { MOST_NAME_BYTES ≡ 30 }
+    ensures key { KEY.now ≡ codes "KEY" }
+    ensures live { LIVE.now ≡ codes "LIVE" }
+    ensures texts { MOST_TEXT_BYTES ≡ 200 }
+    ensures keys { GREATEST_KEY ≡ pos 999_999_999_999_999 }
+    ensures coordinates { GREATEST_COORDINATE ≡ 1_000_000_000 }
+    ensures least { LEAST_VERTICES ≡ 2 }
+    ensures most { MOST_VERTICES ≡ 32 }
+{}

@@ -2,6 +2,7 @@
 
 ghost use Rattle.std.specs.Prelude.{◌≡◌};
 ghost use Rattle.clr_rule_text.specs.declared.faults.TextFault.TheVariants as text_fault;
+ghost use Rattle.clr_rule_text.specs.Faults.{text_fault_number};
 
 use std::alloc::{AllocError, AllocFailed};
 
@@ -26,6 +27,15 @@ pub enum TextFault {
     /// A workspace can't stand: its parent is neither LIVE nor an earlier one, or the workspaces
     /// make no tree.
     BadPart = 7,
+}
+
+impl TextFault {
+    /// Returns the number of a fault, which its line shows.
+    pub fn number(self) -> u8
+        ensures { result ≡ text_fault_number self }
+    {
+        self as u8
+    }
 }
 
 impl From<AllocError> for TextFault {

@@ -1,5 +1,6 @@
 pub mod Books
 pub mod Calls
+pub mod Faults
 pub mod Fitting
 pub mod Laws
 pub mod Needs

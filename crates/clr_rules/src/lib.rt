@@ -29,7 +29,7 @@ pub use laws::{
     broken_needs_are_listed, crossing_servers_are_common_points,
     crossing_subjects_have_common_points, servers_have_roles, subjects_have_roles,
 };
-pub use limits::{LEAST_DISTANCE, MOST_RULES};
+pub use limits::{LEAST_DISTANCE, MOST_RULES, limits_of_books};
 pub use needs::{Ask, Broken};
 pub use roles::Roles;
 pub use rules::{Rule, Sides, Tip};

@@ -1,3 +1,4 @@
 pub mod Edits
+pub mod Faults
 pub mod Records
 pub mod Scripts

@@ -2,6 +2,7 @@
 
 ghost use Rattle.std.specs.Prelude.{◌≡◌};
 ghost use Rattle.clr_scripts.specs.declared.faults.RecordFault.TheVariants as record_fault;
+ghost use Rattle.clr_scripts.specs.Faults.{record_fault_number};
 
 use std::alloc::{AllocError, AllocFailed};
 
@@ -20,6 +21,15 @@ pub enum RecordFault {
     NoTable = 4,
     /// A number that isn't decimal in its one form, or not within 64 bits.
     BadNumber = 5,
+}
+
+impl RecordFault {
+    /// Returns the number of a fault, which its line shows.
+    pub fn number(self) -> u8
+        ensures { result ≡ record_fault_number self }
+    {
+        self as u8
+    }
 }
 
 impl From<AllocError> for RecordFault {

@@ -32,7 +32,7 @@ pub use laws::{
     meeting_boxes_touch, meeting_shapes_touch, near_boxes_touch, parts_are_boxed, points_are_boxed,
     points_are_found, segments_in_either_order, shapes_are_boxed, two_common_points_are_found,
 };
-pub use limits::GREATEST_DISTANCE;
+pub use limits::{GREATEST_DISTANCE, limit_of_distances};
 pub use meeting::Meet;
 pub use points::{lies_on, near};
 pub use shape_parts::{part, parts};

@@ -29,6 +29,7 @@ pub use laws::{
     servers_share_spots, spots_are_shared_both_ways, spots_stand_once, squares_of_a_box,
     subjects_share_spots,
 };
+pub use limits::limits_of_spots;
 pub use role_spots::{server_spots, subject_spots};
 pub use rows::spots_of;
 pub use sorted_lists::put_in_order;

@@ -1,5 +1,7 @@
 //! The sizes and limits of squares and spots.
 
+ghost use Rattle.std.specs.Prelude.{◌≡◌, pos};
+
 /// The side of a square, in millimetres.
 pub const SQUARE_SIDE: i64 = 100_000;
 
@@ -14,3 +16,12 @@ pub const MOST_SQUARES_ACROSS: u64 = 40_001;
 
 /// The most spots that a row may have before it is wide.
 pub const MOST_SPOTS: usize = 64;
+
+/// The sizes and limits of squares and spots are these.
+pub fn limits_of_spots()
+    ensures side { SQUARE_SIDE ≡ pos 100_000 }
+    ensures reach { GREATEST_REACH ≡ 2_000_000_000 }
+    ensures square { GREATEST_SQUARE ≡ 20_000 }
+    ensures across { MOST_SQUARES_ACROSS ≡ 40_001 }
+    ensures spots { MOST_SPOTS ≡ 64 }
+{}

@@ -10,5 +10,5 @@
 mod limits;
 mod rebases;
 
-pub use limits::{MOST_LEVELS, MOST_SAVEPOINTS, MOST_WORKSPACES};
+pub use limits::{MOST_LEVELS, MOST_SAVEPOINTS, MOST_WORKSPACES, limits_of_workspaces};
 pub use rebases::{Keep, Rebase};

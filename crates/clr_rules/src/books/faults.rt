@@ -1,5 +1,8 @@
 //! Why rules make no book.
 
+ghost use Rattle.std.specs.Prelude.{◌≡◌};
+ghost use Rattle.clr_rules.specs.Faults.{rule_fault_number};
+
 /// Why rules make no book: the first reason that applies to the first rule that fails a test.
 #[derive(Clone, Copy, Debug, PartialEq, Eq)]
 pub enum RuleFault {
@@ -20,4 +23,13 @@ pub enum RuleFault {
     BadFilter = 6,
     /// More than 64 rules.
     TooMany = 7,
+}
+
+impl RuleFault {
+    /// Returns the number of a fault.
+    pub fn number(self) -> u8
+        ensures { result ≡ rule_fault_number self }
+    {
+        self as u8
+    }
 }
