@@ -8,7 +8,8 @@ use clr_rows::CellId;
 /// the next. Members are named by position.
 #[derive(Clone, Copy, Debug, PartialEq, Eq)]
 pub enum Verdict {
-    /// In every order, between other work, no merge of a member meets a conflict or breaks a rule.
+    /// In every order, between other work, no merge of a member meets a conflict or breaks a rule,
+    /// until a command is given that isn't quiet.
     Clear,
     /// No memory was found. This verdict may come in place of any from `Conflict` on, or of a clear
     /// one.

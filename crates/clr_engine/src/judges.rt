@@ -45,14 +45,14 @@ impl Model for Judge {
 
 // Each function here that returns a need fails only if memory runs out.
 impl Judge {
-    /// Returns one who judges by these rules.
+    /// Returns a judge for these rules.
     pub fn new(alloc: Global, book: RuleBook) -> Judge
         ensures { result ≡ book }
     {
         Judge { alloc, book }
     }
 
-    /// Returns the allocator that memory is taken of.
+    /// Returns the allocator from which the office allocates.
     pub fn allocator(&self) -> Global {
         self.alloc
     }

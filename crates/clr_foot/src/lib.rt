@@ -1,4 +1,4 @@
-//! Versions of rows over a root and its members' changes, and how the needs that the changes touch are found.
+//! The foot, short for footprint, of some changes: the needs that they touch, found among the versions of rows over a root and its members' changes.
 //!
 //! Which needs are touched, what covers one, and the laws of both stand in `clr_needs`; its types and laws are handed on. Members are sets of changes
 //! over a root's rows. The program uses `Scene::new` and `first_broken` for the one member that a command is, `Scene::new`, `life`, `touched_needs`

@@ -1,5 +1,5 @@
-//! The finders of rows, which tell the cells of the rows that share a spot with a row under a rule; and the finders of an office, one for each
-//! content in which rules are to hold.
+//! An index of rows: finders, which tell the cells of the rows that share a spot with a row under a rule; and the finders of an office, one for
+//! each content in which rules are to hold.
 //!
 //! - `ListFinder` and `SpotIndex` are two bodies of `RowFinder`, whose contract stands in `clr_finders`, which is handed on. `new` makes either
 //!   without rows. `ListFinder` goes over all rows, `SpotIndex` keeps them by rule, side and the number of each spot: the rows that are settled or

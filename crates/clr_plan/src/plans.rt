@@ -15,7 +15,8 @@ pub enum Plan {
     /// Of the merges of these members in this order, one is refused for a conflict or a broken
     /// rule. The cause is the first test that fails.
     Blocked { order: Vec<usize>, cause: Verdict },
-    /// The members can be merged in every order, between other work, as the certificate shows.
+    /// The members can be merged in every order, between other work, as the certificate shows,
+    /// until a command is given that isn't quiet.
     Cleared(Certificate),
     /// No memory was found. This plan may come in place of any but `Unfit`.
     OutOfMemory,
