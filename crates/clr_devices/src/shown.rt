@@ -35,7 +35,7 @@ fn ends_isolate(first: u8, second: u8, byte: u8) -> bool
 
 /// Returns what stands in place of a byte behind two others: the end of a blank, where it ends a character that a terminal
 /// obeys, and else itself.
-fn shown_byte(keeps_lines: bool, first: u8, second: u8, byte: u8) -> u8
+pub(crate) fn shown_byte(keeps_lines: bool, first: u8, second: u8, byte: u8) -> u8
     ensures { result ≡ shown_byte keeps_lines first second byte }
 {
     if is_control(keeps_lines, byte) {
