@@ -23,8 +23,9 @@
  *       and no notes or such as have a line that says so; or, where the session is refused with status 2, its first note without what stands behind it, which is
  *       where the fault is or what a misspelt name may have meant.
  *
- * Without a refusal the program has to print what the session says. The last line is 'N passed, M failed', a way of a session
- * being one of N.
+ * Without a refusal the program has to print what the session says. In the ways `once` and `again` some step of each script has to
+ * be lost while the run goes on: a program that ends at each refusal would never show what it does next. The last line is
+ * 'N passed, M failed', a way of a session being one of N.
  */
 #define _GNU_SOURCE
 #include "control.h"
@@ -88,7 +89,7 @@ struct kept {
 struct tally {
     int next;
     int passed, failed;
-    uint64_t starts, refused;
+    uint64_t starts, refused, lost;
 };
 
 static const char *program, *preload;
@@ -97,6 +98,7 @@ static struct control *control;
 static int control_file, in_file, out_file, err_file;
 static struct kept kept[MOST_KEPT];
 static int kept_count;
+static uint64_t lost_steps;  /* of the session and the way at hand */
 
 static void stop(const char *what) {
     fprintf(stderr, "growth: %s: %s\n", what, strerror(errno));
@@ -423,6 +425,7 @@ static bool is_right_script(const struct session *session, const struct end *end
         } else if (begins(rest, text(LOST))) {
             rest = behind(rest, strlen(LOST));
             lost |= (steps_set)1 << step;
+            lost_steps += 1;
         } else {
             return false;
         }
@@ -541,6 +544,7 @@ static bool is_right_throughout(const char *name, enum way way) {
     struct session *session = read_session(name, way == AGAIN);
     bool is_last = false, is_good = true;
     kept_count = 0;
+    lost_steps = 0;
     struct end end = run(session, up_to(session->count), 0, 0);
     /* (a step that is done is often refused when it is given again) */
     session->status = session->is_doubled && end.status == 1 ? 1 : session->status;
@@ -551,6 +555,11 @@ static bool is_right_throughout(const char *name, enum way way) {
     give_back(&end);
     for (uint64_t number = 1; !is_last; number++) {
         is_good = is_right_at(session, way, number, &is_last) && is_good;
+    }
+    __atomic_add_fetch(&tally->lost, lost_steps, __ATOMIC_RELAXED);
+    if (session->is_script && way != ONWARD && lost_steps == 0) {
+        fprintf(stderr, "growth: session %s, %s: no step is lost\n", session->name, ways[way]);
+        return false;
     }
     return is_good;
 }
@@ -634,8 +643,8 @@ int main(int argc, char **argv) {
     while (wait(&state) > 0) {
         broken += !WIFEXITED(state) || WEXITSTATUS(state) != 0;
     }
-    printf("growth: %d sessions, %llu starts, %llu growths refused, %.0f s\n", count, (unsigned long long)tally->starts,
-           (unsigned long long)tally->refused, seconds() - begin);
+    printf("growth: %d sessions, %llu starts, %llu growths refused, %llu steps lost, %.0f s\n", count, (unsigned long long)tally->starts,
+           (unsigned long long)tally->refused, (unsigned long long)tally->lost, seconds() - begin);
     printf("%d passed, %d failed\n", tally->passed, tally->failed + broken);
     return tally->failed + broken > 0;
 }

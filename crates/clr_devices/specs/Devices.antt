@@ -7,7 +7,8 @@ pub record PageState : Type 0 where
   pub room : ℕ
   pub failed : Bool
 
--- a port: its reader or writer, and whether a call of it has failed
+-- a port: its reader or writer, whether a call of it has failed, and whether the last that failed was a write of what nobody reads any more
 pub record PortState (T : Type 0) : Type 0 where
   pub inner : T
   pub failed : Bool
+  pub closed : Bool

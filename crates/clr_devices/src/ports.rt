@@ -1,9 +1,9 @@
 //! Sources and sinks over readers and writers of `std`.
 
-ghost use Rattle.std.specs.Prelude.{◌≡◌, false};
+ghost use Rattle.std.specs.Prelude.{◌≡◌, false, true, IsTrue};
 
 use crate::devices::{DeviceFault, Sink, Source};
-use std::io::{Read, Write};
+use std::io::{ErrorKind, Read, Write};
 use std::marker::Model;
 
 /// A source over a reader of `std`, or a sink over a writer. Contracts know its bytes where they
@@ -12,25 +12,38 @@ use std::marker::Model;
 pub struct Port<T> {
     inner: T,
     failed: bool,
+    closed: bool,
 }
 
 impl<T> Model for Port<T> {
+    ghost use Rattle.std.specs.Prelude.{◌≡◌, true};
     ghost use Rattle.clr_devices.specs.Devices.{PortState};
 
     ghost Value = { PortState T };
 
-    ghost view = { λ a. record { inner = a.inner; failed = a.failed } };
+    ghost view = { λ a. record { inner = a.inner; failed = a.failed; closed = a.closed } };
+
+    ghost invariant = { λ a. a.closed ≡ true → a.failed ≡ true };
 }
 
 impl<T> Port<T> {
     /// Returns a port over this reader or writer.
     pub fn new(inner: T) -> Port<T>
-        ensures { result ≡ record { inner = inner; failed = false } }
+        ensures { result ≡ record { inner = inner; failed = false; closed = false } }
     {
         Port {
             inner,
             failed: false,
+            closed: false,
         }
+    }
+
+    /// Returns whether a write failed because nobody reads what is written any more, as where the reader of a pipe has ended.
+    pub fn is_closed(&self) -> bool
+        ensures told { result ≡ self.now.closed }
+        ensures failed { IsTrue result → self.now.failed ≡ true }
+    {
+        self.closed
     }
 }
 
@@ -56,12 +69,20 @@ impl<W: Write> Sink for Port<W> {
 
     ghost failed = { λ port. port.failed };
 
-    /// Writes all the bytes and flushes the writer. It fails where either gives an error.
+    /// Writes all the bytes and flushes the writer. It fails where either gives an error, and notes whether that says
+    /// that nobody reads any more.
     fn put(&mut self, bytes: &[u8]) -> Result<(), DeviceFault> {
-        if self.inner.write_all(bytes).is_ok() && self.inner.flush().is_ok() {
-            return Ok(());
+        let written = match self.inner.write_all(bytes) {
+            Ok(()) => self.inner.flush(),
+            Err(error) => Err(error),
+        };
+        match written {
+            Ok(()) => Ok(()),
+            Err(error) => {
+                self.failed = true;
+                self.closed = error.kind() == ErrorKind::BrokenPipe;
+                Err(DeviceFault)
+            }
         }
-        self.failed = true;
-        Err(DeviceFault)
     }
 }
