@@ -3,4 +3,5 @@ pub mod Examples
 pub mod LineLemmas
 pub mod MetresLemmas
 pub mod NearestLemmas
+pub mod QuotedLemmas
 pub mod SentenceLemmas

@@ -1,11 +1,13 @@
 -- Where a text stops being JSON, and what is said there.
-use Rattle.std.specs.Prelude.{◌≡◌, ℕ, zero, suc, ◌+◌, ◌-◌, ◌==◌, min, nat_le, Bool, false, not, ◌&&◌, ◌||◌, MatchBool}
+use Rattle.std.specs.Prelude.{◌≡◌, ℕ, zero, suc, ◌+◌, ◌-◌, ◌==◌, min, nat_le, Bool, true, false, not, ◌&&◌, ◌||◌, MatchBool}
 use Rattle.std.specs.Prelude.{List, length, take, drop, filter, Option, Some, None, slice_get, codes, if◌then◌else◌}
 use Rattle.std.specs.List.{last_or}
 use Rattle.std.specs.Option.{option_map}
 use Rattle.clr_places.specs.Places.{next_line_length}
 use Rattle.clr_hints.specs.declared.json_faults.JsonFault.{JsonFault}
 use Rattle.clr_hints.specs.Encodings.{IsEncodingFault, has_mark}
+use Rattle.clr_hints.specs.QuotedTexts.{quoted_fault_from, quoted_hint, quoted_sentence}
+use Rattle.clr_hints.specs.declared.quoted_texts.QuotedFault.{QuotedFault}
 
 -- what stands behind a number of line ends, nothing where there are fewer
 unfoldable pub behind_line_ends : ℕ → List ℕ → List ℕ
@@ -65,10 +67,32 @@ told fault = record { offset = fault.offset; sentence = fault.sentence.now; hint
 abbrev pub told_of_mark : Told
 told_of_mark = record { offset = 0; sentence = codes "a byte order mark stands before the text"; hint = Some (codes "save the file as UTF-8 without BOM") }
 
+-- behind white space, a text in quotes may begin where nothing stands before it, or an opening bracket, a comma or a colon
+abbrev pub may_begin_quoted : Option ℕ → Bool
+may_begin_quoted None = true
+may_begin_quoted (Some byte) = byte == 91 || byte == 123 || byte == 44 || byte == 58
+
+abbrev pub is_quote : Option ℕ → Bool
+is_quote None = false
+is_quote (Some byte) = byte == 34
+
+-- why the text in quotes that begins at an offset can't be read, and at which byte; none where none may begin there, or it can be read
+abbrev pub quoted_fault_at : List ℕ → ℕ → Option (ℕ × QuotedFault)
+quoted_fault_at text offset =
+    if is_quote (slice_get text offset) && may_begin_quoted (last_byte (take offset text)) then quoted_fault_from (offset + 1) 0 (drop (offset + 1) text)
+    else None
+
+-- what is told where JSON stops at an offset: where it stops within a text in quotes, what is wrong in that
+abbrev pub told_by : List ℕ → ℕ → Option (ℕ × QuotedFault) → Told
+told_by text offset None = record { offset = offset; sentence = sentence_at text offset; hint = None }
+told_by text offset (Some found) = record { offset = found.0; sentence = quoted_sentence found.1; hint = Some (quoted_hint found.1) }
+
+abbrev pub told_at : List ℕ → ℕ → Told
+told_at text offset = told_by text offset (quoted_fault_at text offset)
+
 -- what is told of a text without a byte order mark, by where it stops being UTF-8
 abbrev pub told_without_mark : List ℕ → ℕ → ℕ → Option ℕ → Told
-told_without_mark text line column None =
-    record { offset = offset_at text line column; sentence = sentence_at text (offset_at text line column); hint = None }
+told_without_mark text line column None = told_at text (offset_at text line column)
 told_without_mark text line column (Some offset) =
     record { offset = offset; sentence = codes "a byte that isn't UTF-8"; hint = Some (codes "save the file as UTF-8") }
 

@@ -3,4 +3,5 @@ pub mod Encodings
 pub mod JsonFaults
 pub mod Metres
 pub mod Names
+pub mod QuotedTexts
 pub mod Values

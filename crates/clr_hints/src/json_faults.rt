@@ -1,9 +1,11 @@
 //! Where a text stops being JSON, and why.
-ghost use Rattle.std.specs.Prelude.{◌≡◌, ◌+◌, ◌<◌, ◌≤◌, drop, length};
+ghost use Rattle.std.specs.Prelude.{◌≡◌, ◌+◌, ◌<◌, ◌≤◌, drop, length, IfSome};
 ghost use Rattle.clr_places.specs.Places.{next_line_length};
-ghost use Rattle.clr_hints.specs.JsonFaults.{IsJsonFault, behind_line_ends, is_space, last_byte, offset_at, sentence_at, sentence_of, told};
+ghost use Rattle.clr_hints.specs.JsonFaults.{IsJsonFault, behind_line_ends, is_space, last_byte, may_begin_quoted, offset_at, quoted_fault_at, sentence_at};
+ghost use Rattle.clr_hints.specs.JsonFaults.{sentence_of, told, told_at};
 
 use crate::encodings::{encoding_fault, has_byte_order_mark};
+use crate::quoted_texts::{QuotedFault, quoted_fault, quoted_hint, quoted_sentence};
 use clr_places::{first_line_end, first_line_length};
 
 /// Where a text stops being JSON: the offset of the byte, a sentence, and a hint where one helps.
@@ -92,8 +94,53 @@ fn sentence_at(text: &[u8], offset: usize) -> &'static str
     }
 }
 
-/// Returns where a text that is no JSON stops being JSON, which the reader of JSON tells by a line and
-/// a column of bytes, both counted from 1; of a text with a byte order mark, its first byte; and of one
+/// Returns whether a text in quotes may begin behind a byte, the last one before it that is no white space.
+fn may_begin_quoted(before: Option<u8>) -> bool
+    ensures { result ≡ may_begin_quoted before }
+{
+    match before {
+        Some(byte) => matches!(byte, b'[' | b'{' | b',' | b':'),
+        None => true,
+    }
+}
+
+/// Returns why the text in quotes that begins at an offset can't be read, and at which byte; none where none may begin there, or it can
+/// be read.
+fn quoted_fault_at(text: &[u8], offset: usize) -> Option<(usize, QuotedFault)>
+    ensures value { result ≡ quoted_fault_at text.now offset }
+    ensures bound { IfSome result (λ found. found.0 ≤ length text.now) }
+{
+    match text.get(offset) {
+        Some(b'"') if may_begin_quoted(last_byte(&text[..offset])) => quoted_fault(
+            text,
+            offset + 1,
+        ),
+        _ => None,
+    }
+}
+
+/// Returns what is told where JSON stops at an offset: where it stops within a text in quotes, what is wrong in that.
+fn fault_at(text: &[u8], offset: usize) -> JsonFault
+    requires { offset ≤ length text.now }
+    ensures value { told result ≡ told_at text.now offset }
+    ensures bound { result.offset ≤ length text.now }
+{
+    match quoted_fault_at(text, offset) {
+        Some((place, fault)) => JsonFault {
+            offset: place,
+            sentence: quoted_sentence(fault),
+            hint: Some(quoted_hint(fault)),
+        },
+        None => JsonFault {
+            offset,
+            sentence: sentence_at(text, offset),
+            hint: None,
+        },
+    }
+}
+
+/// Returns where a text that is no JSON stops being JSON, which the reader of JSON tells by a line and a column of bytes, both counted from
+/// 1; where that is within a text in quotes, the byte that can't stand there; of a text with a byte order mark, its first byte; and of one
 /// that isn't UTF-8, the first byte that isn't.
 pub fn json_fault(text: &[u8], line: usize, column: usize) -> JsonFault
     ensures fault { IsJsonFault text.now line column (told result) }
@@ -113,10 +160,5 @@ pub fn json_fault(text: &[u8], line: usize, column: usize) -> JsonFault
             hint: Some("save the file as UTF-8"),
         };
     }
-    let offset = offset_of(text, line, column);
-    JsonFault {
-        offset,
-        sentence: sentence_at(text, offset),
-        hint: None,
-    }
+    fault_at(text, offset_of(text, line, column))
 }

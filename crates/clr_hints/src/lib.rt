@@ -2,7 +2,8 @@
 //!
 //! - `encoding_fault` [`fault`]: a text that isn't UTF-8 has its fault behind its longest front that is.
 //! - `json_fault` [`fault`]: the offset, the sentence and the hint are exactly those of a byte order mark, of bytes that
-//!   aren't UTF-8, or of the byte at a line and a column, by what stands there and before it.
+//!   aren't UTF-8, or of the byte at a line and a column, by what stands there and before it; and where a text in quotes begins there,
+//!   of the first byte that can't stand in that text.
 //! - `nearest` [`nearest`]: the first of the names that are most alike, where one is alike enough; none else.
 //! - `metres_hint`: a hint at exactly the texts that are decimal numbers of metres with at most three decimals, with their millimetres.
 //! - `name_hint`: where a name may be meant the hint is at the nearest, and else at all names, where there are some and not too many.
@@ -20,6 +21,7 @@ mod json_faults;
 mod laws;
 mod metres;
 mod names;
+mod quoted_texts;
 mod schema_names;
 mod values;
 
