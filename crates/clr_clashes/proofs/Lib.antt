@@ -1,6 +1,6 @@
 mod Adding
 mod ClashLaws
-mod Kept
+pub mod Kept
 mod ListedLaws
 mod Lists
 mod PartNeeds

@@ -5,7 +5,6 @@ use Rattle.std.specs.Prelude.{find, option_map, option_to_list, slice_get}
 use Rattle.std.specs.List.{cons_option, filter_map, flat_map, range_with_len}
 use Rattle.std.proofs.lemmas.List.{map-append, take_more}
 use Rattle.std.proofs.lemmas.List.Elements.{filter-append, filter_map-append}
-use Rattle.std.proofs.lemmas.Grind.{flat_map-append}
 use Rattle.std.proofs.lemmas.Option.{slice_get-map, slice_get_past, slice_get_read}
 
 -- one more ------------------------------------------------------------------------------------
@@ -63,27 +62,6 @@ pub none_mapped : {X Y : Type 0} (f : X → Option Y) → ((x : X) → f x ≡ N
 none_mapped f none [] = refl
 none_mapped f none (x ∷ xs) = ap (λ o. cons_option o (filter_map f xs)) (none x) ∙ none_mapped f none xs
 
-pub none_flat : {X Y : Type 0} (f : X → List Y) → ((x : X) → f x ≡ []) → (xs : List X) → flat_map f xs ≡ []
-none_flat f none [] = refl
-none_flat f none (x ∷ xs) = ap (λ ys. ys ++ flat_map f xs) (none x) ∙ none_flat f none xs
-
-pub all_kept : {X : Type 0} (p : X → Bool) → ((x : X) → p x ≡ true) → (xs : List X) → filter p xs ≡ xs
-all_kept p all [] = refl
-all_kept p all (x ∷ xs) = ap (λ b. cond b (x ∷ filter p xs) (filter p xs)) (all x) ∙ ap (λ ys. x ∷ ys) (all_kept p all xs)
-
 pub none_found : {X : Type 0} (p : X → Bool) (xs : List X) → ((k : ℕ) (x : X) → slice_get xs k ≡ Some x → p x ≡ false) → find p xs ≡ None
 none_found p [] fails = refl
 none_found p (x ∷ xs) fails = ap (λ b. cond b (Some x) (find p xs)) (fails 0 x refl) ∙ none_found p xs (λ k. fails (suc k))
-
--- a list by its positions ------------------------------------------------------------------------
-
-shifted : {X : Type 0} (x : X) (xs : List X) (a n : ℕ)
-    → filter_map (slice_get (x ∷ xs)) (range_with_len (a + 1) n) ≡ filter_map (slice_get xs) (range_with_len a n)
-shifted x xs a zero = refl
-shifted {X} x xs a (suc n) =
-    let next : a + 1 ≡ suc a = omega arith in
-    ap₂ (λ (o : Option X) (ys : List X). cons_option o ys) (ap (slice_get (x ∷ xs)) next) (shifted x xs (a + 1) n)
-
-pub read_all : {X : Type 0} (xs : List X) → filter_map (slice_get xs) (range_with_len 0 (length xs)) ≡ xs
-read_all [] = refl
-read_all (x ∷ xs) = ap (λ ys. x ∷ ys) (shifted x xs 0 (length xs) ∙ read_all xs)

@@ -1,30 +1,26 @@
--- Members none of which is in conflict, and where no cell is changed by two, are all looked at together.
-use Rattle.std.proofs.Common.{◌≡◌, ◌∙◌, ◌<◌, ◌==◌, ℕ, Bool, true, false, cond, List, [], ◌∷◌, inl, inr, Option, Some, None}
-use Rattle.std.proofs.Common.{ap, arith, is_some, length, map, nat_lt, refl, sym}
-use Rattle.std.specs.Prelude.{find, is_none, option_and_then, option_map, slice_get}
+-- Where no cell is changed by two members, all are looked at.
+use Rattle.std.proofs.Common.{◌≡◌, ◌∙◌, ◌<◌, ◌==◌, ℕ, Bool, true, false, cond, not, List, [], ◌∷◌, inl, inr, Option, Some, None}
+use Rattle.std.proofs.Common.{ap, arith, filter, is_some, length, nat_lt, refl, sym}
+use Rattle.std.specs.Prelude.{option_map, slice_get}
 use Rattle.std.specs.FinMap as finite
-use Rattle.std.proofs.lemmas.Bool.{cases_Bool, ltb-true}
+use Rattle.std.specs.List.{list_any, range_with_len}
+use Rattle.std.proofs.lemmas.Bool.{cases_Bool, ltb-true, or_left, or_right}
+use Rattle.std.proofs.lemmas.Bool.Decides.{Decides-eqb}
 use Rattle.clr_rows.specs.declared.cells.CellId.{CellId}
 use Rattle.clr_rows.specs.declared.cells.Change.{Change}
 use Rattle.clr_rows.specs.Contents.{Changes}
 use Rattle.clr_rows.proofs.CellOrder.{cell_cmp_total}
 use Rattle.clr_rows.proofs.SortedMaps.{held_where}
-use Rattle.clr_workspaces.specs.Marks.{Name}
+use Rattle.clr_rules.proofs.Elements.{Among, any_by, kept_among}
 use Rattle.clr_needs.specs.Members.{AreApart, after_at}
-use Rattle.clr_steps.specs.Offices.{Office}
-use Rattle.clr_steps.specs.Quiet.{MergeSet}
-use Rattle.clr_clearance.specs.Plans.{members_at}
 use Rattle.clr_clearance.specs.MergeSets.{change_sets}
-use Rattle.clr_clearance.specs.Verdicts.{member_fault}
-use Rattle.clr_clearance.proofs.ClearLemmas.{faultless, has_at}
-use Rattle.clr_merge_sets.specs.MergeSetNames.{merge_set}
-use Rattle.clr_merge_clashes.specs.Conflicts.{conflict_clash, conflict_clashes, conflict_in, conflict_of, free_positions, is_without_conflict}
-use Rattle.clr_merge_clashes.specs.Laws.{AreLookedAt}
+use Rattle.clr_merge_clashes.specs.ClashSets.{MergeClash, positions_of}
+use Rattle.clr_merge_clashes.specs.Laws.{AllAreLookedAt}
+use Rattle.clr_merge_clashes.specs.Lone.{free_positions, is_free}
+use Rattle.clr_merge_clashes.specs.MergeClashes.{is_looked_at, together}
 use Rattle.clr_merge_clashes.specs.SharedCells.{cell_of_two, earlier_clash, earlier_clashes, is_apart_at, is_changed_in, pair_clash, shared_cell}
-use Rattle.clr_merge_clashes.specs.SharedCells.{shared_clashes}
-use Rattle.clr_merge_clashes.specs.MergeClashes.{looked_at}
-use Rattle.clr_merge_clashes.specs.ClashSets.{MergeClash, positions_of, merge_clash}
-use Rattle.clr_merge_clashes.proofs.Lists.{all_kept, none_flat, none_found, none_mapped, read_all}
+use Rattle.clr_merge_clashes.proofs.Causes.{same_count}
+use Rattle.clr_merge_clashes.proofs.Lists.{none_found, none_mapped}
 
 -- a change is one to a row after it
 has_after : (found : Option Change) → is_some found ≡ true → is_some (option_map (λ (e : Change). e.after) found) ≡ true
@@ -63,31 +59,26 @@ module _ (sets : List Changes) (apart : AreApart sets) where
   none_earlier : (free : List ℕ) (later : ℕ) → earlier_clashes sets free later ≡ []
   none_earlier free later = none_mapped (earlier_clash sets later) (no_pair later) free
 
-module _ (o : Office) (s : MergeSet) (fits : member_fault o s ≡ None) (apart : AreApart (change_sets o s)) where
-  no_conflict : (at : ℕ) → conflict_clash o s.members at ≡ None
-  no_conflict at = by (slice_get s.members at) refl
-    where
-      by : (r : Option Name) → slice_get s.members at ≡ r → option_map (merge_clash (at ∷ [])) (option_and_then (conflict_of o) r) ≡ None
-      by None e = refl
-      by (Some name) e =
-          ap (λ cells. option_map (merge_clash (at ∷ [])) (conflict_in cells)) ((faultless o s fits).free name (has_at s.members at name e))
+kept_in : {X : Type 0} (p : X → Bool) (xs : List X) → ((x : X) → Among x xs → p x ≡ true) → filter p xs ≡ xs
+kept_in p [] all = refl
+kept_in p (x ∷ xs) all =
+    ap (λ b. cond b (x ∷ filter p xs) (filter p xs)) (all x (inl refl)) ∙ ap (λ ys. x ∷ ys) (kept_in p xs (λ y h. all y (inr h)))
 
-  all_free : free_positions o s.members ≡ positions_of s.members
-  all_free = all_kept (is_without_conflict o s.members) (λ at. ap is_none (no_conflict at)) (positions_of s.members)
+pub all_looked_at : AllAreLookedAt
+all_looked_at o s found (causes, broken, is) apart =
+    is.looked ∙ kept_in (is_looked_at causes both) (positions_of causes) each ∙ ap (range_with_len 0) (same_count o s.root s.members causes is.alone)
+  where
+    free : List ℕ
+    free = free_positions causes
 
-  all_at : looked_at o s ≡ positions_of s.members
-  all_at =
-      let sets = change_sets o s in
-      let free = free_positions o s.members in
-      all_kept (is_apart_at sets free) (λ at. ap (λ (ks : List MergeClash). length ks == 0) (none_earlier sets apart free at)) free ∙ all_free
+    both : List ℕ
+    both = together o s causes
 
-  pub all_looked_at : AreLookedAt o s
-  all_looked_at =
-      let sets = change_sets o s in
-      let free = free_positions o s.members in
-      record {
-        conflicts = none_mapped (conflict_clash o s.members) no_conflict (positions_of s.members);
-        shared = none_flat (earlier_clashes sets free) (none_earlier sets apart free) free;
-        positions = all_at;
-        members = ap (λ list. merge_set s.root (members_at s list)) all_at ∙ ap (λ (names : List Name). merge_set s.root names) (read_all s.members);
-      }
+    each : (at : ℕ) → Among at (positions_of causes) → is_looked_at causes both at ≡ true
+    each at there = elim (cases_Bool (is_free causes at)) [
+      | inl e ↦ (let in_free = kept_among (is_free causes) at (positions_of causes) there e in
+          let in_both = kept_among (is_apart_at (change_sets o s) free) at free in_free
+          (ap (λ (ks : List MergeClash). length ks == 0) (none_earlier (change_sets o s) apart free at)) in
+          or_right (not (is_free causes at)) (list_any (λ z. z == at) both) (any_by (λ z. z == at) at both in_both ((Decides-eqb at at).1 refl)))
+      | inr e ↦ or_left (not (is_free causes at)) (list_any (λ z. z == at) both) (ap not e)
+    ]

@@ -1,7 +1,7 @@
 -- The plan of some members is cleared exactly where they hold none of the smallest clashes of all.
 use Rattle.std.proofs.Common.{◌≡◌, ◌∙◌, ◌<◌, ℕ, true, false, List, [], ◌∷◌, inl, inr, Contains, Option, Some, None}
 use Rattle.std.proofs.Common.{ap, ap₂, arith, length, map, refl, subst, sym}
-use Rattle.std.specs.Prelude.{◌↔◌, option_map, slice_get}
+use Rattle.std.specs.Prelude.{option_map, slice_get}
 use Rattle.std.specs.List.{cons_option, filter_map}
 use Rattle.std.specs.Option.{option_or}
 use Rattle.std.proofs.lemmas.Bool.{false≢true, true≢false}
@@ -45,13 +45,13 @@ map_cons f None xs = refl
 map_cons f (Some x) xs = refl
 
 -- what some of the members changed is what stands at their positions
-sets_same : (f : Name → Changes) (names : List Name) (positions : List ℕ) → map f (filter_map (slice_get names) positions) ≡ sets_at (map f names) positions
+pub sets_same : (f : Name → Changes) (names : List Name) (positions : List ℕ) → map f (filter_map (slice_get names) positions) ≡ sets_at (map f names) positions
 sets_same f names [] = refl
 sets_same f names (k ∷ ks) =
     map_cons f (slice_get names k) (filter_map (slice_get names) ks)
     ∙ ap₂ (λ (o : Option Changes) (sets : List Changes). cons_option o sets) (sym (slice_get-map f names k)) (sets_same f names ks)
 
-setting_same : (o : Office) (s : MergeSet) (positions : List ℕ)
+pub setting_same : (o : Office) (s : MergeSet) (positions : List ℕ)
     → setting_by_position o (merge_set_of_part s positions) ≡ setting_at o.book (root_content o s) (change_sets o s) positions
 unfolding root_content
 setting_same o s positions = ap (setting o.book (root_content o s)) (sets_same (changes_in o) s.members positions)
@@ -77,14 +77,14 @@ covered_leaves_none c entries covered n (a, b, possible, touched) (p, q, uncover
 
 module _ (o : Office) (t : MergeSet) where
   -- a cleared plan leaves no touched need uncovered
-  cleared_leaves_none : (p : Plan) → IsPlan o t p → is_cleared p ≡ true → LeavesNoneUncovered (setting_by_position o t)
+  pub cleared_leaves_none : (p : Plan) → IsPlan o t p → is_cleared p ≡ true → LeavesNoneUncovered (setting_by_position o t)
   cleared_leaves_none (plan.Cleared c) h e =
       covered_leaves_none (setting_by_position o t) (entries_in c.entries) (picked_cover (setting_by_position o t) (entries_in c.entries) h.cleared.picked)
   cleared_leaves_none (plan.Blocked order cause) h e = absurd (false≢true e)
   cleared_leaves_none (plan.Unfit v) h e = absurd (false≢true e)
   cleared_leaves_none plan.OutOfMemory h e = absurd (false≢true e)
 
-  not_blocked : member_fault o t ≡ None → AreApart (change_sets o t) → LeavesNoneUncovered (setting_by_position o t)
+  pub not_blocked : member_fault o t ≡ None → AreApart (change_sets o t) → LeavesNoneUncovered (setting_by_position o t)
       → (order : List ℕ) (cause : Verdict) → IsBlocked o t order cause → ⊥
   not_blocked fits apart none order cause (of_conflict at cell count named first same is) =
       let both : None ≡ Some (verdict.Conflict at cell count) = sym fits ∙ (λ i. option_or (named i) (first i)) in absurd (cc)
@@ -95,7 +95,7 @@ module _ (o : Office) (t : MergeSet) where
       none n unpicked.touched (a, b, unpicked_is_uncovered (setting_by_position o t) n a b possible (unpicked.none a b possible))
 
   -- where no need is left uncovered, the plan is cleared
-  none_left_cleared : member_fault o t ≡ None → AreApart (change_sets o t) → LeavesNoneUncovered (setting_by_position o t)
+  pub none_left_cleared : member_fault o t ≡ None → AreApart (change_sets o t) → LeavesNoneUncovered (setting_by_position o t)
       → (p : Plan) → IsPlan o t p → is_out_of_memory p ≡ false → is_cleared p ≡ true
   none_left_cleared fits apart none (plan.Cleared c) h found = refl
   none_left_cleared fits apart none (plan.Blocked order cause) h found = absurd (not_blocked fits apart none order.items cause h)

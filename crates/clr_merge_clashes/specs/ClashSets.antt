@@ -1,7 +1,6 @@
 -- Sets of members that can't be merged together, and why.
 use Rattle.std.specs.Prelude.{ℕ, List, length}
 use Rattle.std.specs.List.{range_with_len}
-use Rattle.clr_workspaces.specs.Marks.{Name}
 use Rattle.clr_clearance.specs.declared.verdicts.Verdict.{Verdict}
 use Rattle.clr_merge_clashes.specs.declared.clash_sets.MergeClash.{MergeClash as Stored}
 
@@ -16,6 +15,6 @@ merge_clash members cause = record { members = members; cause = cause }
 abbrev pub stored_clash : Stored → MergeClash
 stored_clash k = merge_clash k.members.items k.cause
 
--- the positions of some names
-abbrev pub positions_of : List Name → List ℕ
-positions_of names = range_with_len 0 (length names)
+-- the positions of a list
+abbrev pub positions_of : {X : Type 0} → List X → List ℕ
+positions_of list = range_with_len 0 (length list)

@@ -1,7 +1,8 @@
--- What the smallest clashes of a merge set decide.
-use Rattle.std.specs.Prelude.{◌≡◌, ◌↔◌, ◌<◌, ℕ, true, false, List, [], None, Contains, length}
+-- What the smallest clashes of a merge set, and the sets that are listed, decide.
+use Rattle.std.specs.Prelude.{◌≡◌, ◌↔◌, ◌<◌, ℕ, true, false, List, None, Contains, length, map}
 use Rattle.std.specs.List.Sorted.{IsStrictlySortedBy}
 use Rattle.std.specs.Ordering.{nat_cmp}
+use Rattle.clr_steps.specs.Invariants.{HoldsWhereKept}
 use Rattle.clr_steps.specs.Offices.{Office}
 use Rattle.clr_steps.specs.Quiet.{MergeSet}
 use Rattle.clr_needs.specs.Members.{AreApart}
@@ -12,15 +13,20 @@ use Rattle.clr_merge_sets.specs.MergeSetNames.{merge_set}
 use Rattle.clr_plan.specs.declared.plans.Plan.{Plan}
 use Rattle.clr_plan.specs.Plans.{IsPlan}
 use Rattle.clr_plan.specs.Promises.{is_cleared, is_out_of_memory}
+use Rattle.clr_clashes.specs.Clashes.{IsAllIn}
 use Rattle.clr_clashes.specs.ListedClashes.{AreSmallestClashes, HoldNoneOf, ListedClash}
-use Rattle.clr_merge_clashes.specs.Conflicts.{conflict_clashes, free_positions}
-use Rattle.clr_merge_clashes.specs.SharedCells.{shared_clashes}
-use Rattle.clr_merge_clashes.specs.MergeClashes.{looked_at, looked_merge_set}
-use Rattle.clr_merge_clashes.specs.ClashSets.{positions_of}
+use Rattle.clr_merge_clashes.specs.MergeClashes.{FindsClashes}
+use Rattle.clr_merge_clashes.specs.ClashSets.{MergeClash, positions_of, stored_clash}
+use Rattle.clr_merge_clashes.specs.declared.clash_sets.MergeClashes.{MergeClashes as Found}
 
 -- some of the members, by position
 abbrev pub merge_set_of_part : MergeSet → List ℕ → MergeSet
 merge_set_of_part s positions = merge_set s.root (members_at s positions)
+
+-- positions of members, ascending
+pub record ArePositions (s : MergeSet) (positions : List ℕ) : Type 0 where
+  pub ascending : IsStrictlySortedBy nat_cmp positions
+  pub below : (k : ℕ) → Contains positions k → k < length s.members
 
 -- of members of a root in which every rule holds, none in conflict and no cell changed by two: the plan of some of them is cleared exactly where
 -- they hold none of the listed sets, memory aside
@@ -36,13 +42,38 @@ ClashesDecidePlans = (o : Office) (s : MergeSet) (listed : List ListedClash) (po
     → is_out_of_memory p ≡ false
     → (is_cleared p ≡ true) ↔ HoldNoneOf listed positions
 
--- all members are looked at together, and none is in a set of conflicts or of shared cells
-pub record AreLookedAt (o : Office) (s : MergeSet) : Type 0 where
-  pub conflicts : conflict_clashes o s.members ≡ []
-  pub shared : shared_clashes (change_sets o s) (free_positions o s.members) ≡ []
-  pub positions : looked_at o s ≡ positions_of s.members
-  pub members : looked_merge_set o s ≡ s
+-- the sets that are found --------------------------------------------------------------------------
 
--- where no test of members fails and no cell is changed by two
+abbrev pub sets_of : Found → List MergeClash
+sets_of found = map stored_clash found.clashes.items
+
+-- some members hold none of the sets
+abbrev pub HoldNoSet : Found → List ℕ → Type 0
+HoldNoSet found positions = (k : MergeClash) → Contains (sets_of found) k → ¬ (IsAllIn k.members positions)
+
+-- what the sets tell of the plan of some members: it isn't cleared where they hold a set; and it is where they hold none and all were looked at
+pub record IsDecided (found : Found) (positions : List ℕ) (p : Plan) : Type 0 where
+  pub blocked : (k : MergeClash) → Contains (sets_of found) k → IsAllIn k.members positions → is_cleared p ≡ false
+  pub cleared : IsAllIn positions found.looked.items → HoldNoSet found positions → is_cleared p ≡ true
+
+-- the members of a set can't be merged together; without one or more of them they can, memory aside
+pub record IsSmallestSet (o : Office) (s : MergeSet) (k : MergeClash) : Type 0 where
+  pub positions : ArePositions s k.members
+  pub blocked : (p : Plan) → IsPlan o (merge_set_of_part s k.members) p → is_cleared p ≡ false
+  pub lesser_cleared : (positions : List ℕ) (p : Plan) → ArePositions s positions → IsAllIn positions k.members → ¬ (IsAllIn k.members positions)
+      → IsPlan o (merge_set_of_part s positions) p → is_out_of_memory p ≡ false → is_cleared p ≡ true
+
+-- what sets of some members promise: they tell which plans are cleared, memory aside; each is a smallest one, and no one holds another
+pub record AreSmallestSets (o : Office) (s : MergeSet) (found : Found) : Type 0 where
+  pub decided : (positions : List ℕ) (p : Plan) → ArePositions s positions → IsPlan o (merge_set_of_part s positions) p → is_out_of_memory p ≡ false
+      → IsDecided found positions p
+  pub smallest : (k : MergeClash) → Contains (sets_of found) k → IsSmallestSet o s k
+  pub apart : (j k : MergeClash) → Contains (sets_of found) j → Contains (sets_of found) k → IsAllIn j.members k.members → j.members ≡ k.members
+
+-- in an office in which every rule holds that is to hold
+abbrev pub SetsDecidePlans : Type 0
+SetsDecidePlans = (o : Office) (s : MergeSet) (found : Found) → HoldsWhereKept o → FindsClashes o s found → AreSmallestSets o s found
+
+-- where no cell is changed by two, all members are looked at
 abbrev pub AllAreLookedAt : Type 0
-AllAreLookedAt = (o : Office) (s : MergeSet) → member_fault o s ≡ None → AreApart (change_sets o s) → AreLookedAt o s
+AllAreLookedAt = (o : Office) (s : MergeSet) (found : Found) → FindsClashes o s found → AreApart (change_sets o s) → found.looked.items ≡ positions_of s.members

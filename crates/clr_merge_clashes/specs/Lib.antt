@@ -1,4 +1,4 @@
-pub mod Conflicts
+pub mod Lone
 pub mod Laws
 pub mod SharedCells
 pub mod MergeClashes

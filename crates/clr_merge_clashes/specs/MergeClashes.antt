@@ -1,7 +1,7 @@
--- The smallest sets of the members of a merge set that can't be merged together: members in conflict, members that change one cell, and members
--- that break a need which nothing covers.
-use Rattle.std.specs.Prelude.{◌≡◌, ◌⊎◌, ℕ, List, ◌++◌, None, Some, Result, Ok, Err, map, slice_get}
-use Rattle.std.specs.List.{filter_map}
+-- The smallest sets of the members of a merge set that can't be merged together: members that can't be merged even alone, members that change one
+-- cell, and members that break a need which nothing covers.
+use Rattle.std.specs.Prelude.{◌≡◌, ◌⊎◌, ◌==◌, ◌||◌, ℕ, Bool, not, List, ◌++◌, Option, None, Some, Result, Ok, Err, filter, map, slice_get}
+use Rattle.std.specs.List.{filter_map, list_any}
 use Rattle.clr_needs.specs.Members.{AreApart}
 use Rattle.clr_steps.specs.Offices.{Office}
 use Rattle.clr_steps.specs.Quiet.{MergeSet}
@@ -12,17 +12,24 @@ use Rattle.clr_clearance.specs.MergeSets.{change_sets, setting_by_position}
 use Rattle.clr_clearance.specs.Verdicts.{member_fault, names_fault}
 use Rattle.clr_merge_sets.specs.MergeSetNames.{merge_set}
 use Rattle.clr_clashes.specs.ListedClashes.{AreSmallestClashes, ListedClash}
-use Rattle.clr_merge_clashes.specs.Conflicts.{conflict_clashes, free_positions}
+use Rattle.clr_merge_clashes.specs.Lone.{AreCauses, free_positions, is_free, lone_clashes}
 use Rattle.clr_merge_clashes.specs.SharedCells.{apart_positions, shared_clashes}
-use Rattle.clr_merge_clashes.specs.ClashSets.{MergeClash, merge_clash, stored_clash}
+use Rattle.clr_merge_clashes.specs.ClashSets.{MergeClash, merge_clash, positions_of, stored_clash}
 use Rattle.clr_merge_clashes.specs.declared.clash_sets.MergeClashes.{MergeClashes as Found}
 
--- the members that are looked at together, by position
-abbrev pub looked_at : Office → MergeSet → List ℕ
-looked_at o s = apart_positions (change_sets o s) (free_positions o s.members)
+-- of the members that can be merged alone, those that change no cell which an earlier one changes, by position
+abbrev pub together : Office → MergeSet → List (Option Verdict) → List ℕ
+together o s causes = apart_positions (change_sets o s) (free_positions causes)
 
-abbrev pub looked_merge_set : Office → MergeSet → MergeSet
-looked_merge_set o s = merge_set s.root (members_at s (looked_at o s))
+abbrev pub together_merge_set : Office → MergeSet → List (Option Verdict) → MergeSet
+together_merge_set o s causes = merge_set s.root (members_at s (together o s causes))
+
+-- these, and the members that can't be merged even alone, are looked at; the sets tell of each subset of them whether it is cleared
+abbrev pub is_looked_at : List (Option Verdict) → List ℕ → ℕ → Bool
+is_looked_at causes positions at = not (is_free causes at) || list_any (λ x. x == at) positions
+
+abbrev pub looked_at : Office → MergeSet → List (Option Verdict) → List ℕ
+looked_at o s causes = filter (is_looked_at causes (together o s causes)) (positions_of causes)
 
 -- a set of these that breaks a need, by positions among all
 abbrev pub need_clash : List ℕ → ListedClash → MergeClash
@@ -38,16 +45,17 @@ pub record AreListed (o : Office) (s : MergeSet) (looked : List ℕ) (listed : L
 abbrev pub AreNeedClashes : Office → MergeSet → List ℕ → List MergeClash → Type 0
 AreNeedClashes o s looked sets = (listed : List ListedClash) × AreListed o s looked listed sets
 
--- all: of members in conflict, of two that change a cell, and of those looked at that break a need
-pub record AreMergeClashes (o : Office) (s : MergeSet) (broken : List MergeClash) (found : Found) : Type 0 where
+-- all: each member that can't be merged even alone; of the others each two that change one cell, and the sets that break a need
+pub record AreMergeClashes (o : Office) (s : MergeSet) (causes : List (Option Verdict)) (broken : List MergeClash) (found : Found) : Type 0 where
   pub named : names_fault o s ≡ None
-  pub looked : found.looked.items ≡ looked_at o s
-  pub needs : AreNeedClashes o (looked_merge_set o s) (looked_at o s) broken
+  pub alone : AreCauses o s.root s.members causes
+  pub looked : found.looked.items ≡ looked_at o s causes
+  pub needs : AreNeedClashes o (together_merge_set o s causes) (together o s causes) broken
   pub clashes : map stored_clash found.clashes.items
-      ≡ conflict_clashes o s.members ++ shared_clashes (change_sets o s) (free_positions o s.members) ++ broken
+      ≡ lone_clashes causes ++ shared_clashes (change_sets o s) (free_positions causes) ++ broken
 
 abbrev pub FindsClashes : Office → MergeSet → Found → Type 0
-FindsClashes o s found = (broken : List MergeClash) × AreMergeClashes o s broken found
+FindsClashes o s found = (causes : List (Option Verdict)) × (broken : List MergeClash) × AreMergeClashes o s causes broken found
 
 -- the first test of names that fails, or no memory was found
 abbrev pub IsFaultOfNames : Office → MergeSet → Verdict → Type 0

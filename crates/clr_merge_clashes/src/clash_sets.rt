@@ -10,8 +10,9 @@ pub struct MergeClash {
     pub cause: Verdict,
 }
 
-/// All such sets that hold no other, of the members that are looked at: those that are in no conflict and change
-/// no cell that an earlier one changes.
+/// All such sets that hold no other, and the members that were looked at, by their positions: those that can't be merged
+/// even alone, and of the others those that change no cell which an earlier one changes. The sets tell of each subset of
+/// these whether it can be merged together.
 #[derive(Debug, Drop)]
 pub struct MergeClashes {
     pub clashes: Vec<MergeClash>,

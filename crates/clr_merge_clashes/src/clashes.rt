@@ -3,10 +3,13 @@ ghost use Rattle.std.specs.Prelude.{◌≡◌, None, map, IfOk};
 ghost use Rattle.clr_steps.specs.Readings.{changes_in};
 ghost use Rattle.clr_merge_sets.specs.MergeSetNames.{merge_set};
 ghost use Rattle.clr_clearance.specs.Verdicts.{names_fault};
+ghost use Rattle.clr_merge_clashes.specs.Laws.{AreSmallestSets};
 ghost use Rattle.clr_merge_clashes.specs.MergeClashes.{AreFound, FindsClashes};
 
 use crate::clash_sets::MergeClashes;
-use crate::conflicts::conflicts_of;
+use crate::laws::sets_decide_plans;
+use crate::lone::{causes_alone, lone_of};
+use crate::looked::looked_of;
 use crate::needs::need_clashes;
 use crate::pairs::pairs_of;
 use crate::places::names_at;
@@ -47,20 +50,23 @@ fn clashes_of_children(
     requires { names_fault office.now (merge_set root.now (map (λ name. name.now) members.now)) ≡ None }
     ensures { IfOk result (FindsClashes office.now (merge_set root.now (map (λ name. name.now) members.now))) }
 {
-    let (mut clashes, free) = conflicts_of(alloc, office, members)?;
+    let causes = causes_alone(alloc, office, root, members)?;
+    let (mut clashes, free) = lone_of(alloc, causes.as_slice())?;
     let sets = change_sets(alloc, office, members)?;
-    let (mut pairs, looked) = pairs_of(alloc, sets.as_slice(), free.as_slice())?;
-    let names = names_at(alloc, members, looked.as_slice())?;
-    let mut needs = need_clashes(alloc, office, root, names.as_slice(), looked.as_slice())?;
+    let (mut pairs, together) = pairs_of(alloc, sets.as_slice(), free.as_slice())?;
+    let names = names_at(alloc, members, together.as_slice())?;
+    let mut needs = need_clashes(alloc, office, root, names.as_slice(), together.as_slice())?;
+    let looked = looked_of(alloc, causes.as_slice(), together.as_slice())?;
     clashes.append(&mut pairs)?;
     clashes.append(&mut needs)?;
     Ok(MergeClashes { clashes, looked })
 }
 
-/// Returns the smallest sets of members of a root that can't be merged together: each member that is in conflict;
-/// of the others each two that change one cell, with the least such cell; and of those that change no cell which an
-/// earlier one changes the smallest sets that break a need which nothing covers, each with the least need that just
-/// these break, in the order of these needs. Fails with the first test of names that fails, and otherwise with
+/// Returns the smallest sets of members of a root that can't be merged together: each member that can't be merged even
+/// alone, with the cause of its plan; of the others each two that change one cell, with the least such cell; and of those
+/// that change no cell which an earlier one changes the smallest sets that break a need which nothing covers, each with
+/// the least need that just these break, in the order of these needs. No set holds another, and what a set holds but for
+/// one of its members can be merged together. Fails with the first test of names that fails, and otherwise with
 /// `OutOfMemory` for want of memory.
 pub fn merge_clashes(
     alloc: Global,
@@ -69,7 +75,10 @@ pub fn merge_clashes(
     members: &[&str],
 ) -> Result<MergeClashes, Verdict>
     ensures found { AreFound office.now (merge_set root.now (map (λ name. name.now) members.now)) result }
+    ensures exact { IfOk result (AreSmallestSets office.now (merge_set root.now (map (λ name. name.now) members.now))) }
 {
+    let _rules = office.book();
+    sets_decide_plans();
     if let Some(fault) = name_fault(alloc, office, root, &members) {
         return Err(fault);
     }

@@ -1,8 +1,8 @@
 //! The laws of the clashes of a merge set, each proved by a function that does nothing.
 
-ghost use Rattle.clr_merge_clashes.specs.Laws.{AllAreLookedAt, ClashesDecidePlans};
+ghost use Rattle.clr_merge_clashes.specs.Laws.{AllAreLookedAt, ClashesDecidePlans, SetsDecidePlans};
 
-use clr_clashes::listed_clashes_decide_subsets;
+use clr_clashes::{clashes_decide_subsets, listed_clashes_decide_subsets};
 
 /// Of members of a root in which every rule holds, none of them in conflict and no cell changed by two,
 /// the plan of some is cleared exactly where they hold none of a list of the smallest clashes of all,
@@ -13,8 +13,17 @@ pub fn clashes_decide_plans()
     listed_clashes_decide_subsets();
 }
 
-/// Of members none of which is in conflict, and where no cell is changed by two, all are looked at together,
-/// and there is no set of conflicts or of shared cells.
+/// The members of each set that is found can't be merged together, and without one or more of them they can; no set
+/// holds another. Some members aren't cleared where they hold a set; and where they hold none, and all of them were
+/// looked at, they are, memory aside.
+pub fn sets_decide_plans()
+    ensures { SetsDecidePlans }
+{
+    clashes_decide_subsets();
+    listed_clashes_decide_subsets();
+}
+
+/// Where no cell is changed by two members, all are looked at.
 pub fn all_are_looked_at()
     ensures { AllAreLookedAt }
 {}

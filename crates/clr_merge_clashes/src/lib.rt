@@ -1,19 +1,23 @@
 //! The smallest sets of the members of a merge set that can't be merged together.
 //!
-//! - `merge_clashes` [`found`]: each member that is in conflict, alone; of the others each two that change one
-//!   cell, with the least such cell; and of those that change no cell which an earlier one changes the
-//!   smallest clashes of their scene, as `AreSmallestClashes` has them. Where a test of names fails, that
-//!   is the answer. Otherwise want of memory is the only refusal.
+//! - `merge_clashes` [`found`, `exact`]: each member that can't be merged even alone, with the cause of its
+//!   plan; of the others each two that change one cell, with the least such cell; and of those that
+//!   change no cell which an earlier one changes the smallest clashes of their scene, as
+//!   `AreSmallestClashes` has them. No set holds another; the members of a set can't be merged
+//!   together, and without one or more of them they can. Where a test of names fails, that is the
+//!   answer. Otherwise want of memory is the only refusal.
+//! - `sets_decide_plans`, which `merge_clashes` [`exact`] says of its own answer: a plan of some members isn't
+//!   cleared where they hold a set, and is where they hold none and all of them were looked at.
+//! - `all_are_looked_at`: where no cell is changed by two members, all are looked at.
 //! - `clashes_decide_plans`: of members without conflicts and shared cells, the plan of some is cleared
-//!   exactly where they hold none of the listed sets.
-//! - `all_are_looked_at`: of such members, all are looked at together, and no set is one of conflicts or
-//!   of shared cells.
+//!   exactly where they hold none of the smallest clashes of their scene.
 #![tactic(auto)]
 
 mod clash_sets;
 mod clashes;
-mod conflicts;
 mod laws;
+mod lone;
+mod looked;
 mod needs;
 mod pairs;
 mod places;
@@ -21,5 +25,5 @@ mod shared_cells;
 
 pub use clash_sets::{MergeClash, MergeClashes};
 pub use clashes::merge_clashes;
-pub use laws::{all_are_looked_at, clashes_decide_plans};
+pub use laws::{all_are_looked_at, clashes_decide_plans, sets_decide_plans};
 pub use places::names_at;

@@ -154,9 +154,13 @@ module _ (o : Office) (admitted : IsAdmitted o) where
     either_fits v l false e = fits_content_of o admitted.fit.rows s.root v.cell l.row (old_is (setting_by_position o s) (first v.cell)
         (row_at (content_of o s.root) v.cell) l e).0
 
-    pub merge_set_fits : FitsSetting (setting_by_position o s)
+    -- the row of each version fits
+    pub version_fits : (v : VersionId) (l : Lived ℕ) → version (setting_by_position o s) v ≡ Some l → FitsCell o.schema (held_row v l)
     unfolding version root_content
-    merge_set_fits = record { tables = o.schema; book = admitted.fit.book; each = λ v l e. either_fits v l v.fresh e }
+    version_fits v l e = either_fits v l v.fresh e
+
+    pub merge_set_fits : FitsSetting (setting_by_position o s)
+    merge_set_fits = record { tables = o.schema; book = admitted.fit.book; each = version_fits }
 
     -- every rule holds in a root that is kept
     pub root_holds : is_kept o s.root ≡ true → RootHolds o s

@@ -4,3 +4,4 @@ pub mod GroupLaws
 pub mod GroupNeedLaws
 pub mod OnePlanLemmas
 pub mod PromiseLaws
+pub mod ReadableLaws

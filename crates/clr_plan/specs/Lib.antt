@@ -1,3 +1,4 @@
+pub mod Certificates
 pub mod GroupNeeds
 pub mod OnePlan
 pub mod Picked

@@ -1,7 +1,7 @@
 //! The planner: of children of a kept workspace that are to be merged into it, either a certificate
 //! that they can be merged in every order, or an order in which some merge is refused.
 //!
-//! - `plan` [`plan`, `unfit`, `promises`, `exact`, `lasts`]. It is Unfit, with the verdict, exactly
+//! - `plan` [`plan`, `unfit`, `promises`, `exact`, `lasts`, `readable`]. It is Unfit, with the verdict, exactly
 //!   where the root isn't kept or a test of names fails, and then never want of memory. Where it is
 //!   Cleared, the certificate has the members as they were given and one entry for each touched
 //!   need, ascending, with the witnesses that `pick` names; the verdict on it is Clear, the members
@@ -16,6 +16,9 @@
 //! - `Plan::is_cleared` and `Plan::is_out_of_memory` tell which of its answers a plan is.
 //! - Where members fall into groups, witnesses are picked in the scene of each group, by
 //!   `groups_split_needs`; the answer is the same, word for word.
+//! - `cleared_plans_are_readable`, which `plan` [`readable`] says of its own answer: the certificate of a plan
+//!   that is cleared has good names, cells that the schema names and parts of paths, so that its text
+//!   is read as the certificate.
 //! - `plans_of_a_merge_set_are_alike`: what `plan` promises is true of one answer alone, memory aside.
 //! - `plan_lines` gives exactly the bytes of a plan's lines, with the names of members and cells, memory aside. A certificate
 //!   stands there as `write_certificate` writes it.
@@ -32,7 +35,7 @@ mod planner;
 mod plans;
 mod scene_plans;
 
-pub use laws::plans_of_a_merge_set_are_alike;
+pub use laws::{cleared_plans_are_readable, plans_of_a_merge_set_are_alike};
 pub use lines::plan_lines;
 pub use planner::plan;
 pub use plans::Plan;

@@ -3,6 +3,7 @@
 ghost use Rattle.std.specs.Prelude.{map};
 ghost use Rattle.clr_merge_sets.specs.MergeSetNames.{merge_set};
 ghost use Rattle.clr_merge_sets.specs.MergeSets.{AreParts};
+ghost use Rattle.clr_plan.specs.Certificates.{IsReadableWhereCleared};
 ghost use Rattle.clr_plan.specs.Plans.{IsPlan};
 ghost use Rattle.clr_plan.specs.Promises.{IsExact, IsUnfitWhere, Promises, StaysCleared};
 
@@ -36,7 +37,7 @@ fn plan_parts(
 /// Returns what is planned for members that are to be merged into a root. `Unfit` comes wherever a
 /// test of names fails, with the first that does. `Cleared` comes with a certificate that names the
 /// root and the members as they are given, with one entry for each touched need, ascending: the
-/// members are safe. `Blocked` comes with an order of members, by position, and the first test that
+/// members are safe, and the text of the certificate is read as the certificate. `Blocked` comes with an order of members, by position, and the first test that
 /// fails: of the merges in that order, from this office and with no workspace removed, one meets a
 /// conflict or breaks a rule. There is no other answer but `OutOfMemory`, in place of `Cleared` and
 /// `Blocked`. What was cleared stays cleared for the members that still stand, in whichever order
@@ -52,8 +53,11 @@ pub fn plan(alloc: Global, office: &Office, root: &str, members: &[&str]) -> Pla
     ensures promises { Promises office.now (merge_set root.now (map (λ name. name.now) members.now)) result }
     ensures exact { IsExact office.now (merge_set root.now (map (λ name. name.now) members.now)) result }
     ensures lasts { StaysCleared office.now (merge_set root.now (map (λ name. name.now) members.now)) result }
+    ensures readable { IsReadableWhereCleared office.now result }
 {
     let _rules = office.book();
+    let _tables = office.schema().tables();
+    let _tree = office.len();
     match read_merge_set(alloc, office, root, &members) {
         Ok(parts) => plan_parts(alloc, office, &parts, root, members),
         Err(fault) => plan_fault(alloc, fault),
