@@ -1,9 +1,9 @@
 //! Where two parts meet.
 
-ghost use Rattle.std.specs.Prelude.{◌≡◌, true, IfSome};
-ghost use Rattle.clr_rows.specs.Places.{InRange, Differ};
+ghost use Rattle.std.specs.Prelude.{◌≡◌, ◌↔◌, true, IfSome, IsTrue};
+ghost use Rattle.clr_rows.specs.Places.{InRange};
 ghost use Rattle.clr_segments.specs.Segments.{LiesOn};
-ghost use Rattle.clr_wording.specs.Meetings.{IsMeetingOfParts};
+ghost use Rattle.clr_wording.specs.Meetings.{IsMeetingOfParts, IsPart};
 
 use clr_rows::{GREATEST_COORDINATE, Place};
 use clr_segments::{Meet, lies_on, meet};
@@ -25,16 +25,14 @@ pub enum Meeting {
 
 /// Returns whether a place has coordinates in range.
 fn is_in_range(p: Place) -> bool
-    ensures { result ≡ true → InRange p }
+    ensures { IsTrue result ↔ InRange p }
 {
     p.x.unsigned_abs() <= GREATEST_COORDINATE && p.y.unsigned_abs() <= GREATEST_COORDINATE
 }
 
 /// Returns whether the ends of a part differ and have coordinates in range.
 fn is_part(part: (Place, Place)) -> bool
-    ensures first { result ≡ true → InRange part.0 }
-    ensures second { result ≡ true → InRange part.1 }
-    ensures differ { result ≡ true → Differ part.0 part.1 }
+    ensures { IsTrue result ↔ IsPart part.0 part.1 }
 {
     let (a, b) = part;
     is_in_range(a) && is_in_range(b) && !a.same(&b)
