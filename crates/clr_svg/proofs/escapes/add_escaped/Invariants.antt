@@ -1,7 +1,7 @@
-use Rattle.std.proofs.Common.{◌≡◌, ◌++◌, take}
-use Rattle.clr_svg.specs.Escapes.{escaped}
+use Rattle.std.proofs.Common.{◌≡◌, ◌++◌, drop}
+use Rattle.clr_svg.specs.Escapes.{escaped_behind}
 use Rattle.clr_svg.proofs.escapes.add_escaped.Given as goal
 
--- the bytes so far are added
-abbrev pub invariant-loop-byte : goal.invariant-loop-byte
-invariant-loop-byte l = l.text.items ≡ l.initial.text.items ++ escaped (take l.byte-index l.words)
+-- what is added, with what is left of the words, is the whole
+abbrev pub invariant-loop-at : goal.invariant-loop-at
+invariant-loop-at l = l.text.items ++ escaped_behind l.count (drop l.at l.words) ≡ l.initial.text.items ++ escaped_behind 0 l.words
