@@ -13,18 +13,19 @@ use Rattle.clr_explanations.specs.Places.{BeginsWithPath}
 abbrev pub standing_fault : OfficeText → Option (ℕ × PartFault)
 standing_fault o = workspaces_fault o.live (workspaces_over o.live o.deltas)
 
--- what is found is that of a text that can be read
-abbrev pub IsStandingFault : List ℕ → Option (ℕ × PartFault) → Type 0
-IsStandingFault text found = (o : OfficeText) → office_in text ≡ Ok o → standing_fault o ≡ found
+-- a text can be read, and this is the first workspace of its office that can't stand, and why
+abbrev pub IsStandingFault : List ℕ → ℕ × PartFault → Type 0
+IsStandingFault text first = (o : OfficeText) × (office_in text ≡ Ok o) × (standing_fault o ≡ Some first)
 
+-- a text can't be read, or all workspaces of its office stand
 abbrev pub StandsIfRead : List ℕ → Type 0
-StandsIfRead text = IsStandingFault text None
+StandsIfRead text = (o : OfficeText) → office_in text ≡ Ok o → standing_fault o ≡ None
 
 -- what is said of a text that can be read: the path of the first workspace that can't stand, and why
 pub record IsStandingRemark (text : List ℕ) (remark : Remark) : Type 0 where
   pub within : remark.offset ≤ length text
   pub at : ℕ
   pub fault : PartFault
-  pub found : IsStandingFault text (Some (at, fault))
+  pub found : IsStandingFault text (at, fault)
   pub place : BeginsWithPath (spot.Workspace at) (string_bytes remark.place)
   pub sentence : BeginsWithName (part_fault_name fault) (string_bytes remark.sentence)

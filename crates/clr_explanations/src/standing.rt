@@ -1,5 +1,5 @@
 //! What is said of an office text whose workspaces can't stand as a whole.
-ghost use Rattle.std.specs.Prelude.{◌≡◌, ◌≢◌, ◌≤◌, length, string_bytes, IfNone, IfOk, IfSome};
+ghost use Rattle.std.specs.Prelude.{◌≡◌, ◌≢◌, ◌≤◌, length, string_bytes, IfNone, IfOk, IfSome, MatchOption};
 ghost use Rattle.clr_explanations.specs.Places.{BeginsWithPath};
 ghost use Rattle.clr_explanations.specs.Standing.{IsStandingFault, IsStandingRemark, StandsIfRead};
 ghost use Rattle.clr_item_explanations.specs.FaultNames.{BeginsWithName, part_fault_name};
@@ -36,9 +36,9 @@ fn known_refusal(refused: (usize, PartFault)) -> Result<(usize, PartFault), Allo
 
 /// Returns the first workspace of a text that can't stand among all of them, and why; or none where they stand or the text can't
 /// be read.
-#[tactic(auto, using(crate::proofs::StandingLemmas::stands, crate::proofs::StandingLemmas::refused_stands, crate::proofs::StandingLemmas::unread_stands))]
+#[tactic(auto, using(crate::proofs::StandingLemmas::all_stand, crate::proofs::StandingLemmas::refused_stands, crate::proofs::StandingLemmas::unread_stands))]
 fn standing_fault(alloc: Global, text: &[u8]) -> Result<Option<(usize, PartFault)>, AllocError>
-    ensures { IfOk result (IsStandingFault text.now) }
+    ensures { IfOk result (λ found. MatchOption found (StandsIfRead text.now) (IsStandingFault text.now)) }
 {
     let parts = match read_office(alloc, text) {
         Ok(parts) => parts,

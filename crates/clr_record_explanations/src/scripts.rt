@@ -1,6 +1,10 @@
 //! What is said of a script that can't be read.
-ghost use Rattle.std.specs.Prelude.{◌≡◌, ◌≤◌, length, string_bytes, Err, IfOk, IfNone, IfSome, IsOk};
+ghost use Rattle.std.specs.Prelude.{◌≡◌, ◌≤◌, length, string_bytes, Err, IfOk, IfNone, IfSome, IsOk, option_map};
 ghost use Rattle.clr_scripts.specs.Scripts.{script_in_text};
+ghost use Rattle.csv.specs.Records.{fields_of};
+ghost use Rattle.clr_records.specs.Records.{records_in};
+ghost use Rattle.clr_record_faults.specs.FirstFaults.{record_in};
+ghost use Rattle.clr_record_faults.specs.ScriptFaults.{IsFaultOfScript};
 ghost use Rattle.clr_record_explanations.specs.RecordRemarks.{IsRecordPlace, IsRecordRemark};
 
 use crate::edits::explain_edit;
@@ -38,14 +42,17 @@ fn slip_of(
 }
 
 /// Returns what is said of the fault that is found in a script.
+#[tactic(auto, using(crate::proofs::RecordLemmas::numbered, crate::proofs::RecordLemmas::unnumbered_step))]
 fn remark_on(
     alloc: Global,
     schema: &Schema,
     text: &[u8],
     found: &FoundFault,
 ) -> Result<Remark, AllocError>
+    requires fields { option_map fields_of found.now.fields ≡ record_in text.now found.now.record }
+    requires at { IsFaultOfScript schema.now (records_in text.now) found.now.role found.now.record found.now.fault }
     ensures within { IfOk result (λ remark. remark.offset ≤ length text.now) }
-    ensures place { IfOk result (λ remark. IsRecordPlace found.now.record (string_bytes remark.place)) }
+    ensures place { IfOk result (λ remark. IsRecordPlace text.now found.now.record (string_bytes remark.place)) }
 {
     match &found.fields {
         Some(fields) => {

@@ -22,13 +22,9 @@ unfolding if_standing
 falls o e some = rw some refl
 
 -- workspaces that can't stand make no draft
-pub no_tree : (text : List ℕ) (first : ℕ × PartFault) → IsOk (office_in text) → IsStandingFault text (Some first) → draft_in text ≡ Err fault.BadPart
+pub no_tree : (text : List ℕ) (first : ℕ × PartFault) → IsStandingFault text first → draft_in text ≡ Err fault.BadPart
 unfolding draft_in
-no_tree text first read found = by (office_in text) refl read
-  where
-    by : (r : Result OfficeText TextFault) → office_in text ≡ r → IsOk r → (r >>= λ o. if_standing (whole_office o)) ≡ Err fault.BadPart
-    by (Ok o) is ok = falls (whole_office o) first (found o is)
-    by (Err e) is ok = absurd cc
+no_tree text first (o, is, found) = rw is (falls (whole_office o) first found)
 
 -- texts that can make a draft
 pub is_draft : (text : List ℕ) → IsOk (office_in text) → StandsIfRead text → IsOk (draft_in text)

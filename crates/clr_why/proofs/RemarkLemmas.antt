@@ -5,7 +5,7 @@ use Rattle.clr_fault_lines.specs.declared.remarks.Remark.{Remark}
 use Rattle.clr_why.specs.Whys.{IsRemark, IsRemarkedOfficeFault}
 
 within : (text : List ℕ) (e : TextFault) (remark : Remark) → IsRemark text e remark → remark.offset ≤ length text
-within text e remark (inl (at, found, is)) = is.within
+within text e remark (inl (read, (at, found, is))) = is.within
 within text e remark (inr is) = is.within
 
 pub is_within : (text : List ℕ) (e : TextFault) (remark : Remark) → IsRemarkedOfficeFault text e remark → remark.offset ≤ length text

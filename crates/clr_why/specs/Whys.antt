@@ -9,6 +9,7 @@ use Rattle.clr_scripts.specs.declared.faults.RecordFault.{RecordFault}
 use Rattle.clr_steps.specs.Offices.{Office}
 use Rattle.clr_engine.specs.Drafts.{unheld_in}
 use Rattle.clr_drafts.specs.Drafts.{draft_in}
+use Rattle.clr_office_text.specs.Offices.{office_in}
 use Rattle.clr_rule_text.specs.declared.faults.TextFault.{TextFault}
 use Rattle.clr_fault_lines.specs.FaultLines.{AreFaultLines}
 use Rattle.clr_fault_lines.specs.declared.remarks.Remark.{Remark}
@@ -23,9 +24,9 @@ use Rattle.clr_why.specs.declared.whys.Why.TheVariants.{NoFault, Unheld, Faulty}
 
 -- faults -------------------------------------------------------------------------------------
 
--- a remark on the item that has the fault, or, where the text can be read, on the first workspace that can't stand
+-- a remark on the item that has the fault, where the text can't be read; and where it can, on the first workspace that can't stand
 abbrev pub IsRemark : List ℕ → TextFault → Remark → Type 0
-IsRemark text e remark = IsOfficeRemark text e remark ⊎ IsStandingRemark text remark
+IsRemark text e remark = ((office_in text ≡ Err e) × IsOfficeRemark text e remark) ⊎ IsStandingRemark text remark
 
 -- the fault of an office text, and a remark on it
 abbrev pub IsRemarkedOfficeFault : List ℕ → TextFault → Remark → Type 0

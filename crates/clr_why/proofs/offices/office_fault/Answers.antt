@@ -12,4 +12,4 @@ returns-in-Some-clause-told c =
     let found = c.in-Some.found in
     let told = MatchOption-at_some ⊤ (λ f. office_in text ≡ Err f.fault) found c.in-Some.is c.in_ok-found.ensures.told in
     let remark = MatchOption-at_some ⊤ (λ f. IsOfficeRemark text f.fault f.remark) found c.in-Some.is c.in_ok-found.ensures.at in
-    (no_draft text found.fault told, inl remark)
+    (no_draft text found.fault told, inl (told, remark))

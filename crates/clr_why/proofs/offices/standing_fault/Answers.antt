@@ -10,7 +10,7 @@ pub returns-in-Some-clause-told : goal.returns-in-Some-clause-told
 returns-in-Some-clause-told c =
     let text = c.args.text.now in
     let told = MatchOption-at_some ⊤ (IsStandingRemark text) c.in-Some.remark c.in-Some.is c.in_ok-remark.ensures.told in
-    (no_tree text (told.at, told.fault) c.requires told.found, inr told)
+    (no_tree text (told.at, told.fault) told.found, inr told)
 
 pub returns-in-None-clause-none : goal.returns-in-None-clause-none
 returns-in-None-clause-none c =
