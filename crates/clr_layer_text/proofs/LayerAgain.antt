@@ -132,6 +132,7 @@ layer_again tables at table rows rounded is =
       no_mark table rows,
       read_written records (refl, have_field rows),
       is.stands,
+      is.names,
       header_again table (header_differs tables at table is.sound is.stands is.names),
       records_again tables at table rounded rows 2 is.stands all,
     ) refl

@@ -153,9 +153,10 @@ row_of tables table rounded at fields = if length fields == at.width then whole_
 
 -- reading: a layer ----------------------------------------------------------------------------------
 
+-- where the fields of a table's rows stand; the values of a column that is called as the field of shapes can't be told from the shapes
 abbrev pub fields_of_table : List (List ℕ) → Option TableDef → Result Fields LayerFault
 fields_of_table names None = Err (Unfit NoTable)
-fields_of_table names (Some table) = fields_in names table
+fields_of_table names (Some table) = if can_be_layer table then fields_in names table else Err ColumnTwice
 
 -- the rows of records that are numbered from n
 abbrev pub rows_from : List TableDef → ℕ → Bool → Fields → ℕ → List (List (List ℕ)) → Result (List LayerRow) (ℕ × LayerFault)

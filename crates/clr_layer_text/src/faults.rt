@@ -17,7 +17,7 @@ pub enum LayerFault {
     NotCsv,
     /// The header lacks `KEY`, a column of the table, or `WKT` where its rows have shapes.
     NoColumn,
-    /// One of these names stands twice in the header.
+    /// One of these names stands twice in the header, or is that of a column and of the shapes.
     ColumnTwice,
     /// A record with another number of fields than the header.
     FieldCount,

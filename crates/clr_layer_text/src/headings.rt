@@ -13,6 +13,7 @@ ghost use Rattle.clr_layer_text.specs.Layers.{column_of, columns_of, fields_in, 
 
 use crate::faults::LayerFault;
 use crate::limits::SHAPE;
+use crate::table_rows::can_be_layer;
 use clr_records::field;
 use clr_rows::{Form, KEY, Kind, RowFault, TableDef, Words};
 use csv::StringRecord;
@@ -138,8 +139,9 @@ fn headings_in(alloc: Global, names: &[Words], table: &TableDef) -> Result<Headi
 }
 
 /// Returns where the fields of a table's rows stand. Fails with `NoTable` where there is no table, with
-/// `NoColumn` where the header lacks `KEY`, a column of the table, or `WKT` where its rows have shapes, and
-/// with `ColumnTwice` where one of these stands twice. Other names are passed over.
+/// `ColumnTwice` where a column is called `WKT` and the rows have shapes, with `NoColumn` where the header lacks
+/// `KEY`, a column of the table, or `WKT` where its rows have shapes, and with `ColumnTwice` where one of these
+/// stands twice. Other names are passed over.
 pub(crate) fn find_headings(
     alloc: Global,
     header: &StringRecord,
@@ -149,6 +151,7 @@ pub(crate) fn find_headings(
 {
     match table {
         None => Err(LayerFault::Unfit(RowFault::NoTable)),
+        Some(table) if !can_be_layer(table) => Err(LayerFault::ColumnTwice),
         Some(table) => headings_in(alloc, names_of(alloc, header)?.as_slice(), table),
     }
 }

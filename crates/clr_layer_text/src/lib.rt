@@ -17,7 +17,7 @@ mod writing;
 
 pub use faults::LayerFault;
 pub use laws::layer_is_read_back;
-pub use limits::SHAPE;
+pub use limits::{SHAPE, limits_of_layers};
 pub use reading::read_layer;
 pub use rows::LayerRow;
 pub use table_rows::{rows_of_table, table_layer};

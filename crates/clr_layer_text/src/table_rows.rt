@@ -50,7 +50,7 @@ fn is_bare(form: Form) -> bool
 }
 
 /// Returns whether no column of a table is called `WKT`, where its rows have shapes.
-fn can_be_layer(table: &TableDef) -> bool
+pub(crate) fn can_be_layer(table: &TableDef) -> bool
     ensures { result ≡ can_be_layer table.now }
 {
     is_bare(table.shape) || !has_shape_column(table.columns.as_slice())
