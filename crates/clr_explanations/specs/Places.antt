@@ -1,7 +1,11 @@
 -- What is said of the place of a fault behind its line and its column.
-use Rattle.std.specs.Prelude.{◌≡◌, ℕ, List, [], ◌++◌, codes, decimal}
+use Rattle.std.specs.Prelude.{◌≡◌, ℕ, List, [], ◌∷◌, ◌++◌, codes, decimal}
 use Rattle.clr_faults.specs.declared.spots.Spot.{Spot}
 use Rattle.clr_faults.specs.declared.spots.Spot.TheVariants.{Whole, Table, Rule, Live, Workspace, Base, Row, Mark, Saved}
+use Rattle.clr_places.specs.declared.paths.Key.{Key}
+use Rattle.clr_places.specs.declared.paths.Key.TheVariants as key
+use Rattle.clr_places.specs.declared.paths.Step.{Step}
+use Rattle.clr_places.specs.declared.paths.Step.TheVariants as step
 
 abbrev pub workspace_path : ℕ → List ℕ
 workspace_path at = codes "workspaces[" ++ decimal at ++ codes "]"
@@ -21,6 +25,22 @@ spot_path (Base at cell) = list_item_path (workspace_path at) (codes "base") cel
 spot_path (Row at cell) = list_item_path (workspace_path at) (codes "rows") cell
 spot_path (Mark at mark) = list_item_path (workspace_path at) (codes "marks") mark
 spot_path (Saved at mark cell) = list_item_path (list_item_path (workspace_path at) (codes "marks") mark) (codes "rows") cell
+
+-- the steps to an item of a list of a workspace
+abbrev pub steps_in_workspace : ℕ → Key → ℕ → List Step
+steps_in_workspace at k item = step.Key key.Workspaces ∷ step.At at ∷ step.Key k ∷ step.At item ∷ []
+
+-- the steps from the whole text to an item
+abbrev pub steps_to : Spot → List Step
+steps_to Whole = []
+steps_to (Table at) = step.Key key.Tables ∷ step.At at ∷ []
+steps_to (Rule at) = step.Key key.Rules ∷ step.At at ∷ []
+steps_to (Live at) = step.Key key.Live ∷ step.At at ∷ []
+steps_to (Workspace at) = step.Key key.Workspaces ∷ step.At at ∷ []
+steps_to (Base at cell) = steps_in_workspace at key.Base cell
+steps_to (Row at cell) = steps_in_workspace at key.Rows cell
+steps_to (Mark at mark) = steps_in_workspace at key.Marks mark
+steps_to (Saved at mark cell) = steps_in_workspace at key.Marks mark ++ step.Key key.Rows ∷ step.At cell ∷ []
 
 -- the path of the item, and what follows it
 abbrev pub BeginsWithPath : Spot → List ℕ → Type 0

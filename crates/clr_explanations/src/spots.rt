@@ -1,6 +1,6 @@
 //! Items of an office text, and their paths.
 ghost use Rattle.std.specs.Prelude.{◌≡◌, codes, string_bytes, IfOk};
-ghost use Rattle.clr_explanations.specs.Places.{list_item_path, spot_path, workspace_path};
+ghost use Rattle.clr_explanations.specs.Places.{list_item_path, spot_path, steps_in_workspace, steps_to, workspace_path};
 
 use clr_faults::Spot;
 use clr_places::{Key, Step};
@@ -67,7 +67,9 @@ fn steps_in_workspace(
     at: usize,
     key: Key,
     item: usize,
-) -> Result<Vec<Step>, AllocError> {
+) -> Result<Vec<Step>, AllocError>
+    ensures { IfOk result (λ steps. steps.items ≡ steps_in_workspace at key item) }
+{
     Vec::from_slice(
         alloc,
         &[
@@ -80,7 +82,9 @@ fn steps_in_workspace(
 }
 
 /// Returns the steps from the whole text to an item.
-pub fn spot_steps(alloc: Global, spot: Spot) -> Result<Vec<Step>, AllocError> {
+pub fn spot_steps(alloc: Global, spot: Spot) -> Result<Vec<Step>, AllocError>
+    ensures { IfOk result (λ steps. steps.items ≡ steps_to spot) }
+{
     match spot {
         Spot::Whole => Ok(Vec::new(alloc)),
         Spot::Table(at) => Vec::from_slice(alloc, &[Step::Key(Key::Tables), Step::At(at)]),

@@ -9,4 +9,4 @@ returns c =
     let refused = c.in-Err-of_deltas.refused in
     let found = c.in_ok-known_refusal-in-Err-of_deltas.ensures in
     subst (λ first. IsStandingFault text first) (sym found.0)
-        (refused_stands text _ refused c.in-Ok.ensures.value c.in-Err-of_deltas.ensures.refused found.1)
+    (refused_stands text _ refused c.in-Ok.ensures.value c.in-Err-of_deltas.ensures.refused found.1)
