@@ -5,6 +5,7 @@
 //!   The content fits the schema.
 //! - `edits_between` [`edits`, `leads`] gives an edit for each cell at which two contents differ; made one after another over the
 //!   first content they give the second.
+//! - `records_of_layers`: the first row of a layer is its record 2.
 #![tactic(auto)]
 
 mod changes;
@@ -18,5 +19,6 @@ mod wanted;
 pub use changes::edits_between;
 pub use clr_layer_text::LayerFault;
 pub use faults::{FaultyLayer, LayersFault};
+pub use limits::records_of_layers;
 pub use options::{GivenLayer, LayerOptions};
 pub use wanted::wanted_content;
