@@ -42,8 +42,16 @@ fn answer_files(rt: &HostRuntime, ask: &Ask, files: &[Words]) -> u8 {
         Err(refused) => return refuse_input(rt, file_name(files, refused.file), refused.fault),
     };
     let (office, second) = (text_at(&texts, 0), text_at(&texts, 1));
-    let mut writer = Port::new(rt.stdout());
-    let ended = answer(rt.alloc(), Disposal::Leak, ask, office, second, &mut writer);
+    let (mut writer, mut notes) = (Port::new(rt.stdout()), Port::new(rt.stderr()));
+    let ended = answer(
+        rt.alloc(),
+        Disposal::Leak,
+        ask,
+        office,
+        second,
+        &mut writer,
+        &mut notes,
+    );
     end_run(rt, ended, writer.is_closed())
 }
 
