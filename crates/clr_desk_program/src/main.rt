@@ -5,9 +5,11 @@
 #![tactic(auto)]
 
 use clr_desk::{Ask, AskFault, GeographicAsk, GivenLayer, answer, ask_of, fault_place};
+use clr_devices::Screen;
 use clr_office::{Port, RunFault, Sink, Words};
 use clr_reports::{
-    BAD_WORDS, print_fault, print_parser_message, read_files, text_at, texts_of_words, words,
+    BAD_WORDS, end_run, file_name, print_fault, print_input_remark, print_parser_message,
+    read_files, text_at, texts_of_words, words,
 };
 use std::io::ErrorKind;
 use std::process::ExitCode;
@@ -23,8 +25,15 @@ fn refuse_texts(
 ) -> u8 {
     let status = print_fault(rt, fault);
     if let Ok(place) = fault_place(rt.alloc(), fault, files, office, second) {
-        let _ = Port::new(rt.stderr()).put(place.as_slice());
+        let _ = Screen::new(rt.alloc(), Port::new(rt.stderr()), true).put(place.as_slice());
     }
+    status
+}
+
+/// Prints the line of a fault of a file on standard error, and behind it which file that is; and gives its exit status.
+fn refuse_file(rt: &HostRuntime, name: &str, fault: RunFault) -> u8 {
+    let status = print_fault(rt, fault);
+    print_input_remark(rt, name, fault);
     status
 }
 
@@ -59,12 +68,17 @@ fn take_layers(
 
 /// Answers what the words ask of files, and gives the exit status.
 fn answer_files(rt: &HostRuntime, ask: &Ask, files: &[Words]) -> Result<u8, RunFault> {
-    let mut texts = read_files(rt, files)?;
+    let mut texts = match read_files(rt, files) {
+        Ok(texts) => texts,
+        Err(refused) => return Ok(refuse_file(rt, file_name(files, refused.file), refused.fault)),
+    };
     let layers = take_layers(rt, ask, &mut texts)?;
     let (office, second) = (text_at(&texts, 0), text_at(&texts, 1));
-    let (mut writer, mut notes) = (Port::new(rt.stdout()), Port::new(rt.stderr()));
+    let is_read = matches!(ask, Ask::WorkOrder(..) | Ask::Why(_));
+    let mut writer = Screen::new(rt.alloc(), Port::new(rt.stdout()), is_read);
+    let mut notes = Screen::new(rt.alloc(), Port::new(rt.stderr()), true);
     let layers = layers.as_slice();
-    match answer(
+    let ended = answer(
         rt.alloc(),
         ask,
         office,
@@ -72,8 +86,12 @@ fn answer_files(rt: &HostRuntime, ask: &Ask, files: &[Words]) -> Result<u8, RunF
         layers,
         &mut writer,
         &mut notes,
-    ) {
-        Ok(status) => Ok(status),
+    );
+    match ended {
+        Ok(_) | Err(RunFault::WriteFailed) => {
+            let is_closed = writer.below().is_closed() || notes.below().is_closed();
+            Ok(end_run(rt, ended, is_closed))
+        }
         Err(fault) => Ok(refuse_texts(rt, fault, files, office, second)),
     }
 }

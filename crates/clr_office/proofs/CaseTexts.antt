@@ -1,5 +1,5 @@
 -- What is made of what two texts give: of why they don't give both, and of an office with a certificate.
-use Rattle.std.proofs.Common.{◌≡◌, ℕ, not, ◌||◌, List, Option, Result, Ok, Err, is_some, length, take, refl, sym, subst}
+use Rattle.std.proofs.Common.{◌≡◌, ℕ, not, ◌||◌, List, [], Option, Result, Ok, Err, OnOk, is_some, length, take, refl, sym, subst}
 use Rattle.std.specs.List.{list_any}
 use Rattle.clr_workspaces.specs.Marks.{Name}
 use Rattle.clr_steps.specs.declared.commands.Command.{Command}
@@ -24,6 +24,7 @@ use Rattle.clr_reports.specs.declared.faults.RunFault.TheVariants as run_fault
 use Rattle.clr_reports.specs.declared.outputs.Output.{Output}
 use Rattle.clr_office.specs.Clearances.{AreMerged, IsMergeOutcome, IsPrintOfCase, IsVerdictOutcome, fault_print, is_clear, is_without_memory}
 use Rattle.clr_office.specs.Clearances.{merge_text, of_merges, of_verdict as of_verdict_alone, verdict_outcome}
+use Rattle.clr_office.specs.NameHints.{AreHintsOfCase}
 use Rattle.clr_reports.specs.Outcomes.{Outcome, is_refused, outcome_of}
 use Rattle.clr_reports.specs.Printing.{IsOutput, Printed, print_of}
 use Rattle.clr_reports.proofs.Outcomes.{parts_are}
@@ -60,6 +61,19 @@ module _ (IsRight : Office → Certificate → Outcome → Type 0) (given : Case
       → IsOutput (IsPrintOfCase IsRight given) (Ok output)
   case_made o left c output is h =
       subst (λ g. IsPrintOfCase IsRight g (print_of output.lines.items output.refused output.lost)) (sym is) (outcome_of output left, h, refl)
+
+module _ (names : List Name) (given : Case) where
+  why_hints : (why : CaseFault) → given ≡ Err why → AreHintsOfCase names given []
+  why_hints why is = subst (λ g. AreHintsOfCase names g []) (sym is) refl
+
+  -- where the texts don't give both, there are no hints
+  pub no_case_hints : (why : CaseFault) → IsCaseFault given why → (answer : Result Output RunFault) → IsOutput (λ print. print ≡ fault_print why) answer
+      → OnOk answer (AreHintsOfCase names given [])
+  no_case_hints why is (Err e) _ = tt
+  no_case_hints (no_case.BadOffice e) is (Ok output) _ = why_hints (no_case.BadOffice e) is
+  no_case_hints (no_case.Unheld o position need) is (Ok output) _ = why_hints (no_case.Unheld o position need) is
+  no_case_hints (no_case.BadCertificate number e) is (Ok output) _ = why_hints (no_case.BadCertificate number e) is
+  no_case_hints no_case.OutOfMemory is (Ok output) h = absurd cc
 
 module _ (o : Office) (c : Certificate) (v : Verdict) (output : Output)
     (lines : output.lines.items ≡ verdict_text o.schema c.members c.root v) (refused : output.refused ≡ not (is_clear v)) (lost : output.lost

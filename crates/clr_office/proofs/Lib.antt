@@ -1,4 +1,5 @@
 pub mod CaseTexts
+pub mod HintLemmas
 pub mod OneOutcome
 pub mod OneSession
 pub mod Prints

@@ -1,12 +1,15 @@
 -- What is made for an office text, by what is made of its office.
-use Rattle.std.proofs.Common.{◌≡◌, None, Result, Ok, Err, sym, subst}
+use Rattle.std.proofs.Common.{◌≡◌, ℕ, List, [], Option, None, Some, Result, Ok, Err, OnOk, refl, sym, subst}
+use Rattle.clr_rules.specs.declared.needs.Broken.{Broken}
+use Rattle.clr_workspaces.specs.Marks.{Name}
 use Rattle.clr_steps.specs.Offices.{Office}
 use Rattle.clr_engine.specs.Drafts.{unheld_in}
 use Rattle.clr_rule_text.specs.declared.faults.TextFault.{TextFault}
 use Rattle.clr_reports.specs.declared.faults.RunFault.{RunFault}
 use Rattle.clr_reports.specs.declared.faults.RunFault.TheVariants as run_fault
 use Rattle.clr_reports.specs.declared.outputs.Output.{Output}
-use Rattle.clr_reports.specs.Printing.{IsOutput, IsPrintIn, IsPrintWhereHeld, IsTextFault, Printed}
+use Rattle.clr_reports.specs.Printing.{IsNoPrint, IsOutput, IsPrintIn, IsPrintWhereHeld, IsTextFault, Printed}
+use Rattle.clr_office.specs.NameHints.{AreHintsIn, AreHintsWhereHeld, AreNameHints}
 
 module _ (P Q : Printed → Type 0) (leads : (print : Printed) → P print → Q print) where
   weaker_fault : (e : RunFault) → IsTextFault P e → IsTextFault Q e
@@ -31,3 +34,24 @@ module _ (P : Office → Printed → Type 0) (meant : Result Office TextFault) (
   -- an office in which the rules hold
   pub held_made : (answer : Result Output RunFault) → IsOutput (P o) answer → IsOutput (IsPrintIn P meant) answer
   held_made answer = weaker_made (P o) (IsPrintIn P meant) opened answer
+
+-- hints at names of an office in which the rules hold
+pub hints_opened : (names : List Name) (meant : Result Office TextFault) (o : Office) → meant ≡ Ok o → unheld_in o ≡ None → (lines : List ℕ)
+    → AreNameHints o names lines → AreHintsIn names meant lines
+hints_opened names meant o is held lines h =
+    subst (λ m. AreHintsIn names m lines) (sym is) (subst (λ first. AreHintsWhereHeld names o first lines) (sym held) h)
+
+none_where : (names : List Name) (o : Office) (first : Option (ℕ × Broken)) (print : Printed) → IsPrintWhereHeld IsNoPrint o first print
+    → AreHintsWhereHeld names o first []
+none_where names o (Some unheld) print _ = refl
+none_where names o None print h = absurd h
+
+-- where something is printed in place of what is asked of an office, there are no hints
+pub no_hints : (names : List Name) (meant : Result Office TextFault) (print : Printed) → IsPrintIn IsNoPrint meant print → AreHintsIn names meant []
+no_hints names (Err e) print _ = refl
+no_hints names (Ok o) print h = none_where names o (unheld_in o) print h
+
+pub no_hints_made : (names : List Name) (meant : Result Office TextFault) (answer : Result Output RunFault) → IsOutput (IsPrintIn IsNoPrint meant) answer
+    → OnOk answer (AreHintsIn names meant [])
+no_hints_made names meant (Ok output) h = no_hints names meant _ h
+no_hints_made names meant (Err e) _ = tt

@@ -1,5 +1,6 @@
 pub mod Answers
 pub mod Clearances
+pub mod NameHints
 pub mod OneSession
 pub mod Outcomes
 pub mod Scripts

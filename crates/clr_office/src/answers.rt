@@ -1,16 +1,20 @@
 //! Answers to what is asked of one or two texts.
 
-ghost use Rattle.std.specs.Prelude.{◌≡◌, ◌≢◌, false, IfOk, IfErr};
+ghost use Rattle.std.specs.Prelude.{◌≡◌, ◌≢◌, ◌∷◌, List, ℕ, [], false, IfOk, IfErr, OnOk};
+ghost use Rattle.std.specs.Io.KnownBytes.{Appends};
+ghost use Rattle.clr_check.specs.Cases.{case_of};
 ghost use Rattle.clr_merge_sets.specs.MergeSetNames.{merge_set};
 ghost use Rattle.clr_command_line.specs.declared.asks.Ask.TheVariants as ask;
 ghost use Rattle.clr_drafts.specs.Drafts.{draft_in};
 ghost use Rattle.clr_office.specs.Answers.{IsPrintedAnswer, IsAnswerTo, IsAnswerWithin, IsPlanPrint, audit_of, audit_print};
+ghost use Rattle.clr_office.specs.NameHints.{AreHintsIn, AreHintsOfCase, AreHintsTo};
 ghost use Rattle.clr_reports.specs.Printing.{IsOutput, IsPrintIn, print_of};
 ghost use Rattle.clr_reports.specs.declared.faults.RunFault.TheVariants as run_fault;
 
 use crate::certificates::{check_output, fault_output};
 use crate::disposals::Disposal;
 use crate::merges::merge_members;
+use crate::name_hints::hint_lines;
 use crate::plans::plan_output;
 use crate::run_script::run_text;
 use clr_audit::audit;
@@ -68,19 +72,23 @@ pub fn answer_run(
     }
 }
 
-/// Returns the plan of members over the office of a text.
+/// Returns the plan of members over the office of a text, and gives the hints at names that no workspace has.
 fn answer_plan(
     alloc: Global,
     office: &[u8],
     root: &str,
     names: &[Words],
     disposal: Disposal,
+    hints: &mut Vec<u8>,
 ) -> Result<Output, RunFault>
-    ensures { IsOutput (IsPrintIn (IsPlanPrint (merge_set root.now names.now)) (draft_in office.now)) result }
+    requires { hints.old.items ≡ [] }
+    ensures output { IsOutput (IsPrintIn (IsPlanPrint (merge_set root.now names.now)) (draft_in office.now)) result }
+    ensures hints { OnOk result (AreHintsIn (root.now ∷ names.now) (draft_in office.now) hints.new.items) }
 {
     match open_office(alloc, office) {
         Ok(office) => {
             let output = plan_output(alloc, &office, root, names)?;
+            *hints = hint_lines(alloc, &office, root, names)?;
             disposal.dispose(office);
             Ok(output)
         }
@@ -88,18 +96,22 @@ fn answer_plan(
     }
 }
 
-/// Merges that the certificate of a text clears over the office of another.
+/// Merges that the certificate of a text clears over the office of another, and gives the hints at names that no workspace has.
 fn answer_merge(
     alloc: Global,
     office: &[u8],
     certificate: &[u8],
     names: &[Words],
     disposal: Disposal,
+    hints: &mut Vec<u8>,
 ) -> Result<Output, RunFault>
-    ensures { IsOutput (IsAnswerWithin (ask.Merge names.now) office.now certificate.now) result }
+    requires { hints.old.items ≡ [] }
+    ensures output { IsOutput (IsAnswerWithin (ask.Merge names.now) office.now certificate.now) result }
+    ensures hints { OnOk result (AreHintsOfCase names.now (case_of office.now certificate.now) hints.new.items) }
 {
     match read_case(alloc, office, certificate) {
         Ok((mut office, certificate)) => {
+            *hints = hint_lines(alloc, &office, certificate.root.as_str(), names)?;
             let output = merge_members(alloc, &mut office, &certificate, names)?;
             disposal.dispose(office);
             Ok(output)
@@ -108,25 +120,35 @@ fn answer_merge(
     }
 }
 
-/// Returns what is printed for what is asked of two texts.
+/// Returns what is printed for what is asked of two texts, and gives the hints at names that no workspace has.
 fn answer_texts(
     alloc: Global,
     ask: &Ask,
     office: &[u8],
     second: &[u8],
     disposal: Disposal,
+    hints: &mut Vec<u8>,
 ) -> Result<Output, RunFault>
-    ensures { IsOutput (IsAnswerWithin ask.now office.now second.now) result }
+    requires { hints.old.items ≡ [] }
+    ensures output { IsOutput (IsAnswerWithin ask.now office.now second.now) result }
+    ensures hints { OnOk result (AreHintsTo ask.now office.now second.now hints.new.items) }
 {
     match ask {
         Ask::Audit => answer_audit(alloc, office, disposal),
         Ask::Run => answer_run(alloc, office, second, disposal),
-        Ask::Plan(names) => answer_plan(alloc, office, LIVE, names.as_slice(), disposal),
+        Ask::Plan(names) => answer_plan(alloc, office, LIVE, names.as_slice(), disposal, hints),
         Ask::PlanUnder(root, names) => {
-            answer_plan(alloc, office, root.as_str(), names.as_slice(), disposal)
+            answer_plan(
+                alloc,
+                office,
+                root.as_str(),
+                names.as_slice(),
+                disposal,
+                hints,
+            )
         }
         Ask::Check => check_output(alloc, office, second, disposal),
-        Ask::Merge(names) => answer_merge(alloc, office, second, names.as_slice(), disposal),
+        Ask::Merge(names) => answer_merge(alloc, office, second, names.as_slice(), disposal, hints),
     }
 }
 
@@ -135,7 +157,8 @@ fn answer_texts(
 /// done, cleared or clear; 1 something refused, a plan that is blocked or unfit, a verdict that
 /// isn't clear, a merge that isn't quiet, or a rule that doesn't hold; 3 a command, a plan or a
 /// verdict found no memory. Where a rule doesn't hold, that alone is printed, but for an audit. Once
-/// the lines are known, the office that they are about is disposed of as asked.
+/// the lines are known, the office that they are about is disposed of as asked. Behind the lines hints go out as notes, at the root and
+/// the names that are asked for and that no workspace has, where one has a name like them; that they can't be written changes nothing.
 ///
 /// For example, where rule 1 lets mains cross only at nodes, and mains 1 and 2 cross without one in LIVE, an audit writes
 /// the lines `broken 1` and `rule 1 main/1 main/2`, a plan the line `unheld rule 1 main/1 main/2`, and both return 1.
@@ -145,28 +168,34 @@ fn answer_texts(
 /// text is no office, with `BadScript` or `BadCertificate` where the second is no script or no
 /// certificate, and with `WriteFailed` where the writer fails; how much went out is then not known.
 /// Fails with `OutOfMemory` if memory runs out, which may come in place of any other answer.
-pub fn answer<W: Sink>(
+pub fn answer<W: Sink, N: Sink>(
     alloc: Global,
     disposal: Disposal,
     ask: &Ask,
     office: &[u8],
     second: &[u8],
     writer: &mut W,
+    notes: &mut N,
 ) -> Result<u8, RunFault>
     requires { W.failed writer.old ≡ false }
     ensures answers { IsPrintedAnswer (IsAnswerTo ask.now office.now second.now) (W.contents writer.old) (W.contents writer.new) (W.failed writer.new) result }
     ensures keeps { IfErr result (λ e. e ≢ run_fault.WriteFailed → writer.new ≡ writer.old) }
+    ensures hints { IfOk result (λ _. N.failed notes.new ≡ false
+        → (lines : List ℕ) × AreHintsTo ask.now office.now second.now lines × Appends (N.contents notes.old) (N.contents notes.new) lines) }
+    ensures silent { IfErr result (λ _. notes.new ≡ notes.old) }
 {
     if office.len() > MOST_INPUT_BYTES || second.len() > MOST_INPUT_BYTES {
         return Err(RunFault::TooLong);
     }
-    let output = match answer_texts(alloc, ask, office, second, disposal) {
+    let mut hints = Vec::new(alloc);
+    let output = match answer_texts(alloc, ask, office, second, disposal, &mut hints) {
         Ok(output) => output,
         Err(fault) => return Err(fault),
     };
     let status = output.status();
-    match writer.put(output.lines.as_slice()) {
-        Ok(()) => Ok(status),
-        Err(_) => Err(RunFault::WriteFailed),
+    if writer.put(output.lines.as_slice()).is_err() {
+        return Err(RunFault::WriteFailed);
     }
+    let _ = notes.put(hints.as_slice());
+    Ok(status)
 }

@@ -6,6 +6,8 @@
 //!   BadOffice and BadScript are answered only where the session is that fault, and TooLong only
 //!   where the reader gave more than the limit; ReadFailed and WriteFailed are answered only where
 //!   the reader or the writer failed.
+//! - `answer` [`hints`]: what goes out as notes are hints at the names that are asked for and that no workspace has, each at the workspace
+//!   whose name is most like it, where one is like enough (`hint_lines`).
 //! - `answer` [`answers`, `keeps`]: the same for what words ask of one or two texts: where the
 //!   writer tells its bytes and there is a status, bytes and status are what `IsAnswerTo` says
 //!   (`clr_office: Answers`), and each fault is answered only where the texts have it, in its
@@ -48,6 +50,7 @@ mod certificates;
 mod disposals;
 mod laws;
 mod merges;
+mod name_hints;
 mod plans;
 mod run;
 mod run_script;
@@ -71,4 +74,5 @@ pub use clr_scripts::RecordFault;
 pub use disposals::Disposal;
 pub use laws::inputs_have_one_session;
 pub use merges::{merge_commands, replies_output, stop_output};
+pub use name_hints::hint_lines;
 pub use run::run_office;

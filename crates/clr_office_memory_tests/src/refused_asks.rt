@@ -84,6 +84,7 @@ fn are_of_text(alloc: Global, bytes: &[u8], text: &str) -> Option<bool> {
 fn is_answered_within(alloc: Global, hoard: &mut Hoard, budget: usize, case: Case) -> Option<bool> {
     let (ask, _) = ask_of(alloc, case.words).ok()?;
     let mut page = Page::new(alloc, ROOM).ok()?;
+    let mut notes = Page::new(alloc, ROOM).ok()?;
     let (office, second) = case.texts;
     hoard.leave(budget).ok()?;
     let status = answer(
@@ -93,6 +94,7 @@ fn is_answered_within(alloc: Global, hoard: &mut Hoard, budget: usize, case: Cas
         office.as_bytes(),
         second.as_bytes(),
         &mut page,
+        &mut notes,
     );
     hoard.give_back();
     let written = page.as_slice();

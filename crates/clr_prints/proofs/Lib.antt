@@ -1,5 +1,4 @@
 pub mod Codes
-pub mod HintLemmas
 pub mod LayerLemmas
 pub mod Made
 pub mod PrintLemmas

@@ -3,7 +3,7 @@
 //! - `Print`: a text for standard output, notes for standard error, and an ending, which tells the exit status. A print that
 //!   found no memory shows no text.
 //! - `notes_of`: the lines of an office text that is refused, as notes.
-//! - `with_hints`, `hint_lines`: hints at names that no workspace has, each at the workspace whose name is most like it, where one is like
+//! - `with_hints`, and `hint_lines` of `clr_office`: hints at names that no workspace has, each at the workspace whose name is most like it, where one is like
 //!   enough, and no others (`IsHinted`).
 //! - `plan_members`: the plan of members, with what it promises (`IsPlanned`). Over the office of a text, `answer_map` gives the map of such a
 //!   plan (`IsMapPrint`), `answer_report` its report (`IsReportPrint`), and `answer_geojson` its features, in a system of coordinates if one is
@@ -28,11 +28,12 @@ mod reports;
 mod systems;
 
 pub use clr_layer_changes::{GivenLayer, LayerOptions};
+pub use clr_office::hint_lines;
 pub use designs::{answer_design, answer_design_script, answer_office};
 pub use features::answer_geojson;
 pub use layers::answer_layer;
 pub use maps::answer_map;
-pub use name_hints::{hint_lines, with_hints};
+pub use name_hints::with_hints;
 pub use plans::plan_members;
 pub use prints::{Ending, Print, notes_of};
 pub use reports::answer_report;

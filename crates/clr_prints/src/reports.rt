@@ -6,11 +6,10 @@ ghost use Rattle.clr_prints.specs.Reports.{IsReportPrint};
 ghost use Rattle.clr_prints.specs.NameHints.{IsHinted};
 ghost use Rattle.clr_prints.specs.Printing.{IsMadePrintout, IsPrintoutIn, printed};
 
-use crate::name_hints::hint_lines;
 use crate::plans::{plan_members, print_of_plan_text};
 use crate::prints::{Print, notes_of};
 use clr_engine::Office;
-use clr_office::{RunFault, Words, open_office, texts_of_names};
+use clr_office::{RunFault, Words, hint_lines, open_office, texts_of_names};
 use clr_plan_report::plan_report;
 use std::alloc::{AllocError, Global};
 

@@ -1,6 +1,8 @@
 -- What a run reads of its input.
-use Rattle.std.specs.Prelude.{◌≡◌, ℕ, ◌≤◌, ◌<◌, List, length, Bool, true, false, Option}
+use Rattle.std.specs.Prelude.{◌≡◌, ℕ, ◌≤◌, ◌<◌, List, [], ◌++◌, length, codes, Bool, true, false, Option}
 use Rattle.std.specs.Io.KnownBytes.{Consumes, IsAtEnd}
+use Rattle.clr_devices.specs.Shown.{shown}
+use Rattle.clr_reports.specs.declared.faults.FileFault.{FileFault}
 use Rattle.clr_reports.specs.declared.faults.RunFault.{RunFault}
 use Rattle.clr_reports.specs.declared.faults.RunFault.TheVariants as fault
 use Rattle.clr_reports.specs.declared.reading.TheConstants.{MOST_INPUT_BYTES}
@@ -23,3 +25,20 @@ IsReadFault before after failed fault.NoSeparator = ⊥
 IsReadFault before after failed (fault.BadOffice e) = ⊥
 IsReadFault before after failed (fault.BadScript number e) = ⊥
 IsReadFault before after failed (fault.BadCertificate number e) = ⊥
+
+-- what is said of an input behind the line of a fault, by its name: that it can't be read, or how many bytes it may have
+abbrev pub input_remark : List ℕ → RunFault → List ℕ
+input_remark name fault.ReadFailed = shown false name ++ codes ": it can't be opened or read\n"
+input_remark name fault.TooLong = shown false name ++ codes ": it has more than 67,108,864 bytes\n"
+input_remark name _ = []
+
+-- a fault that a file may have, or want of memory
+abbrev pub IsFaultOfFile : RunFault → Type 0
+IsFaultOfFile fault.ReadFailed = Unit {0}
+IsFaultOfFile fault.TooLong = Unit {0}
+IsFaultOfFile fault.OutOfMemory = Unit {0}
+IsFaultOfFile _ = ⊥
+
+-- why some files give no texts: one of them, by its position, can't be read or is too long, or no memory was found
+abbrev pub IsFileFault : ℕ → FileFault → Type 0
+IsFileFault count e = (e.file < count) × IsFaultOfFile e.fault

@@ -17,6 +17,13 @@ abbrev pub exit_status : RunFault → ℕ
 exit_status run_fault.OutOfMemory = 3
 exit_status e = 2
 
+-- the exit status of a run that ended so, where `closed` says whether nobody reads what it prints any more: then a write that fails is no fault, and
+-- the status is the one that a shell gives of a program which the system ends for that
+abbrev pub end_status : Bool → Result ℕ RunFault → ℕ
+end_status closed (Ok status) = status
+end_status true (Err run_fault.WriteFailed) = 141
+end_status closed (Err e) = exit_status e
+
 -- the exit status of what was answered: 3 where something found no memory, else 1 where something was refused, and 0 where all was done
 abbrev pub status_of : Bool → Bool → ℕ
 status_of refused lost = if lost then 3 else (if refused then 1 else 0)

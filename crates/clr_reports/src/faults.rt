@@ -39,6 +39,13 @@ pub enum RunFault {
     OutOfMemory,
 }
 
+/// Why files give no texts: the position of the first file that has the fault, and the fault.
+#[derive(Clone, Copy, Debug, PartialEq, Eq)]
+pub struct FileFault {
+    pub file: usize,
+    pub fault: RunFault,
+}
+
 impl RunFault {
     /// Returns the exit status of a program that ends with this fault: 3 for `OutOfMemory`, and
     /// otherwise 2.

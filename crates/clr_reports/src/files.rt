@@ -1,10 +1,11 @@
 //! The bytes of files.
 
-ghost use Rattle.std.specs.Prelude.{◌≡◌, ◌≤◌, [], All, length, slice_get, IfOk};
+ghost use Rattle.std.specs.Prelude.{◌≡◌, ◌≤◌, [], All, length, slice_get, IfErr, IfOk};
 ghost use Rattle.std.specs.Option.{option_map_or};
+ghost use Rattle.clr_reports.specs.Input.{IsFaultOfFile, IsFileFault};
 ghost use Rattle.clr_reports.specs.declared.reading.TheConstants.{MOST_INPUT_BYTES};
 
-use crate::faults::RunFault;
+use crate::faults::{FileFault, RunFault};
 use crate::reading::read_input;
 use clr_devices::Port;
 use clr_rows::Words;
@@ -13,7 +14,8 @@ use std::io::ErrorKind;
 
 /// Returns the bytes of a file.
 fn read_file(rt: &HostRuntime, name: &str) -> Result<Vec<u8>, RunFault>
-    ensures { IfOk result (λ text. length text.items ≤ MOST_INPUT_BYTES) }
+    ensures within { IfOk result (λ text. length text.items ≤ MOST_INPUT_BYTES) }
+    ensures fault { IfErr result IsFaultOfFile }
 {
     match File::open(rt, name) {
         Ok(file) => read_input(rt.alloc(), &mut Port::new(file)),
@@ -24,24 +26,32 @@ fn read_file(rt: &HostRuntime, name: &str) -> Result<Vec<u8>, RunFault>
 
 /// Returns the bytes of files, in their order. Fails with `ReadFailed` where a file can't be opened or
 /// read, with `TooLong` where one has more than `MOST_INPUT_BYTES`, and with `OutOfMemory` for want of
-/// memory. A file that can't be read is told before one that is too long.
-pub fn read_files(rt: &HostRuntime, files: &[Words]) -> Result<Vec<Vec<u8>>, RunFault>
+/// memory, and tells which file that is, by its position. A file that can't be read is told before one that is too long.
+pub fn read_files(rt: &HostRuntime, files: &[Words]) -> Result<Vec<Vec<u8>>, FileFault>
     ensures each { IfOk result (λ texts. length texts.items ≡ length files.now) }
     ensures within { IfOk result (λ texts. All (λ text. length text.items ≤ MOST_INPUT_BYTES) texts.items) }
+    ensures fault { IfErr result (IsFileFault (length files.now)) }
 {
     let mut texts = Vec::new(rt.alloc());
-    let mut is_too_long = false;
-    for name in files {
-        match read_file(rt, name.as_str()) {
-            Ok(text) => texts.push(text)?,
-            Err(RunFault::TooLong) => is_too_long = true,
-            Err(fault) => return Err(fault),
+    let mut too_long = None;
+    for (file, name) in files.iter().enumerate() {
+        let read = match read_file(rt, name.as_str()) {
+            Ok(text) => texts.push(text).map_err(RunFault::from),
+            Err(fault) => Err(fault),
+        };
+        match read {
+            Ok(()) => {}
+            Err(RunFault::TooLong) => too_long = too_long.or(Some(file)),
+            Err(fault) => return Err(FileFault { file, fault }),
         }
     }
-    if is_too_long {
-        return Err(RunFault::TooLong);
+    match too_long {
+        Some(file) => Err(FileFault {
+            file,
+            fault: RunFault::TooLong,
+        }),
+        None => Ok(texts),
     }
-    Ok(texts)
 }
 
 /// Returns the bytes of the file at a position, no bytes where there is none.
@@ -51,5 +61,15 @@ pub fn text_at(texts: &[Vec<u8>], at: usize) -> &[u8]
     match texts.get(at) {
         Some(text) => text.as_slice(),
         None => &[],
+    }
+}
+
+/// Returns the name of the file at a position, no text where there is none.
+pub fn file_name(files: &[Words], at: usize) -> &str
+    ensures { result.now ≡ option_map_or (λ name. name) (slice_get files.now at) [] }
+{
+    match files.get(at) {
+        Some(name) => name.as_str(),
+        None => "",
     }
 }

@@ -18,9 +18,11 @@
 //! What programs share of the command line and of standard error:
 //!
 //! - `words`, `has_words`: the words of the command line; no contract says what they are. `texts_of_words`:
-//!   exactly these as texts. `read_files` [`each`, `within`]: one text for each file, none too long;
-//!   `text_at`: that at a position.
-//! - `print_fault`, `print_parser_message` [`either`, `bad`]: the exit status. What is printed, and what a file holds, no contract says.
+//!   exactly these as texts. `read_files` [`each`, `within`, `fault`]: one text for each file, none too long, or which file has a fault;
+//!   `text_at`: that at a position, and `file_name` its name.
+//! - `end_run`, `print_fault`, `print_parser_message` [`either`, `bad`]: the exit status. `input_remark`: exactly the line that names an
+//!   input behind its fault, and the limit where it is too long (`inputs_have_a_limit`). What is printed, and what a file holds, no contract
+//!   says.
 //!
 //! The crate also tells, pair by pair, which members of a root are independent: those of which no possible need
 //! involves both.
@@ -48,8 +50,8 @@ mod reports;
 mod workspaces;
 
 pub use arguments::{has_words, texts_of_words, words};
-pub use faults::RunFault;
-pub use files::{read_files, text_at};
+pub use faults::{FileFault, RunFault};
+pub use files::{file_name, read_files, text_at};
 pub use independences::independence_output;
 pub use independent_members::{Independence, independence_of};
 pub use lines_of_pairs::independence_lines;
@@ -57,8 +59,10 @@ pub use member_pairs::Pair;
 pub use name_texts::texts_of_names;
 pub use offices::{draft_of, open_office, unheld_output};
 pub use outputs::Output;
-pub use reading::{MOST_INPUT_BYTES, read_input};
-pub use refusals::{BAD_WORDS, print_fault, print_parser_message};
+pub use reading::{MOST_INPUT_BYTES, inputs_have_a_limit, read_input};
+pub use refusals::{
+    BAD_WORDS, end_run, input_remark, print_fault, print_input_remark, print_parser_message,
+};
 pub use replies::reply_output;
 pub use reports::{
     audit_output, changes_output, conflicts_output, dump_output, dump_text, rows_output,

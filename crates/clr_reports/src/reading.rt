@@ -10,6 +10,11 @@ use std::alloc::{AllocError, Global};
 /// The most bytes of an input.
 pub const MOST_INPUT_BYTES: usize = 67_108_864;
 
+/// An input has at most 67,108,864 bytes.
+pub fn inputs_have_a_limit()
+    ensures { MOST_INPUT_BYTES ≡ 67108864 }
+{}
+
 /// How many bytes one read asks for.
 const PIECE: usize = 65_536;
 

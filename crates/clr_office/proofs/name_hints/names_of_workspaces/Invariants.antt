@@ -1,6 +1,6 @@
 use Rattle.std.proofs.Common.{◌≡◌, map, take}
-use Rattle.clr_prints.specs.NameHints.{workspace_names}
-use Rattle.clr_prints.proofs.name_hints.names_of_workspaces.Given as goal
+use Rattle.clr_office.specs.NameHints.{workspace_names}
+use Rattle.clr_office.proofs.name_hints.names_of_workspaces.Given as goal
 
 -- the names so far
 abbrev pub invariant-loop-at : goal.invariant-loop-at

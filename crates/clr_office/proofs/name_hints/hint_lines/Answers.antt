@@ -1,8 +1,8 @@
 use Rattle.std.proofs.Common.{◌∙◌, ◌++◌, ◌∷◌, [], ap, subst, sym, take}
 use Rattle.std.proofs.lemmas.List.{take_more}
-use Rattle.clr_prints.specs.NameHints.{AreNameHints}
-use Rattle.clr_prints.proofs.HintLemmas.{more_hints}
-use Rattle.clr_prints.proofs.name_hints.hint_lines.Goals as goal
+use Rattle.clr_office.specs.NameHints.{AreNameHints}
+use Rattle.clr_office.proofs.HintLemmas.{more_hints}
+use Rattle.clr_office.proofs.name_hints.hint_lines.Goals as goal
 
 pub loop-name-init : goal.loop-name-init
 loop-name-init c =

@@ -1,9 +1,9 @@
 use Rattle.std.proofs.Common.{◌≡◌, ◌∙◌, ◌<◌, ◌∷◌, [], ap, arith, length, map, option_map, suc, sym}
 use Rattle.std.proofs.lemmas.List.{length-map, map-append}
-use Rattle.clr_prints.specs.NameHints.{workspace_names}
-use Rattle.clr_prints.proofs.HintLemmas.{more_names, name_read, there_is_one}
-use Rattle.clr_prints.proofs.name_hints.names_of_workspaces.Goals.{in-Some+in_ok-push, in_default}
-use Rattle.clr_prints.proofs.name_hints.names_of_workspaces.Goals as goal
+use Rattle.clr_office.specs.NameHints.{workspace_names}
+use Rattle.clr_office.proofs.HintLemmas.{more_names, name_read, there_is_one}
+use Rattle.clr_office.proofs.name_hints.names_of_workspaces.Goals.{in-Some+in_ok-push, in_default}
+use Rattle.clr_office.proofs.name_hints.names_of_workspaces.Goals as goal
 
 pub loop-at-preserved : goal.loop-at-preserved
 loop-at-preserved c =

@@ -8,7 +8,7 @@ use Rattle.clr_workspaces.specs.Marks.{Name}
 use Rattle.clr_workspaces.specs.Workspaces.{Workspace}
 use Rattle.clr_steps.specs.Offices.{Office}
 use Rattle.clr_steps.specs.Readings.{name_at}
-use Rattle.clr_prints.specs.NameHints.{AddsHint, AreNameHints, workspace_names}
+use Rattle.clr_office.specs.NameHints.{AddsHint, AreNameHints, workspace_names}
 
 -- what is said at one more name
 pub more_hints : (o : Office) (names : List Name) (name : Name) (old new : List ℕ) → AreNameHints o names old → AddsHint o name old new

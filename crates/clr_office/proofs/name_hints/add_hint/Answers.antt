@@ -1,6 +1,6 @@
 use Rattle.std.proofs.Common.{[], None, append-nil, option_map, refl, subst, sym}
-use Rattle.clr_prints.specs.NameHints.{IsMeant}
-use Rattle.clr_prints.proofs.name_hints.add_hint.Goals as goal
+use Rattle.clr_office.specs.NameHints.{IsMeant}
+use Rattle.clr_office.proofs.name_hints.add_hint.Goals as goal
 
 pub returns-in_default : goal.returns-in_default
 returns-in_default c =

@@ -1,6 +1,6 @@
 use Rattle.std.proofs.Common.{◌∷◌, take}
-use Rattle.clr_prints.specs.NameHints.{AreNameHints}
-use Rattle.clr_prints.proofs.name_hints.hint_lines.Given as goal
+use Rattle.clr_office.specs.NameHints.{AreNameHints}
+use Rattle.clr_office.proofs.name_hints.hint_lines.Given as goal
 
 -- what is said at the root and at the names so far
 abbrev pub invariant-loop-name : goal.invariant-loop-name
