@@ -1,3 +1,4 @@
+pub mod LineEndLemmas
 pub mod NameLemmas
 pub mod PathLemmas
 pub mod PlaceLemmas

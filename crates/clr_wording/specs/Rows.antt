@@ -1,5 +1,5 @@
 -- A row in words.
-use Rattle.std.specs.Prelude.{ℕ, List, [], ◌∷◌, ◌++◌, ◌==◌, codes, length, Option, Some, None, slice_get, if◌then◌else◌}
+use Rattle.std.specs.Prelude.{ℕ, List, [], ◌∷◌, ◌++◌, ◌==◌, codes, length, map, Option, Some, None, slice_get, if◌then◌else◌}
 use Rattle.std.specs.Fmt.{decimal, signed_decimal}
 use Rattle.std.specs.List.{flat_map, zip}
 use Rattle.clr_rows.specs.declared.cells.CellId.{CellId}
@@ -13,10 +13,14 @@ use Rattle.clr_rows.specs.declared.tables.Kind.{Kind}
 use Rattle.clr_rows.specs.declared.tables.TableDef.{TableDef}
 use Rattle.clr_wording.specs.Places.{place_text}
 
--- a number, or a text in quotes
+-- a byte on one line: a space (32) stands in place of a line end (10)
+abbrev pub byte_on_one_line : ℕ → ℕ
+byte_on_one_line b = if b == 10 then 32 else b
+
+-- a number, or a text on one line in quotes
 abbrev pub value_text : Value → List ℕ
 value_text (Int number) = signed_decimal number
-value_text (Words words) = codes "'" ++ words ++ codes "'"
+value_text (Words words) = codes "'" ++ map byte_on_one_line words ++ codes "'"
 
 -- a value behind the name of its column, and a comma
 abbrev pub column_text : (List ℕ × Kind) × Value → List ℕ

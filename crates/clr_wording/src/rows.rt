@@ -1,22 +1,37 @@
 //! A row in words.
 
-ghost use Rattle.std.specs.Prelude.{◌≡◌, ◌++◌, IfOk, OnOk, Some, string_bytes};
+ghost use Rattle.std.specs.Prelude.{◌≡◌, ◌++◌, IfOk, OnOk, Some, map, string_bytes};
 ghost use Rattle.clr_wording.specs.Places.{place_text};
-ghost use Rattle.clr_wording.specs.Rows.{count_text, path_text, row_words, shape_text, value_text, values_text};
+ghost use Rattle.clr_wording.specs.Rows.{byte_on_one_line, count_text, path_text, row_words, shape_text, value_text, values_text};
 
 use crate::measures::At;
 use clr_rows::{CellId, Place, Row, Schema, Shape, TableDef, Value};
 use std::alloc::{AllocError, Global};
 
-/// Adds a value as it stands in a sentence: a number, or a text in quotes.
+/// Adds a text on one line, with a space in place of each line end.
+fn add_on_one_line(text: &mut String, words: &str) -> Result<(), AllocError>
+    ensures { OnOk result (string_bytes text.new ≡ string_bytes text.old ++ map byte_on_one_line words.now) }
+{
+    let mut rest = words;
+    while let Some((line, behind)) = rest.split_once('\n') {
+        text.push_str(line)?;
+        text.push(' ')?;
+        rest = behind;
+    }
+    text.push_str(rest)?;
+    Ok(())
+}
+
+/// Adds a value as it stands in a sentence: a number, or a text on one line in quotes.
 pub(crate) fn add_value(text: &mut String, value: &Value) -> Result<(), AllocError>
     ensures { OnOk result (string_bytes text.new ≡ string_bytes text.old ++ value_text value.now) }
 {
     match value {
         Value::Int(number) => write!(text, "{number}"),
         Value::Words(words) => {
-            let words = words.as_str();
-            write!(text, "'{words}'")
+            text.push_str("'")?;
+            add_on_one_line(text, words.as_str())?;
+            text.push_str("'")
         }
     }
 }
