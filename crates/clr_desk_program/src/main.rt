@@ -4,7 +4,7 @@
 //! It is safe; what it does with words, files, streams and statuses no contract says.
 #![tactic(auto)]
 
-use clr_desk::{Ask, AskFault, GeographicAsk, GivenLayer, answer, ask_of, fault_place};
+use clr_desk::{Ask, AskFault, answer, ask_of, fault_place, take_layers};
 use clr_office::{Port, RunFault, Sink, Words};
 use clr_reports::{
     BAD_WORDS, print_fault, print_parser_message, read_files, text_at, texts_of_words, words,
@@ -13,7 +13,7 @@ use std::io::ErrorKind;
 use std::process::ExitCode;
 
 /// Prints a fault's line on standard error, and behind it where the fault is, if a text has it; and gives
-/// its exit status.
+/// its exit status. Where no memory is found for the place, that is what is printed.
 fn refuse_texts(
     rt: &HostRuntime,
     fault: RunFault,
@@ -21,46 +21,18 @@ fn refuse_texts(
     office: &[u8],
     second: &[u8],
 ) -> u8 {
+    let Ok(place) = fault_place(rt.alloc(), fault, files, office, second) else {
+        return print_fault(rt, RunFault::OutOfMemory);
+    };
     let status = print_fault(rt, fault);
-    if let Ok(place) = fault_place(rt.alloc(), fault, files, office, second) {
-        let _ = Port::new(rt.stderr()).put(place.as_slice());
-    }
+    let _ = Port::new(rt.stderr()).put(place.as_slice());
     status
-}
-
-/// Returns the tables of the layers that are asked for, in the order of their files.
-fn tables_of(ask: &Ask) -> &[Words] {
-    match ask {
-        Ask::Geographic(GeographicAsk::Office(tables, _)) => tables.as_slice(),
-        Ask::Geographic(GeographicAsk::Design(design) | GeographicAsk::DesignScript(design)) => {
-            design.tables.as_slice()
-        }
-        _ => &[],
-    }
-}
-
-/// Returns the layers that are asked for, each with its table: their texts stand behind that of the office,
-/// which stays.
-fn take_layers(
-    rt: &HostRuntime,
-    ask: &Ask,
-    texts: &mut Vec<Vec<u8>>,
-) -> Result<Vec<GivenLayer>, RunFault> {
-    let mut layers = Vec::new(rt.alloc());
-    for table in tables_of(ask).iter().rev() {
-        if let Some(text) = texts.pop() {
-            let table = table.copy()?;
-            layers.push(GivenLayer { table, text })?;
-        }
-    }
-    layers.reverse();
-    Ok(layers)
 }
 
 /// Answers what the words ask of files, and gives the exit status.
 fn answer_files(rt: &HostRuntime, ask: &Ask, files: &[Words]) -> Result<u8, RunFault> {
     let mut texts = read_files(rt, files)?;
-    let layers = take_layers(rt, ask, &mut texts)?;
+    let layers = take_layers(rt.alloc(), ask, &mut texts)?;
     let (office, second) = (text_at(&texts, 0), text_at(&texts, 1));
     let (mut writer, mut notes) = (Port::new(rt.stdout()), Port::new(rt.stderr()));
     let layers = layers.as_slice();

@@ -1,6 +1,8 @@
+pub mod ChildLemmas
 pub mod Codes
 pub mod HintLemmas
 pub mod LayerLemmas
 pub mod Made
+pub mod OneHint
 pub mod PrintLemmas
 pub mod ScriptLemmas
