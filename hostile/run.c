@@ -20,7 +20,7 @@
  *     - of words: the session's lines with its status; or with status 3 the line by which a plan or a verdict finds no memory;
  *       or, of a merge, the same as of a script, names being its steps;
  *     - of words of clr_desk, which a session's file `program` names: text, notes and status of the session; or with status 3 no text,
- *       and no notes or such as have a line that says so; or, where the session is refused with status 2, its first note without what stands behind it, which is
+ *       and notes that have a line which says so; or, where the session is refused with status 2, its first note without what stands behind it, which is
  *       where the fault is or what a misspelt name may have meant.
  *
  * Without a refusal the program has to print what the session says. In the ways `once` and `again` some step of each script has to
@@ -466,7 +466,7 @@ static bool is_lost_answer(const struct session *session, const struct end *end)
     return is_line && end->status == 3 && end->err.length == 0;
 }
 
-/* Whether clr_desk finds no memory: it prints no text, and one of its notes, if it has any, says that something was lost; or it leaves
+/* Whether clr_desk finds no memory: it prints no text, and one of its notes says that something was lost; or it leaves
  * out what stands behind the line of a fault. */
 static bool is_lost_text(const struct session *session, const struct end *end) {
     if (end->out.length != 0) {
@@ -474,7 +474,7 @@ static bool is_lost_text(const struct session *session, const struct end *end) {
     }
     if (end->status == 3) {
         const char *lost = memmem(end->err.start, end->err.length, NO_VERDICT, strlen(NO_VERDICT));
-        return end->err.length == 0 || lost != NULL;
+        return lost != NULL;
     }
     return end->status == 2 && session->status == 2 && same(end->err, line_of(session->error));
 }

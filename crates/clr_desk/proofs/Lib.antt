@@ -1,4 +1,8 @@
-mod ChildLemmas
 mod LineEnds
+mod LinedTexts
+mod OneAnswer
+mod OneChoice
+mod OneDeskAnswer
+mod OnePrint
 mod Positions
 mod Trying

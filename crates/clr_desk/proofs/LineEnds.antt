@@ -1,18 +1,54 @@
--- A text with one more byte, without its line ends.
-use Rattle.std.proofs.Common.{◌≡◌, ◌∙◌, ◌<◌, ◌+◌, ◌==◌, ℕ, not, List, [], ◌∷◌, ◌++◌, ap, append-nil, get_or, length, sym, take}
+-- A JSON text in lines, byte by byte.
+use Rattle.std.proofs.Common.{◌≡◌, ◌∙◌, ◌<◌, ◌+◌, ℕ, List, [], ◌∷◌, ◌++◌, ap, append_assoc, get_or, length, refl, sym, take}
 use Rattle.std.proofs.lemmas.List.{take_more}
-use Rattle.std.proofs.lemmas.List.Elements.{filter-append}
-use Rattle.clr_desk.specs.Formats.{without_line_ends}
+use Rattle.clr_desk.specs.declared.line_ends.Place.{Place}
+use Rattle.clr_desk.specs.declared.line_ends.Place.TheVariants.{Between}
+use Rattle.clr_desk.specs.LineEnds.{behind, ends_line, line_end_if, lined_from}
 
-pub one_byte : (xs : List ℕ) (b : ℕ) → without_line_ends (xs ++ b ∷ []) ≡ without_line_ends xs ++ without_line_ends (b ∷ [])
-one_byte xs b = filter-append (λ (byte : ℕ). not (byte == 10)) xs (b ∷ [])
+-- the place behind bytes
+abbrev pub place_of : Place → List ℕ → Place
+place_of place [] = place
+place_of place (byte ∷ bytes) = place_of (behind place byte) bytes
 
-pub one_behind_an_end : (xs : List ℕ) (b : ℕ) → without_line_ends ((xs ++ 10 ∷ []) ++ b ∷ []) ≡ without_line_ends xs ++ without_line_ends (b ∷ [])
-one_behind_an_end xs b = one_byte (xs ++ 10 ∷ []) b ∙ ap (λ l. l ++ without_line_ends (b ∷ [])) (one_byte xs 10 ∙ append-nil (without_line_ends xs))
+-- the last of bytes behind one
+abbrev pub last_of : ℕ → List ℕ → ℕ
+last_of before [] = before
+last_of before (byte ∷ bytes) = last_of byte bytes
 
-pub one_more_byte : (text lines more : List ℕ) (i : ℕ) → i < length text → without_line_ends lines ≡ without_line_ends (take i text)
-    → without_line_ends more ≡ without_line_ends lines ++ without_line_ends (get_or text i 0 ∷ [])
-    → without_line_ends more ≡ without_line_ends (take (i + 1) text)
-one_more_byte text lines more i less so_far added =
-    added ∙ ap (λ l. l ++ without_line_ends (get_or text i 0 ∷ [])) so_far ∙ sym
-    (ap without_line_ends (take_more text i 0 less) ∙ one_byte (take i text) (get_or text i 0))
+pub place-append : (p : Place) (xs ys : List ℕ) → place_of p (xs ++ ys) ≡ place_of (place_of p xs) ys
+place-append p [] ys = refl
+place-append p (x ∷ xs) ys = place-append (behind p x) xs ys
+
+pub last-append : (b : ℕ) (xs ys : List ℕ) → last_of b (xs ++ ys) ≡ last_of (last_of b xs) ys
+last-append b [] ys = refl
+last-append b (x ∷ xs) ys = last-append x xs ys
+
+pub lined-append : (p : Place) (b : ℕ) (xs ys : List ℕ) → lined_from p b (xs ++ ys) ≡ lined_from p b xs ++ lined_from (place_of p xs) (last_of b xs) ys
+lined-append p b [] ys = refl
+lined-append p b (x ∷ xs) ys =
+    ap (λ l. line_end_if (ends_line p b x) ++ x ∷ l) (lined-append (behind p x) x xs ys)
+    ∙ sym (append_assoc (line_end_if (ends_line p b x)) (x ∷ lined_from (behind p x) x xs) (lined_from (place_of (behind p x) xs) (last_of x xs) ys))
+
+-- one more byte of a text
+module _ (text : List ℕ) (at : ℕ) (less : at < length text) where
+  abbrev front : List ℕ
+  front = take at text
+
+  abbrev here : ℕ
+  here = get_or text at 0
+
+  next : take (at + 1) text ≡ front ++ here ∷ []
+  next = take_more text at 0 less
+
+  pub more_lines : (old new : List ℕ) (p : Place) (b : ℕ) → old ≡ lined_from Between 10 front → p ≡ place_of Between front → b ≡ last_of 10 front
+      → new ≡ old ++ line_end_if (ends_line p b here) ++ here ∷ [] → new ≡ lined_from Between 10 (take (at + 1) text)
+  more_lines old new p b lines place last added =
+      added ∙ append_assoc old (line_end_if (ends_line p b here)) (here ∷ [])
+      ∙ (λ i. lines i ++ (line_end_if (ends_line (place i) (last i) here) ++ here ∷ []))
+      ∙ sym (ap (lined_from Between 10) next ∙ lined-append Between 10 front (here ∷ []))
+
+  pub more_place : (old new : Place) → old ≡ place_of Between front → new ≡ behind old here → new ≡ place_of Between (take (at + 1) text)
+  more_place old new place is = is ∙ ap (λ p. behind p here) place ∙ sym (ap (place_of Between) next ∙ place-append Between front (here ∷ []))
+
+  pub more_last : here ≡ last_of 10 (take (at + 1) text)
+  more_last = sym (ap (last_of 10) next ∙ last-append 10 front (here ∷ []))

@@ -14,9 +14,11 @@ use Rattle.clr_plan.specs.declared.plans.Plan.{Plan}
 use Rattle.clr_plan.specs.declared.plans.Plan.TheVariants as plan
 use Rattle.clr_plan.specs.Promises.{is_out_of_memory}
 use Rattle.clr_office.specs.Outcomes.{IsPlanned}
+use Rattle.clr_cert.specs.declared.certificates.Certificate.{Certificate}
 use Rattle.clr_cert.specs.Texts.{certificate_text}
-use Rattle.clr_desk.specs.Choices.{AreTrials, IsChoicePrint, IsTrialAt, Trial, is_taken, left_text, members_or_children, members_tried, names_line, of_trials}
+use Rattle.clr_desk.specs.Choices.{AreTrials, IsChoicePrint, IsTrialAt, Trial, is_taken, left_text, members_tried, names_line, of_trials}
 use Rattle.clr_desk.specs.Choices.{refusal_text, taken_in}
+use Rattle.clr_prints.specs.Members.{members_or_children}
 use Rattle.clr_prints.specs.Printing.{printed, printout_of}
 use Rattle.clr_prints.specs.declared.prints.Print.{Print}
 use Rattle.clr_desk.specs.Trials.{IsAdded, IsChosen, IsTried}
@@ -146,13 +148,14 @@ pub all_tried : (o : Office) (root : Name) (names : List Name) (at : ℕ) (choic
 all_tried o root names at choice past h = subst (λ ns. IsChosen o root ns choice) (take_all at names past) h
 
 -- what is printed of a choice among the members that names ask for
-pub choice_printed : {E : Type 0} (o : Office) (root : Name) (names : List Name) (choice : Choice) (result : Result Print E)
+pub choice_printed : {E : Type 0} (o : Office) (root : Name) (names : List Name) (nobody : Certificate) (choice : Choice) (result : Result Print E)
+    → IsPlanned o (merge_set root []) (plan.Cleared nobody)
     → IsChosen o root (members_or_children o root names) choice
     → IfOk result (λ p. printed p ≡ printout_of (certificate_text o.schema choice.certificate)
     (names_line (codes "kept") choice.taken.items ++ choice.left.items) choice.is_any_left false)
     → IfOk result (λ p. IsChoicePrint root names o (printed p))
-choice_printed o root names choice (Ok p) (trials, are, made) is =
-    of_trials trials choice.certificate are (subst (λ (ms : List Name). IsPlanned o (merge_set root ms) (plan.Cleared choice.certificate)) made.taken
+choice_printed o root names nobody choice (Ok p) none (trials, are, made) is =
+    of_trials nobody trials choice.certificate none are (subst (λ (ms : List Name). IsPlanned o (merge_set root ms) (plan.Cleared choice.certificate)) made.taken
     made.planned)
     (rw (is, made.taken, made.left, made.any_left))
-choice_printed o root names choice (Err e) chosen is = tt
+choice_printed o root names nobody choice (Err e) none chosen is = tt

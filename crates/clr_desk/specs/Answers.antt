@@ -2,7 +2,6 @@
 use Rattle.std.specs.Prelude.{◌≡◌, ◌∷◌, ◌||◌, ◌⊎◌, ℕ, Bool, true, false, List, Option, Result, Ok, Err}
 use Rattle.std.specs.List.{list_any}
 use Rattle.std.specs.Io.KnownBytes.{Appends}
-use Rattle.clr_merge_sets.specs.MergeSetNames.{merge_set}
 use Rattle.clr_check.specs.Cases.{case_of}
 use Rattle.clr_drafts.specs.Drafts.{draft_in}
 use Rattle.clr_layer_changes.specs.declared.options.GivenLayer.{GivenLayer}
@@ -12,6 +11,7 @@ use Rattle.clr_reports.specs.declared.faults.RunFault.TheVariants as run_fault
 use Rattle.clr_desk_command_line.specs.declared.asks.Ask.{Ask}
 use Rattle.clr_desk_command_line.specs.declared.asks.Ask.TheVariants as ask
 use Rattle.clr_desk.specs.Certificates.{IsCertificatePrint}
+use Rattle.clr_desk.specs.Checks.{IsCheckPrint}
 use Rattle.clr_desk.specs.Choices.{IsChoicePrint}
 use Rattle.clr_desk.specs.Clashes.{IsClashesPrint}
 use Rattle.clr_desk.specs.Formats.{IsFormatPrint}
@@ -27,7 +27,8 @@ use Rattle.clr_prints.specs.Reports.{IsReportPrint}
 -- what is to be printed for what is asked of an office text, a second text and layers
 abbrev pub IsDeskAnswerWithin : Ask → List ℕ → List ℕ → List GivenLayer → PrintoutOrFault → Type 0
 IsDeskAnswerWithin (ask.Certificate root names) office second layers print =
-    IsPrintoutIn (IsHinted (IsCertificatePrint (merge_set root names)) (root ∷ names)) (draft_in office) print
+    IsPrintoutIn (IsHinted (IsCertificatePrint root names) (root ∷ names)) (draft_in office) print
+IsDeskAnswerWithin ask.Check office certificate layers print = IsPrintoutOfCase IsCheckPrint (case_of office certificate) print
 IsDeskAnswerWithin (ask.Merge names) office certificate layers print = IsPrintoutOfCase (IsHintedMerge names) (case_of office certificate) print
 IsDeskAnswerWithin ask.Format office second layers print = IsPrintoutIn IsFormatPrint (draft_in office) print
 IsDeskAnswerWithin (ask.Keep root names) office second layers print = IsPrintoutIn (IsHinted (IsChoicePrint root names) (root ∷ names)) (draft_in office) print
@@ -35,11 +36,11 @@ IsDeskAnswerWithin (ask.Clashes root names) office second layers print =
     IsPrintoutIn (IsHinted (IsClashesPrint root names) (root ∷ names)) (draft_in office) print
 IsDeskAnswerWithin (ask.Why kind) office second layers print = IsWhyPrint kind office second print
 IsDeskAnswerWithin (ask.Map root names) office second layers print =
-    IsPrintoutIn (IsHinted (IsMapPrint (merge_set root names)) (root ∷ names)) (draft_in office) print
+    IsPrintoutIn (IsHinted (IsMapPrint root names) (root ∷ names)) (draft_in office) print
 IsDeskAnswerWithin (ask.Report root names) office second layers print =
-    IsPrintoutIn (IsHinted (IsReportPrint (merge_set root names)) (root ∷ names)) (draft_in office) print
+    IsPrintoutIn (IsHinted (IsReportPrint root names) (root ∷ names)) (draft_in office) print
 IsDeskAnswerWithin (ask.WorkOrder root names) office second layers print =
-    IsPrintoutIn (IsHinted (IsOrderPrint (merge_set root names)) (root ∷ names)) (draft_in office) print
+    IsPrintoutIn (IsHinted (IsOrderPrint root names) (root ∷ names)) (draft_in office) print
 IsDeskAnswerWithin (ask.Geographic asked) office second layers print = IsGeographicAnswer asked office layers print
 
 -- what is answered, where it is given whether a text is too long

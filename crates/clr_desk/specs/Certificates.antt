@@ -1,6 +1,7 @@
 -- What is printed of a plan: the certificate alone, or why there is none.
-use Rattle.std.specs.Prelude.{◌≡◌, true, false, []}
+use Rattle.std.specs.Prelude.{◌≡◌, true, false, List, []}
 use Rattle.clr_cert.specs.Texts.{certificate_text}
+use Rattle.clr_workspaces.specs.Marks.{Name}
 use Rattle.clr_steps.specs.Offices.{Office}
 use Rattle.clr_steps.specs.Quiet.{MergeSet}
 use Rattle.clr_plan.specs.declared.plans.Plan.{Plan}
@@ -8,6 +9,7 @@ use Rattle.clr_plan.specs.declared.plans.Plan.TheVariants as plan
 use Rattle.clr_plan.specs.Promises.{is_out_of_memory}
 use Rattle.clr_plan.specs.PlanLines.{plan_text}
 use Rattle.clr_office.specs.Outcomes.{IsPlanned}
+use Rattle.clr_prints.specs.Members.{set_asked}
 use Rattle.clr_prints.specs.Printing.{PrintoutOrFault, printout_of}
 
 -- the certificate of a cleared plan; of any other its lines, as notes, which counts as a refusal
@@ -15,5 +17,10 @@ abbrev pub plan_print : Office → MergeSet → Plan → PrintoutOrFault
 plan_print o s (plan.Cleared c) = printout_of (certificate_text o.schema c) [] false false
 plan_print o s p = printout_of [] (plan_text o.schema s.members s.root p) true (is_out_of_memory p)
 
-abbrev pub IsCertificatePrint : MergeSet → Office → PrintoutOrFault → Type 0
-IsCertificatePrint s o print = (p : Plan) × IsPlanned o s p × (print ≡ plan_print o s p)
+-- of a plan of a merge set
+abbrev pub IsPlanPrint : Office → MergeSet → PrintoutOrFault → Type 0
+IsPlanPrint o s print = (p : Plan) × IsPlanned o s p × (print ≡ plan_print o s p)
+
+-- of the members that names ask for
+abbrev pub IsCertificatePrint : Name → List Name → Office → PrintoutOrFault → Type 0
+IsCertificatePrint root names o = IsPlanPrint o (set_asked o root names)

@@ -1,11 +1,10 @@
 -- Members that are taken one after another, each where it is cleared with those taken before it.
-use Rattle.std.specs.Prelude.{◌≡◌, ℕ, Bool, false, not, List, [], ◌∷◌, ◌++◌, Option, None, Some, if◌then◌else◌, codes, filter, length, map, slice_get, take}
+use Rattle.std.specs.Prelude.{◌≡◌, ℕ, Bool, false, not, List, [], ◌∷◌, ◌++◌, Some, if◌then◌else◌, codes, filter, length, map, slice_get, take}
 use Rattle.std.specs.Fmt.{decimal}
 use Rattle.std.specs.List.{flat_map, list_any}
 use Rattle.clr_rows.specs.declared.tables.TableDef.{TableDef}
 use Rattle.clr_workspaces.specs.Marks.{Name}
 use Rattle.clr_steps.specs.Offices.{Office}
-use Rattle.clr_clearance.specs.MergeSets.{is_child}
 use Rattle.clr_cert.specs.declared.certificates.Certificate.{Certificate}
 use Rattle.clr_cert.specs.Texts.{certificate_text}
 use Rattle.clr_merge_sets.specs.MergeSetNames.{merge_set}
@@ -15,21 +14,8 @@ use Rattle.clr_plan.specs.Promises.{is_cleared, is_out_of_memory}
 use Rattle.clr_plan.specs.PlanLines.{plan_text}
 use Rattle.clr_office.specs.Outcomes.{IsPlanned}
 use Rattle.clr_desk.specs.Certificates.{plan_print}
+use Rattle.clr_prints.specs.Members.{members_or_children}
 use Rattle.clr_prints.specs.Printing.{PrintoutOrFault, printout_of}
-
--- the children of a root, in order of creation
-abbrev pub children_of_root : Office → Name → List Name
-children_of_root o root = filter (is_child o (merge_set root [])) (map (λ w. w.name) o.workspaces)
-
--- a name in a list, where it is that of a child of the root
-abbrev pub child_in : Office → Name → Option Name → List Name
-child_in o root None = []
-child_in o root (Some name) = if is_child o (merge_set root []) name then name ∷ [] else []
-
--- the members that names ask for: these, or all children where there are none
-abbrev pub members_or_children : Office → Name → List Name → List Name
-members_or_children o root [] = children_of_root o root
-members_or_children o root (name ∷ names) = name ∷ names
 
 -- trials -------------------------------------------------------------------------------------
 
@@ -81,9 +67,10 @@ choice_print o root trials c =
     printout_of (certificate_text o.schema c) (names_line (codes "kept") (taken_in trials) ++ flat_map (left_text o root) trials)
     (list_any (λ t. not (is_taken t)) trials) false
 
--- names are tried in their order, and the plan of those taken is cleared by this certificate; or no plan of the root is cleared, not even that of nobody
+-- nobody is cleared, names are tried in their order, and the plan of those taken is cleared by this certificate; or not even nobody is cleared
 pub data IsChoicePrint (root : Name) (names : List Name) (o : Office) (print : PrintoutOrFault) : Type 0 where
-  of_trials : (trials : List Trial) (c : Certificate) → AreTrials o root (members_or_children o root names) trials
+  of_trials : (nobody : Certificate) (trials : List Trial) (c : Certificate) → IsPlanned o (merge_set root []) (plan.Cleared nobody)
+      → AreTrials o root (members_or_children o root names) trials
       → IsPlanned o (merge_set root (taken_in trials)) (plan.Cleared c)
       → print ≡ choice_print o root trials c → IsChoicePrint root names o print
   of_nobody : (p : Plan) → IsPlanned o (merge_set root []) p → is_cleared p ≡ false → print ≡ plan_print o (merge_set root []) p

@@ -8,7 +8,6 @@ use Rattle.clr_steps.specs.Quiet.{MergeSet}
 use Rattle.clr_clearance.specs.declared.verdicts.Verdict.{Verdict}
 use Rattle.clr_clearance.specs.Plans.{members_at}
 use Rattle.clr_clearance.specs.Verdicts.{names_fault}
-use Rattle.clr_merge_sets.specs.MergeSetNames.{merge_set}
 use Rattle.clr_lines.specs.Reports.{count_line}
 use Rattle.clr_lines.specs.Verdicts.{verdict_text}
 use Rattle.clr_plan.specs.declared.plans.Plan.TheVariants as plan
@@ -16,7 +15,8 @@ use Rattle.clr_merge_clashes.specs.MergeClashes.{FindsClashes}
 use Rattle.clr_merge_clashes.specs.declared.clash_sets.MergeClash.{MergeClash}
 use Rattle.clr_merge_clashes.specs.declared.clash_sets.MergeClashes.{MergeClashes}
 use Rattle.clr_desk.specs.Certificates.{plan_print}
-use Rattle.clr_desk.specs.Choices.{members_or_children, names_line}
+use Rattle.clr_desk.specs.Choices.{names_line}
+use Rattle.clr_prints.specs.Members.{set_asked}
 use Rattle.clr_prints.specs.Printing.{PrintoutOrFault, printout_of}
 
 -- the members of a set, and why they can't be merged together
@@ -65,4 +65,4 @@ pub data IsMergeSetPrint (s : MergeSet) (o : Office) (print : PrintoutOrFault) :
 
 -- of the members that names ask for
 abbrev pub IsClashesPrint : Name → List Name → Office → PrintoutOrFault → Type 0
-IsClashesPrint root names o print = IsMergeSetPrint (merge_set root (members_or_children o root names)) o print
+IsClashesPrint root names o print = IsMergeSetPrint (set_asked o root names) o print

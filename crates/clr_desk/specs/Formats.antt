@@ -1,18 +1,20 @@
 -- An office's text in lines.
-use Rattle.std.specs.Prelude.{◌≡◌, ◌==◌, ℕ, not, false, List, [], filter, Ok}
+use Rattle.std.specs.Prelude.{◌≡◌, ℕ, false, List, [], ◌++◌, codes, Ok}
 use Rattle.clr_steps.specs.Offices.{Office}
 use Rattle.clr_drafts.specs.Drafts.{draft_in}
-use Rattle.clr_drafts.specs.Writing.{bytes_of}
+use Rattle.clr_drafts.specs.Writing.{bytes_of, text_of}
+use Rattle.clr_office_json.specs.OfficeData.{office_data}
 use Rattle.clr_prints.specs.Printing.{PrintoutOrFault, printout_of}
+use Rattle.clr_desk.specs.LinedTexts.{lined_text}
 
--- a text without its line ends
-abbrev pub without_line_ends : List ℕ → List ℕ
-without_line_ends text = filter (λ byte. not (byte == 10)) text
+-- the text of an office in lines, the last of which is ended too
+abbrev pub lines_of : Office → List ℕ
+lines_of o = lined_text (office_data (text_of o)) ++ codes "\n"
 
--- the text of the office but for line ends, which is read as the same office
-pub record IsInLines (o : Office) (text : List ℕ) : Type 0 where
-  pub bytes : without_line_ends text ≡ without_line_ends (bytes_of o)
-  pub again : draft_in text ≡ Ok o
+-- the text of an office in lines; or in one line where its lines aren't read as this office. What is printed is read as the same office
+pub data IsInLines (o : Office) (text : List ℕ) : Type 0 where
+  in_lines : text ≡ lines_of o → draft_in text ≡ Ok o → IsInLines o text
+  in_one_line : ¬ (draft_in (lines_of o) ≡ Ok o) → text ≡ bytes_of o → draft_in text ≡ Ok o → IsInLines o text
 
 abbrev pub IsFormatPrint : Office → PrintoutOrFault → Type 0
 IsFormatPrint o print = (text : List ℕ) × IsInLines o text × (print ≡ printout_of text [] false false)

@@ -1,6 +1,5 @@
 -- What is printed in the texts of geographic information systems, and of such texts.
 use Rattle.std.specs.Prelude.{ℕ, Bool, List, [], ◌∷◌}
-use Rattle.clr_merge_sets.specs.MergeSetNames.{merge_set}
 use Rattle.clr_drafts.specs.Drafts.{draft_in}
 use Rattle.clr_desk_command_line.specs.declared.asks.GeographicAsk.{GeographicAsk}
 use Rattle.clr_desk_command_line.specs.declared.asks.GeographicAsk.TheVariants as ask
@@ -18,7 +17,7 @@ options_of first_key rounded = record { first_key = first_key; rounded = rounded
 
 -- what is to be printed for what is asked of an office text and layers
 abbrev pub IsGeographicAnswer : GeographicAsk → List ℕ → List GivenLayer → PrintoutOrFault → Type 0
-IsGeographicAnswer (ask.Features root names system) office layers print = IsFeaturesAnswer (merge_set root names) (root ∷ names) system (draft_in office) print
+IsGeographicAnswer (ask.Features root names system) office layers print = IsFeaturesAnswer root names system (draft_in office) print
 IsGeographicAnswer (ask.Layer table workspace) office layers print =
     IsPrintoutIn (IsHinted (IsLayerPrint table workspace) (workspace ∷ [])) (draft_in office) print
 IsGeographicAnswer (ask.Office tables rounded) office layers print = IsPrintoutIn (IsOfficePrint (options_of 1 rounded) layers) (draft_in office) print

@@ -1,11 +1,16 @@
 pub mod Answers
 pub mod Certificates
+pub mod Checks
 pub mod Choices
 pub mod Clashes
 pub mod FaultPlaces
 pub mod Formats
 pub mod Geographic
+pub mod GivenLayers
+pub mod LineEnds
+pub mod LinedTexts
 pub mod Merges
+pub mod OneAnswer
 pub mod Orders
 pub mod Trials
 pub mod Whys

@@ -8,6 +8,7 @@ ghost use Rattle.clr_desk.specs.Answers.{IsDeskAnswer, IsDeskAnswerTo, IsDeskAns
 ghost use Rattle.clr_prints.specs.Printing.{IsMadePrintout};
 
 use crate::certificates::answer_certificate;
+use crate::checks::answer_check;
 use crate::choices::answer_keep;
 use crate::clashes::answer_clashes;
 use crate::formats::answer_format;
@@ -34,6 +35,7 @@ fn answer_texts(
         Ask::Certificate(root, names) => {
             answer_certificate(alloc, office, root.as_str(), names.as_slice())
         }
+        Ask::Check => answer_check(alloc, office, second),
         Ask::Merge(names) => answer_merge(alloc, office, second, names.as_slice()),
         Ask::Format => answer_format(alloc, office),
         Ask::Keep(root, names) => answer_keep(alloc, office, root.as_str(), names.as_slice()),

@@ -3,7 +3,7 @@ ghost use Rattle.std.specs.Prelude.{◌≡◌, ◌∷◌, false, map, IfOk};
 ghost use Rattle.clr_merge_sets.specs.MergeSetNames.{merge_set};
 ghost use Rattle.clr_drafts.specs.Drafts.{draft_in};
 ghost use Rattle.clr_plan.specs.Promises.{is_cleared as is_cleared_plan};
-ghost use Rattle.clr_desk.specs.Certificates.{IsCertificatePrint, plan_print};
+ghost use Rattle.clr_desk.specs.Certificates.{IsCertificatePrint, IsPlanPrint, plan_print};
 ghost use Rattle.clr_prints.specs.NameHints.{IsHinted};
 ghost use Rattle.clr_prints.specs.Printing.{IsMadePrintout, IsPrintoutIn, printed};
 
@@ -11,7 +11,7 @@ use clr_cert::write_certificate;
 use clr_engine::Office;
 use clr_office::{Plan, RunFault, Words, open_office, texts_of_names};
 use clr_plan::plan_lines;
-use clr_prints::{Print, notes_of, plan_members, with_hints};
+use clr_prints::{Print, members_asked, notes_of, plan_members, with_hints};
 use std::alloc::{AllocError, Global};
 
 /// Returns the lines of a plan that isn't cleared, as notes.
@@ -51,31 +51,44 @@ pub fn plan_print(
 }
 
 /// Returns what is printed of the plan of members.
-fn print_of_members(
+fn print_of_set(
+    alloc: Global,
+    office: &Office,
+    root: &str,
+    members: &[&str],
+) -> Result<Print, AllocError>
+    ensures { IfOk result (λ p. IsPlanPrint office.now (merge_set root.now (map (λ name. name.now) members.now)) (printed p)) }
+{
+    let plan = plan_members(alloc, office, root, members);
+    plan_print(alloc, office, root, members, &plan)
+}
+
+/// Returns what is printed of the plan of the members that names ask for.
+fn print_of_names(
     alloc: Global,
     office: &Office,
     root: &str,
     names: &[Words],
 ) -> Result<Print, AllocError>
-    ensures { IfOk result (λ p. IsCertificatePrint (merge_set root.now names.now) office.now (printed p)) }
+    ensures { IfOk result (λ p. IsCertificatePrint root.now names.now office.now (printed p)) }
 {
-    let members = texts_of_names(alloc, names)?;
-    let plan = plan_members(alloc, office, root, members.as_slice());
-    plan_print(alloc, office, root, members.as_slice(), &plan)
+    let asked = members_asked(alloc, office, root, names)?;
+    let members = texts_of_names(alloc, asked.as_slice())?;
+    print_of_set(alloc, office, root, members.as_slice())
 }
 
-/// Returns the certificate of members over the office of a text.
+/// Returns the certificate of members over the office of a text, of all children of the root where no name is given.
 pub fn answer_certificate(
     alloc: Global,
     office: &[u8],
     root: &str,
     names: &[Words],
 ) -> Result<Print, RunFault>
-    ensures { IsMadePrintout (IsPrintoutIn (IsHinted (IsCertificatePrint (merge_set root.now names.now)) (root.now ∷ names.now)) (draft_in office.now)) result }
+    ensures { IsMadePrintout (IsPrintoutIn (IsHinted (IsCertificatePrint root.now names.now) (root.now ∷ names.now)) (draft_in office.now)) result }
 {
     match open_office(alloc, office) {
         Ok(office) => {
-            let print = print_of_members(alloc, &office, root, names)?;
+            let print = print_of_names(alloc, &office, root, names)?;
             Ok(with_hints(alloc, &office, root, names, print)?)
         }
         Err(answer) => notes_of(alloc, answer),

@@ -11,13 +11,12 @@ ghost use Rattle.clr_prints.specs.NameHints.{IsHinted};
 ghost use Rattle.clr_prints.specs.Printing.{IsMadePrintout, IsPrintoutIn, printed, printout_of};
 
 use crate::certificates::plan_print;
-use crate::children::members_asked;
 use crate::names_lines::names_line;
 use clr_cert::{Certificate, write_certificate};
 use clr_engine::Office;
 use clr_office::{Plan, RunFault, Words, open_office, texts_of_names};
 use clr_plan::plan_lines;
-use clr_prints::{Print, notes_of, plan_members, with_hints};
+use clr_prints::{Print, members_asked, notes_of, plan_members, with_hints};
 use clr_rows::Schema;
 use std::alloc::{AllocError, Global};
 

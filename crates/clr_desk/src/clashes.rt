@@ -8,13 +8,12 @@ ghost use Rattle.clr_prints.specs.NameHints.{IsHinted};
 ghost use Rattle.clr_prints.specs.Printing.{IsMadePrintout, IsPrintoutIn, printed};
 
 use crate::certificates::plan_print;
-use crate::children::members_asked;
 use crate::clash_lines::clashes_lines;
 use clr_clearance::Verdict;
 use clr_engine::Office;
 use clr_merge_clashes::{MergeClashes, merge_clashes};
 use clr_office::{Plan, RunFault, Words, open_office, texts_of_names};
-use clr_prints::{Print, notes_of, with_hints};
+use clr_prints::{Print, members_asked, notes_of, with_hints};
 use std::alloc::{AllocError, Global};
 
 /// Returns all sets, as a text.
@@ -78,7 +77,7 @@ fn print_of_names(
     print_of_merge_set(alloc, office, root, members.as_slice())
 }
 
-/// Returns the smallest sets of members over the office of a text that can't be merged together.
+/// Returns the smallest sets of members over the office of a text that can't be merged in every order.
 pub fn answer_clashes(
     alloc: Global,
     office: &[u8],

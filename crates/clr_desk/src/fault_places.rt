@@ -1,9 +1,12 @@
 //! Where the fault of a text is that an answer fails with.
 ghost use Rattle.std.specs.Prelude.{◌≡◌, IfOk};
-ghost use Rattle.clr_desk.specs.FaultPlaces.{IsFaultPlace, file_name};
+ghost use Rattle.clr_cert.specs.Certificates.{certificate_in};
+ghost use Rattle.clr_drafts.specs.Drafts.{draft_in};
+ghost use Rattle.clr_desk.specs.FaultPlaces.{IsCertificatePlace, IsCertificatePlaceOver, IsFaultPlace, IsOfficePlace, file_name};
 
-use clr_drafts::read_office;
+use clr_drafts::{TextFault, read_office};
 use clr_office::{RunFault, Words};
+use clr_rows::Schema;
 use clr_why::{short_certificate_fault, short_office_fault};
 use std::alloc::{AllocError, Global};
 
@@ -17,37 +20,44 @@ fn file_name(files: &[Words], at: usize) -> &str
     }
 }
 
-/// Returns the place of the fault of an office text.
-fn office_place(
-    alloc: Global,
-    files: &[Words],
-    office: &[u8],
-    second: &[u8],
-) -> Result<Vec<u8>, AllocError>
-    ensures { IfOk result (λ line. IsFaultPlace files.now office.now second.now line.items) }
+/// Returns the place of the fault of an office text, in the file of this name.
+fn office_place(alloc: Global, file: &str, office: &[u8]) -> Result<Vec<u8>, AllocError>
+    ensures { IfOk result (λ line. IsOfficePlace office.now file.now line.items (draft_in office.now)) }
 {
-    let _second = second;
-    match short_office_fault(alloc, office, file_name(files, 0))? {
+    match short_office_fault(alloc, office, file)? {
         Some(line) => Ok(line),
         None => Ok(Vec::new(alloc)),
     }
 }
 
-/// Returns the place of the fault of a certificate over an office text.
-fn certificate_place(
+/// Returns the place of the fault of a certificate over a schema, in the file of this name.
+fn place_over_schema(
     alloc: Global,
-    files: &[Words],
-    office: &[u8],
-    second: &[u8],
+    schema: &Schema,
+    file: &str,
+    certificate: &[u8],
 ) -> Result<Vec<u8>, AllocError>
-    ensures { IfOk result (λ line. IsFaultPlace files.now office.now second.now line.items) }
+    ensures { IfOk result (λ line. IsCertificatePlace schema.now certificate.now file.now line.items (certificate_in schema.now certificate.now)) }
 {
-    let Ok(draft) = read_office(alloc, office) else {
-        return Ok(Vec::new(alloc));
-    };
-    match short_certificate_fault(alloc, draft.schema(), second, file_name(files, 1))? {
+    match short_certificate_fault(alloc, schema, certificate, file)? {
         Some(line) => Ok(line),
         None => Ok(Vec::new(alloc)),
+    }
+}
+
+/// Returns the place of the fault of a certificate over an office text, in the file of this name.
+fn certificate_place(
+    alloc: Global,
+    file: &str,
+    office: &[u8],
+    certificate: &[u8],
+) -> Result<Vec<u8>, AllocError>
+    ensures { IfOk result (λ line. IsCertificatePlaceOver certificate.now file.now line.items (draft_in office.now)) }
+{
+    match read_office(alloc, office) {
+        Ok(draft) => place_over_schema(alloc, draft.schema(), file, certificate),
+        Err(TextFault::OutOfMemory) => Err(AllocError),
+        Err(_) => Ok(Vec::new(alloc)),
     }
 }
 
@@ -61,11 +71,13 @@ pub fn fault_place(
     office: &[u8],
     second: &[u8],
 ) -> Result<Vec<u8>, AllocError>
-    ensures place { IfOk result (λ line. IsFaultPlace files.now office.now second.now line.items) }
+    ensures place { IfOk result (λ line. IsFaultPlace fault files.now office.now second.now line.items) }
 {
     match fault {
-        RunFault::BadOffice(_) => office_place(alloc, files, office, second),
-        RunFault::BadCertificate(_, _) => certificate_place(alloc, files, office, second),
+        RunFault::BadOffice(_) => office_place(alloc, file_name(files, 0), office),
+        RunFault::BadCertificate(_, _) => {
+            certificate_place(alloc, file_name(files, 1), office, second)
+        }
         _ => Ok(Vec::new(alloc)),
     }
 }

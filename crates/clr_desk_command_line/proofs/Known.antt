@@ -39,7 +39,7 @@ all_known = (
                     (refl, inl (λ rows. refl)),
                     (
                       (refl, inl (λ rows. refl)),
-                      ((refl, inl (λ rows. refl)), ((refl, inl (λ rows. refl)), ((refl, inr refl), tt))),
+                      ((refl, inl (λ rows. refl)), ((refl, inl (λ rows. refl)), ((refl, inl (λ rows. refl)), ((refl, inr refl), tt)))),
                     ),
                   ),
                 ),

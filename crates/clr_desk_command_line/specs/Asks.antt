@@ -10,7 +10,7 @@ use Rattle.clr_rows.specs.Schemas.{is_key}
 use Rattle.clr_records.specs.Decimals.{number_of}
 use Rattle.clr_command_line.specs.Asks.{database_and, database_of, given_names, given_value}
 use Rattle.clr_desk_command_line.specs.declared.asks.Ask.{Ask}
-use Rattle.clr_desk_command_line.specs.declared.asks.Ask.TheVariants.{Certificate, Merge, Format, Keep, Clashes, Why, WorkOrder, Map, Report, Geographic}
+use Rattle.clr_desk_command_line.specs.declared.asks.Ask.TheVariants.{Certificate, Check, Merge, Format, Keep, Clashes, Why, WorkOrder, Map, Report, Geographic}
 use Rattle.clr_desk_command_line.specs.declared.asks.DesignAsk.{DesignAsk}
 use Rattle.clr_desk_command_line.specs.declared.asks.GeographicAsk.{GeographicAsk}
 use Rattle.clr_desk_command_line.specs.declared.asks.GeographicAsk.TheVariants.{Features, Layer, Office, Design, DesignScript}
@@ -131,10 +131,11 @@ or_members_asked None name rows = members_asked name rows
 -- what a subcommand asks for, and its files
 unfoldable pub ask_by_name : Text → List Row → Option (Ask × List Text)
 ask_by_name name rows =
-    if bytes_eq name (codes "merge") then Some (merge_ask rows)
+    if bytes_eq name (codes "check") then Some (Check, database_and (codes "CERT") rows)
+    else (if bytes_eq name (codes "merge") then Some (merge_ask rows)
     else (if bytes_eq name (codes "format") then Some (Format, database_of rows)
     else (if bytes_eq name (codes "why") then Some (why_of rows)
-    else or_members_asked (geographic_asked name rows) name rows))
+    else or_members_asked (geographic_asked name rows) name rows)))
 
 -- what the subcommand that words name asks for, if they name one
 abbrev pub ask_of : Option (Text × List Row) → Option (Ask × List Text)

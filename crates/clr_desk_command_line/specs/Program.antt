@@ -3,7 +3,7 @@ use Rattle.std.specs.Prelude.{true, codes, Some}
 use Rattle.clap.specs.Lexer.{usize_max}
 use Rattle.clap.specs.Words.{App, Rule, Text, new_app, new_rule, with_rule, with_subcommand}
 use Rattle.clap.specs.declared.builder.action.ArgAction.TheVariants.{SetTrue}
-use Rattle.clr_command_line.specs.Program.{database_command, demanding, merge, name_arguments, value}
+use Rattle.clr_command_line.specs.Program.{check, database_command, demanding, merge, name_arguments, value}
 
 -- an option with one value
 abbrev pub option : Text → Rule
@@ -69,9 +69,13 @@ design_of_layers = with_rule (with_rule (database_command (codes "design")) (val
 abbrev pub design : App
 design = with_rule (with_rule (with_rule design_of_layers (flag (codes "script"))) (option (codes "keys"))) round
 
--- the program with the commands that print a certificate or an office
+-- the program with the commands that print a certificate or judge one
+abbrev pub certifying : App
+certifying = with_subcommand (with_subcommand (demanding (codes "clr_desk")) certificate.top) check.top
+
+-- with the commands that print an office
 abbrev pub printing : App
-printing = with_subcommand (with_subcommand (with_subcommand (demanding (codes "clr_desk")) certificate.top) merge.top) format.top
+printing = with_subcommand (with_subcommand certifying merge.top) format.top
 
 -- with the commands that say which members go together
 abbrev pub choosing : App

@@ -25,8 +25,8 @@ pub struct DesignAsk {
 /// What is asked of an office text in the texts of geographic information systems.
 #[derive(Debug, Drop)]
 pub enum GeographicAsk {
-    /// What the plan of these children of a root is about, as features of a map: the root, the children, and the name of the reference system
-    /// of their coordinates, as it was given.
+    /// What the plan of these children of a root is about, as features of a map: the root, the children, or none for all, and the name of the
+    /// reference system of their coordinates, as it was given.
     Features(Words, Names, Option<Words>),
     /// The rows of a table in a workspace, as a layer: the table, and the workspace.
     Layer(Words, Words),
@@ -42,8 +42,10 @@ pub enum GeographicAsk {
 /// What is asked of an office text, and of further texts where there are some.
 #[derive(Debug, Drop)]
 pub enum Ask {
-    /// The certificate of these children of a root, alone: the root, and the children.
+    /// The certificate of these children of a root, alone: the root, and the children, or none for all.
     Certificate(Words, Names),
+    /// The verdict on a certificate; the second text is the certificate.
+    Check,
     /// The office that the merges of these workspaces in this order leave, alone, by a certificate that
     /// clears its members; the second text is the certificate.
     Merge(Names),
@@ -57,11 +59,11 @@ pub enum Ask {
     Clashes(Words, Names),
     /// Where the fault of a text of this kind is; the second text is the script or the certificate.
     Why(TextKind),
-    /// The plan of these children of a root as a work order: the root, and the children.
+    /// The plan of these children of a root as a work order: the root, and the children, or none for all.
     WorkOrder(Words, Names),
-    /// The plan of these children of a root as a picture: the root, and the children.
+    /// The plan of these children of a root as a picture: the root, and the children, or none for all.
     Map(Words, Names),
-    /// The plan of these children of a root as a page with its picture: the root, and the children.
+    /// The plan of these children of a root as a page with its picture: the root, and the children, or none for all.
     Report(Words, Names),
     /// What is asked in the texts of geographic information systems.
     Geographic(GeographicAsk),

@@ -2,14 +2,14 @@
 ghost use Rattle.std.specs.Prelude.{◌≡◌, codes, false, IfOk};
 ghost use Rattle.clap.specs.Words.{app_of, with_rule};
 ghost use Rattle.clap.specs.declared.builder.command.Command.TheViews.{out-Command as fields_of};
-ghost use Rattle.clr_command_line.specs.Program.{demanding, merge, value};
-ghost use Rattle.clr_desk_command_line.specs.Program.{certificate, choosing, clashes, drawing, explaining, exporting, format, keep, map, over_members};
+ghost use Rattle.clr_command_line.specs.Program.{check, demanding, merge, value};
+ghost use Rattle.clr_desk_command_line.specs.Program.{certificate, certifying, choosing, clashes, drawing, explaining, exporting, format, keep, map, over_members};
 ghost use Rattle.clr_desk_command_line.specs.Program.{printing, program, report, root as root_option, why, words};
 
 use crate::design_commands::{design, office};
 use crate::helps::{
-    ABOUT, CERTIFICATE_PRINTS, CLASHES_PRINTS, FORMAT_PRINTS, KEEP_PRINTS, MAP_PRINTS,
-    MERGE_PRINTS, REPORT_PRINTS, STATUSES, VERSION, WHY_PRINTS, WORDS_PRINTS,
+    ABOUT, CERTIFICATE_PRINTS, CHECK_PRINTS, CLASHES_PRINTS, FORMAT_PRINTS, KEEP_PRINTS,
+    MAP_PRINTS, MERGE_PRINTS, REPORT_PRINTS, STATUSES, VERSION, WHY_PRINTS, WORDS_PRINTS,
 };
 use crate::layer_commands::{geojson, layer};
 use crate::options::with_option;
@@ -71,6 +71,19 @@ fn certificate<'a>(alloc: Global) -> Result<Command<'a>, AllocError>
         "Prints the certificate of designs that can be merged in every order",
         CERTIFICATE_PRINTS,
     )
+}
+
+fn check<'a>(alloc: Global) -> Result<Command<'a>, AllocError>
+    ensures shape { IfOk result (λ c. app_of c ≡ check) }
+    ensures plain { IfOk result (λ c. (fields_of c).has_globals ≡ false) }
+{
+    let command = over_database(
+        alloc,
+        "check",
+        "Says whether a certificate shows that its designs can be merged in every order",
+        CHECK_PRINTS,
+    )?;
+    with_certificate(alloc, command)
 }
 
 fn merge<'a>(alloc: Global) -> Result<Command<'a>, AllocError>
@@ -197,13 +210,21 @@ fn start<'a>(alloc: Global) -> Command<'a>
         .subcommand_required(true)
 }
 
-/// Returns the command with the subcommands that print a certificate or an office.
+/// Returns the command with the subcommands that print a certificate or judge one.
+fn with_certificates<'a>(alloc: Global) -> Result<Command<'a>, AllocError>
+    ensures shape { IfOk result (λ c. app_of c ≡ certifying) }
+    ensures plain { IfOk result (λ c. (fields_of c).has_globals ≡ false) }
+{
+    let command = add(start(alloc), certificate(alloc)?)?;
+    add(command, check(alloc)?)
+}
+
+/// Returns the command with those subcommands, too, that print an office.
 fn with_texts<'a>(alloc: Global) -> Result<Command<'a>, AllocError>
     ensures shape { IfOk result (λ c. app_of c ≡ printing) }
     ensures plain { IfOk result (λ c. (fields_of c).has_globals ≡ false) }
 {
-    let command = add(start(alloc), certificate(alloc)?)?;
-    let command = add(command, merge(alloc)?)?;
+    let command = add(with_certificates(alloc)?, merge(alloc)?)?;
     add(command, format(alloc)?)
 }
 

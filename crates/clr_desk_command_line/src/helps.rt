@@ -11,12 +11,20 @@ It ends with status 0 where all is done or cleared, 1 where something is refused
 or files can't be read, and 3 for want of memory.";
 
 pub(crate) const CERTIFICATE_PRINTS: &str =
-    "It prints the certificate and nothing else, ready for `clr_office check`, with status 0.
+    "It prints the certificate and nothing else, ready for `clr_desk check`, with status 0.
 Where the designs can't be merged in every order it prints nothing, and on standard error the lines of
-the plan, with status 1.
+the plan, with status 1. Without names it takes all children of the root.
 
 Example:
   clr_desk certificate office.json Renewal Extension > certificate.csv";
+
+pub(crate) const CHECK_PRINTS: &str =
+    "It prints `clear` where the designs that the certificate names can be merged in every order, and else the test
+that fails; and on standard error how many designs and needs the certificate has. The status is 0 where it prints
+`clear` of one design or more, and else 1; so it is 1 of a certificate that names no design, as an empty file is.
+
+Example:
+  clr_desk check office.json certificate.csv";
 
 pub(crate) const MERGE_PRINTS: &str =
     "It prints the office that the merges leave and nothing else, and on standard error a line for each merge.
@@ -64,7 +72,8 @@ Example:
 pub(crate) const WORDS_PRINTS: &str =
     "It prints the plan of the designs in sentences: whether they can be merged in every order, and if
 not, an order in which a merge is refused, the rule, the rows, and where they meet; then what would
-help, each tried. The status is 0 where the designs are cleared, and 1 where they aren't.
+help, each tried. Without names it takes all children of the root. The status is 0 where the designs
+are cleared, and 1 where they aren't.
 
 Example:
   clr_desk words office.json Renewal Extension Bypass";
@@ -72,7 +81,8 @@ Example:
 pub(crate) const MAP_PRINTS: &str =
     "It prints a picture of the plan as an SVG, which any browser shows: LIVE in grey, each design in a colour of
 its own, and where the designs can't be merged in every order the place of the cause, with words. The ticks and the
-scale are in metres. The status is 0 where the designs are cleared, and 1 where they aren't.
+scale are in metres. Without names it takes all children of the root. The status is 0 where the designs are cleared,
+and 1 where they aren't.
 
 Example:
   clr_desk map office.json Renewal Extension Bypass > plan.svg";
@@ -80,7 +90,8 @@ Example:
 pub(crate) const REPORT_PRINTS: &str =
     "It prints one HTML file that needs nothing beside it: the picture of the plan, why the designs can't be merged
 in every order and what would help, the designs with their rows, their clashes, the certificate, and the lines of
-`clr_office plan`. The status is 0 where the designs are cleared, and 1 where they aren't.
+`clr_office plan`. Without names it takes all children of the root. The status is 0 where the designs are cleared,
+and 1 where they aren't.
 
 Example:
   clr_desk report office.json Renewal Extension Bypass > plan.html";
@@ -88,7 +99,8 @@ Example:
 pub(crate) const GEOJSON_PRINTS: &str =
     "It prints what the plan is about as GeoJSON, for a geographic information system: the rows of the root, what
 each design adds, changes and removes, which rows the cause names, and the place of the cause. Coordinates are in
-metres. The status is 0 where the designs are cleared, and 1 where they aren't.
+metres. Without names it takes all children of the root. The status is 0 where the designs are cleared, and 1 where
+they aren't.
 
 Example:
   clr_desk geojson office.json --crs EPSG:25832 Renewal Extension > plan.geojson";

@@ -125,6 +125,7 @@ fn ask_of_subcommand(
     ensures { IfOk result (λ r. ask_by_name name.now (rows_of (found_of matches.now)) ≡ option_map (λ p. (p.0, p.1.items)) r) }
 {
     match name {
+        "check" => Ok(Some((Ask::Check, database_with(alloc, matches, "CERT")?))),
         "merge" => Ok(Some(merge(alloc, matches)?)),
         "format" => Ok(Some((Ask::Format, database(alloc, matches)?))),
         "why" => Ok(Some(why(alloc, matches)?)),
@@ -142,7 +143,7 @@ fn refusal(alloc: Global, matches: &ArgMatches) -> Result<AskFault, AllocError> 
 
 /// Returns what the words of a command line ask for, with the program's name first, and the names of the files that it is asked of: that
 /// of the office text, and then that of the script or the certificate or those of the layers where there are some. The subcommands are
-/// `merge DB CERT NAME..`, `format DB`, `why DB [--script FILE] [--certificate FILE]`, `certificate`, `keep`, `clashes`, `words`, `map`
+/// `check DB CERT`, `merge DB CERT NAME..`, `format DB`, `why DB [--script FILE] [--certificate FILE]`, `certificate`, `keep`, `clashes`, `words`, `map`
 /// and `report`, each with `DB [--under ROOT] NAME..`, `geojson DB [--under ROOT] [--crs SYSTEM] NAME..`, `layer DB TABLE [--in
 /// WORKSPACE]`, `office SCHEMA TABLE=FILE.. [--round]` and `design DB NAME TABLE=FILE.. [--script] [--keys N] [--round]`. There are none
 /// or more names, and one or more layers. The root, and the workspace of a layer, is LIVE where none is given; N is 1.

@@ -4,7 +4,7 @@
 //! It is safe; what it does with words, files, streams and statuses no contract says.
 #![tactic(auto)]
 
-use clr_desk::{Ask, AskFault, GeographicAsk, GivenLayer, answer, ask_of, fault_place};
+use clr_desk::{Ask, AskFault, answer, ask_of, fault_place, take_layers};
 use clr_devices::Screen;
 use clr_office::{Port, RunFault, Sink, Words};
 use clr_reports::{
@@ -15,7 +15,7 @@ use std::io::ErrorKind;
 use std::process::ExitCode;
 
 /// Prints a fault's line on standard error, and behind it where the fault is, if a text has it; and gives
-/// its exit status.
+/// its exit status. Where no memory is found for the place, that is what is printed.
 fn refuse_texts(
     rt: &HostRuntime,
     fault: RunFault,
@@ -23,10 +23,11 @@ fn refuse_texts(
     office: &[u8],
     second: &[u8],
 ) -> u8 {
+    let Ok(place) = fault_place(rt.alloc(), fault, files, office, second) else {
+        return print_fault(rt, RunFault::OutOfMemory);
+    };
     let status = print_fault(rt, fault);
-    if let Ok(place) = fault_place(rt.alloc(), fault, files, office, second) {
-        let _ = Screen::new(rt.alloc(), Port::new(rt.stderr()), true).put(place.as_slice());
-    }
+    let _ = Screen::new(rt.alloc(), Port::new(rt.stderr()), true).put(place.as_slice());
     status
 }
 
@@ -37,42 +38,13 @@ fn refuse_file(rt: &HostRuntime, name: &str, fault: RunFault) -> u8 {
     status
 }
 
-/// Returns the tables of the layers that are asked for, in the order of their files.
-fn tables_of(ask: &Ask) -> &[Words] {
-    match ask {
-        Ask::Geographic(GeographicAsk::Office(tables, _)) => tables.as_slice(),
-        Ask::Geographic(GeographicAsk::Design(design) | GeographicAsk::DesignScript(design)) => {
-            design.tables.as_slice()
-        }
-        _ => &[],
-    }
-}
-
-/// Returns the layers that are asked for, each with its table: their texts stand behind that of the office,
-/// which stays.
-fn take_layers(
-    rt: &HostRuntime,
-    ask: &Ask,
-    texts: &mut Vec<Vec<u8>>,
-) -> Result<Vec<GivenLayer>, RunFault> {
-    let mut layers = Vec::new(rt.alloc());
-    for table in tables_of(ask).iter().rev() {
-        if let Some(text) = texts.pop() {
-            let table = table.copy()?;
-            layers.push(GivenLayer { table, text })?;
-        }
-    }
-    layers.reverse();
-    Ok(layers)
-}
-
 /// Answers what the words ask of files, and gives the exit status.
 fn answer_files(rt: &HostRuntime, ask: &Ask, files: &[Words]) -> Result<u8, RunFault> {
     let mut texts = match read_files(rt, files) {
         Ok(texts) => texts,
         Err(refused) => return Ok(refuse_file(rt, file_name(files, refused.file), refused.fault)),
     };
-    let layers = take_layers(rt, ask, &mut texts)?;
+    let layers = take_layers(rt.alloc(), ask, &mut texts)?;
     let (office, second) = (text_at(&texts, 0), text_at(&texts, 1));
     let is_read = matches!(ask, Ask::WorkOrder(..) | Ask::Why(_));
     let mut writer = Screen::new(rt.alloc(), Port::new(rt.stdout()), is_read);

@@ -1,5 +1,7 @@
+pub mod ChildLemmas
 pub mod Codes
 pub mod LayerLemmas
 pub mod Made
+pub mod OneHint
 pub mod PrintLemmas
 pub mod ScriptLemmas

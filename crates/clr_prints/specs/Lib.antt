@@ -3,6 +3,7 @@ pub mod LayerFaultLines
 pub mod Features
 pub mod Layers
 pub mod Maps
+pub mod Members
 pub mod NameHints
 pub mod Printing
 pub mod Reports

@@ -1,6 +1,7 @@
 -- What is printed: on standard output, on standard error, and the exit status.
 use Rattle.std.specs.Prelude.{◌≡◌, ℕ, Bool, true, false, List, [], None, Result, Ok, Err, not, if◌then◌else◌}
 use Rattle.clr_steps.specs.Offices.{Office}
+use Rattle.clr_steps.specs.Quiet.{MergeSet}
 use Rattle.clr_engine.specs.Drafts.{unheld_in}
 use Rattle.clr_cert.specs.declared.certificates.Certificate.{Certificate}
 use Rattle.clr_check.specs.Cases.{Case}
@@ -9,6 +10,7 @@ use Rattle.clr_plan.specs.declared.plans.Plan.{Plan}
 use Rattle.clr_plan.specs.Promises.{is_cleared, is_out_of_memory}
 use Rattle.clr_rule_text.specs.declared.faults.TextFault.{TextFault}
 use Rattle.clr_office.specs.Clearances.{fault_print}
+use Rattle.clr_office.specs.Outcomes.{IsPlanned}
 use Rattle.clr_reports.specs.Printing.{IsNoPrint, status_of}
 use Rattle.clr_reports.specs.Printing.{IsPrintIn as IsLinesIn, Printed as Lines}
 use Rattle.clr_reports.specs.declared.faults.RunFault.{RunFault}
@@ -35,9 +37,13 @@ unless_lost lost text = if lost then [] else text
 abbrev pub printout_of : List ℕ → List ℕ → Bool → Bool → PrintoutOrFault
 printout_of text notes refused lost = Ok (record { text = unless_lost lost text; notes = notes; status = status_of refused lost })
 
+-- a plan with what it promises, for which memory was found
+abbrev pub IsFoundPlan : Office → MergeSet → Plan → Type 0
+IsFoundPlan o s p = IsPlanned o s p × (is_out_of_memory p ≡ false)
+
 -- a text that is made of a plan, which counts as a refusal unless the plan is cleared
 abbrev pub plan_text_print : List ℕ → Plan → PrintoutOrFault
-plan_text_print text p = printout_of text [] (not (is_cleared p)) (is_out_of_memory p)
+plan_text_print text p = printout_of text [] (not (is_cleared p)) false
 
 -- the exit status of an ending
 abbrev pub status_by : Ending → ℕ

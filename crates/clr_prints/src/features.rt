@@ -1,15 +1,15 @@
 //! The features of plans.
 
-ghost use Rattle.std.specs.Prelude.{◌∷◌, IfOk};
+ghost use Rattle.std.specs.Prelude.{map, IfOk};
 ghost use Rattle.std.specs.Option.{option_copied};
 ghost use Rattle.clr_merge_sets.specs.MergeSetNames.{merge_set};
 ghost use Rattle.clr_drafts.specs.Drafts.{draft_in};
-ghost use Rattle.clr_prints.specs.Features.{IsFeaturesAnswer, IsFeaturesPrint};
-ghost use Rattle.clr_prints.specs.NameHints.{IsHinted};
+ghost use Rattle.clr_prints.specs.Features.{AreFeaturesOfSet, AreHintedFeatures, IsFeaturesAnswer, IsFeaturesPrint};
 ghost use Rattle.clr_prints.specs.Printing.{IsMadePrintout, IsPrintoutIn, printed};
 
+use crate::children::members_asked;
 use crate::name_hints::with_hints;
-use crate::plans::{plan_members, print_of_plan_text};
+use crate::plans::{found_plan, print_of_plan_text};
 use crate::prints::{Print, notes_of};
 use crate::systems::{print_of_no_system, system_of};
 use clr_engine::Office;
@@ -18,19 +18,33 @@ use clr_plan_features::plan_features;
 use std::alloc::{AllocError, Global};
 
 /// Returns what is printed of the features of the plan of members.
-fn print_of_members(
+fn print_of_set(
+    alloc: Global,
+    office: &Office,
+    root: &str,
+    members: &[&str],
+    system: Option<u32>,
+) -> Result<Print, AllocError>
+    ensures { IfOk result (λ p. AreFeaturesOfSet system office.now (merge_set root.now (map (λ name. name.now) members.now)) (printed p)) }
+{
+    let plan = found_plan(alloc, office, root, members)?;
+    let text = plan_features(alloc, office, root, members, &plan, system)?;
+    Ok(print_of_plan_text(alloc, text, &plan))
+}
+
+/// Returns what is printed of the features of the plan of the members that names ask for.
+fn print_of_names(
     alloc: Global,
     office: &Office,
     root: &str,
     names: &[Words],
     system: Option<u32>,
 ) -> Result<Print, AllocError>
-    ensures { IfOk result (λ p. IsFeaturesPrint (merge_set root.now names.now) system office.now (printed p)) }
+    ensures { IfOk result (λ p. IsFeaturesPrint root.now names.now system office.now (printed p)) }
 {
-    let members = texts_of_names(alloc, names)?;
-    let plan = plan_members(alloc, office, root, members.as_slice());
-    let text = plan_features(alloc, office, root, members.as_slice(), &plan, system)?;
-    Ok(print_of_plan_text(alloc, text, &plan))
+    let asked = members_asked(alloc, office, root, names)?;
+    let members = texts_of_names(alloc, asked.as_slice())?;
+    print_of_set(alloc, office, root, members.as_slice(), system)
 }
 
 /// Returns what is printed of the features of the plan of members over the office of a text, in a system of coordinates if there
@@ -42,19 +56,18 @@ fn answer_in(
     names: &[Words],
     system: Option<u32>,
 ) -> Result<Print, RunFault>
-    ensures { IsMadePrintout (IsPrintoutIn (IsHinted (IsFeaturesPrint (merge_set root.now names.now) system) (root.now ∷ names.now)) (draft_in office.now))
-        result }
+    ensures { IsMadePrintout (IsPrintoutIn (AreHintedFeatures root.now names.now system) (draft_in office.now)) result }
 {
     match open_office(alloc, office) {
         Ok(office) => {
-            let print = print_of_members(alloc, &office, root, names, system)?;
+            let print = print_of_names(alloc, &office, root, names, system)?;
             Ok(with_hints(alloc, &office, root, names, print)?)
         }
         Err(answer) => notes_of(alloc, answer),
     }
 }
 
-/// Returns the features of the plan of members over the office of a text, as GeoJSON in metres, and as notes hints at names that no workspace
+/// Returns the features of the plan of members over the office of a text, of all children of the root where no name is given, as GeoJSON in metres, and as notes hints at names that no workspace
 /// has. It counts as a refusal where the plan isn't cleared. The text of a system of coordinates is `EPSG:` and its number in that register; for any
 /// other, a note that it names no system is all that is printed, with status 2, and the office text isn't read. Where a rule doesn't hold the line
 /// that says so is the only note, and there is no text. Fails with `BadOffice` where the text is no office, and with `OutOfMemory` for want of memory,
@@ -66,8 +79,7 @@ pub fn answer_geojson(
     names: &[Words],
     system: Option<&Words>,
 ) -> Result<Print, RunFault>
-    ensures { IsMadePrintout (IsFeaturesAnswer (merge_set root.now names.now) (root.now ∷ names.now) (option_copied system.entry) (draft_in office.now))
-        result }
+    ensures { IsMadePrintout (IsFeaturesAnswer root.now names.now (option_copied system.entry) (draft_in office.now)) result }
 {
     let Some(text) = system else {
         return answer_in(alloc, office, root, names, None);

@@ -5,15 +5,17 @@
 //! - `notes_of`: the lines of an office text that is refused, as notes.
 //! - `with_hints`, and `hint_lines` of `clr_office`: hints at names that no workspace has, each at the workspace whose name is most like it, where one is like
 //!   enough, and no others (`IsHinted`).
-//! - `plan_members`: the plan of members, with what it promises (`IsPlanned`). Over the office of a text, `answer_map` gives the map of such a
-//!   plan (`IsMapPrint`), `answer_report` its report (`IsReportPrint`), and `answer_geojson` its features, in a system of coordinates if one is
-//!   named (`IsFeaturesAnswer`).
+//! - `members_asked`: the members that names ask for, which are all children of the root where there is no name (`members_or_children`).
+//! - `plan_members`: the plan of members, with what it promises (`IsPlanned`). Over the office of a text, `answer_map` gives the map of the
+//!   plan of the members that names ask for (`IsMapPrint`), `answer_report` its report (`IsReportPrint`), and `answer_geojson` its features, in
+//!   a system of coordinates if one is named (`IsFeaturesAnswer`). Where the plan finds no memory, these answer OutOfMemory.
 //! - `answer_layer`: the layer of a table's rows in LIVE or in a workspace of the office of a text (`IsLayerPrint`).
 //! - `answer_design`: the office of a text with one more workspace, which has the rows of layers (`IsDesignPrint`); `answer_design_script`: the
 //!   script that makes this design (`IsDesignScriptPrint`); `answer_office`: the office of a text with the rows of layers in LIVE
 //!   (`IsOfficePrint`).
 #![tactic(auto)]
 
+mod children;
 mod design_prints;
 mod designs;
 mod features;
@@ -27,6 +29,7 @@ mod prints;
 mod reports;
 mod systems;
 
+pub use children::members_asked;
 pub use clr_layer_changes::{GivenLayer, LayerOptions};
 pub use clr_office::hint_lines;
 pub use designs::{answer_design, answer_design_script, answer_office};

@@ -1,6 +1,7 @@
 //! Where the fault of a text is, in one line.
-ghost use Rattle.std.specs.Prelude.{◌≡◌, Err, IfOk, IfSome};
+ghost use Rattle.std.specs.Prelude.{◌≡◌, Err, IfNone, IfOk, IfSome, IsOk};
 ghost use Rattle.clr_cert.specs.Certificates.{certificate_in};
+ghost use Rattle.clr_drafts.specs.Drafts.{draft_in};
 ghost use Rattle.clr_record_explanations.specs.RecordRemarks.{IsRecordRemark};
 ghost use Rattle.clr_why.specs.Shorts.{IsShortCertificateFault, IsShortOfficeFault};
 ghost use Rattle.clr_why.specs.Whys.{IsRemarkedOfficeFault};
@@ -50,6 +51,7 @@ pub fn short_office_fault(
     text: &[u8],
     file: &str,
 ) -> Result<Option<Vec<u8>>, AllocError>
+    ensures none { IfOk result (λ found. IfNone found (IsOk (draft_in text.now))) }
     ensures line { IfOk result (λ found. IfSome found (λ line. IsShortOfficeFault text.now file.now line.items)) }
 {
     match office_fault(alloc, text)? {
@@ -65,6 +67,7 @@ pub fn short_certificate_fault(
     text: &[u8],
     file: &str,
 ) -> Result<Option<Vec<u8>>, AllocError>
+    ensures none { IfOk result (λ found. IfNone found (IsOk (certificate_in schema.now text.now))) }
     ensures line { IfOk result (λ found. IfSome found (λ line. IsShortCertificateFault schema.now text.now file.now line.items)) }
 {
     match explain_certificate(alloc, schema, text)? {

@@ -1,6 +1,6 @@
 use Rattle.std.proofs.Common.{◌≡◌, List, rules, subst}
 use Rattle.clr_workspaces.specs.Marks.{Name}
-use Rattle.clr_desk.specs.Choices.{members_or_children}
+use Rattle.clr_prints.specs.Members.{members_or_children}
 use Rattle.clr_desk.specs.Trials.{IsChosen}
 use Rattle.clr_desk.proofs.Trying.{choice_printed}
 use Rattle.clr_desk.proofs.choices.print_of_choice.Goals as goal
@@ -12,4 +12,4 @@ returns c =
     let asked : c.as_slice.result.now ≡ members_or_children o root c.args.names.now = search rules in
     let chosen : IsChosen o root (members_or_children o root c.args.names.now) c.in_ok-choice.choice =
     subst (λ (members : List Name). IsChosen o root members c.in_ok-choice.choice) asked c.in_ok-choice.ensures in
-    choice_printed o root c.args.names.now c.in_ok-choice.choice c.choice_print.result chosen (rw (← c.schema.ensures.value) c.choice_print.ensures)
+    choice_printed o root c.args.names.now c.args.certificate c.in_ok-choice.choice c.choice_print.result c.requires chosen (rw (← c.schema.ensures.value) c.choice_print.ensures)

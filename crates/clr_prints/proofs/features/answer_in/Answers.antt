@@ -1,8 +1,5 @@
-use Rattle.std.proofs.Common.{◌∷◌}
-use Rattle.clr_merge_sets.specs.MergeSetNames.{merge_set}
 use Rattle.clr_drafts.specs.Drafts.{draft_in}
-use Rattle.clr_prints.specs.Features.{IsFeaturesPrint}
-use Rattle.clr_prints.specs.NameHints.{IsHinted}
+use Rattle.clr_prints.specs.Features.{AreHintedFeatures}
 use Rattle.clr_prints.specs.Printing.{of_office, printed}
 use Rattle.clr_prints.proofs.PrintLemmas.{office_fault}
 use Rattle.clr_prints.proofs.features.answer_in.Goals as goal
@@ -13,7 +10,5 @@ returns-in_ok-with_hints-in-Ok c = of_office c.in-Ok.office c.in-Ok.ensures.mean
 
 pub returns-in-Err : goal.returns-in-Err
 returns-in-Err c =
-    let root = c.args.root.now in
-    let names = c.args.names.now in
-    office_fault (IsHinted (IsFeaturesPrint (merge_set root names) c.args.system) (root ∷ names)) (draft_in c.args.office.now) c.in-Err.answer c.notes_of.result
+    office_fault (AreHintedFeatures c.args.root.now c.args.names.now c.args.system) (draft_in c.args.office.now) c.in-Err.answer c.notes_of.result
     c.in-Err.ensures.answer c.notes_of.ensures

@@ -1,5 +1,4 @@
 use Rattle.std.proofs.Common.{◌≡◌, ◌∷◌, subst}
-use Rattle.clr_merge_sets.specs.MergeSetNames.{merge_set}
 use Rattle.clr_drafts.specs.Drafts.{draft_in}
 use Rattle.clr_prints.specs.NameHints.{IsHinted, with_lines}
 use Rattle.clr_prints.specs.Reports.{IsReportPrint}
@@ -25,5 +24,5 @@ pub returns-in-Err : goal.returns-in-Err
 returns-in-Err c =
     let root = c.args.root.now in
     let names = c.args.names.now in
-    office_fault (IsHinted (IsReportPrint (merge_set root names)) (root ∷ names)) (draft_in c.args.office.now) c.in-Err.answer c.notes_of.result
+    office_fault (IsHinted (IsReportPrint root names) (root ∷ names)) (draft_in c.args.office.now) c.in-Err.answer c.notes_of.result
     c.in-Err.ensures.answer c.notes_of.ensures

@@ -1,0 +1,196 @@
+-- What is asked of texts, and told whole, has one answer alone.
+use Rattle.std.proofs.Common.{◌≡◌, ◌≢◌, ◌∙◌, ◌||◌, ◌++◌, ◌∷◌, ℕ, zero, suc, Bool, true, false, cond, not, List, [], Option, Some, None, Ok, Err, ap, append-nil, append_assoc}
+use Rattle.std.proofs.Common.{codes, map, refl, slice_get, subst, sym, take}
+use Rattle.std.specs.List.{flat_map, list_any}
+use Rattle.std.proofs.lemmas.Bool.{true≢false}
+use Rattle.clr_rows.specs.declared.tables.TableDef.{TableDef}
+use Rattle.clr_rows.specs.Contents.{Content}
+use Rattle.clr_workspaces.specs.Marks.{Name}
+use Rattle.clr_steps.specs.declared.commands.Reply.TheVariants.{RuleBroken}
+use Rattle.clr_steps.specs.Offices.{Office}
+use Rattle.clr_steps.specs.Quiet.{MergeSet}
+use Rattle.clr_clearance.specs.declared.verdicts.Verdict.{Verdict}
+use Rattle.clr_clearance.specs.declared.verdicts.Verdict.TheVariants as verdict
+use Rattle.clr_clearance.specs.Plans.{merges}
+use Rattle.clr_clearance.specs.Verdicts.{IsVerdict}
+use Rattle.clr_clearance.proofs.OneAnswerLemmas.{one_start}
+use Rattle.clr_clearance.proofs.VerdictLemmas.{one_verdict}
+use Rattle.clr_cert.specs.declared.certificates.Certificate.{Certificate}
+use Rattle.clr_cert.specs.Texts.{certificate_text}
+use Rattle.clr_check.specs.Answers as checks
+use Rattle.clr_check.specs.Answers.{IsCheckAnswer}
+use Rattle.clr_merge_sets.specs.Certificates.{entries_in, merge_set_of}
+use Rattle.clr_merge_sets.specs.MergeSetNames.{merge_set}
+use Rattle.clr_lines.specs.Verdicts.{verdict_text}
+use Rattle.clr_drafts.specs.Drafts.{draft_in}
+use Rattle.clr_plan.specs.declared.plans.Plan.{Plan}
+use Rattle.clr_plan.specs.declared.plans.Plan.TheVariants as plan
+use Rattle.clr_plan.specs.OnePlan.{AreAlike}
+use Rattle.clr_plan.specs.Promises.{is_cleared, is_out_of_memory}
+use Rattle.clr_plan.proofs.OnePlanLemmas.{one_plan}
+use Rattle.clr_plan.specs.PlanLines.{blocked_text, cleared_text, plan_text}
+use Rattle.clr_office.specs.Clearances.{is_without_memory}
+use Rattle.clr_office.specs.Outcomes.{IsPlanned}
+use Rattle.clr_reports.specs.Printing.{status_of}
+use Rattle.clr_layer_changes.specs.Wanted.{wanted}
+use Rattle.clr_layer_changes.specs.declared.options.GivenLayer.{GivenLayer}
+use Rattle.clr_layer_changes.specs.declared.options.LayerOptions.{LayerOptions}
+use Rattle.clr_designs.specs.Designs.{design_refusal}
+use Rattle.clr_steps.specs.Refusals.{first_broken}
+use Rattle.clr_prints.specs.Designs as designs
+use Rattle.clr_prints.specs.Designs.{IsPrintOfDesign, IsPrintOfLayers, IsPrintOfLive, IsPrintOfScript, faulty_layer_printout, refusal_print, text_print}
+use Rattle.clr_prints.specs.Members.{members_or_children}
+use Rattle.clr_prints.specs.Printing.{PrintoutOrFault, printout_of}
+use Rattle.clr_desk.specs.Certificates.{IsPlanPrint, plan_print}
+use Rattle.clr_desk.specs.Checks.{IsCheckPrint, check_print}
+use Rattle.clr_desk.specs.Choices as choices
+use Rattle.clr_desk.specs.Choices.{AreTrials, IsChoicePrint, Trial, choice_print, is_taken, left_text, members_tried, refusal_text, taken_in}
+use Rattle.clr_desk.specs.Formats.{IsFormatPrint, IsInLines, in_lines, in_one_line}
+use Rattle.clr_desk.specs.Merges as merging
+use Rattle.clr_desk.specs.Merges.{IsMergePrintout, merge_print, verdict_print}
+use Rattle.clr_desk.specs.OneAnswer.{FoundMemory, IsOnePrint}
+
+-- a status other than 3 says that memory was found
+found_by_status : (refused lost : Bool) → status_of refused lost ≢ 3 → lost ≡ false
+found_by_status refused true found = absurd (found refl)
+found_by_status refused false found = refl
+
+-- plans --------------------------------------------------------------------------------------
+
+module _ (tables : List TableDef) (members : List Name) (root : Name) where
+  pub same_text : (p q : Plan) → AreAlike p q → (plan_text tables members root p ≡ plan_text tables members root q) × (is_cleared p ≡ is_cleared q)
+  unfolding plan_text
+  same_text (plan.Cleared c) (plan.Cleared d) same = (ap (cleared_text tables) same, refl)
+  same_text (plan.Blocked order cause) (plan.Blocked other reason) same = (λ i. blocked_text tables members root (same.0 i) (same.1 i), refl)
+  same_text (plan.Unfit v) (plan.Unfit w) same = (ap (λ x. codes "unfit " ++ verdict_text tables members root x) same, refl)
+  same_text p q same = absurd same
+
+module _ (o : Office) (s : MergeSet) where
+  pub found_plan : (p : Plan) → FoundMemory (plan_print o s p) → is_out_of_memory p ≡ false
+  found_plan (plan.Cleared c) found = refl
+  found_plan (plan.Blocked order cause) found = refl
+  found_plan (plan.Unfit v) found = refl
+  found_plan plan.OutOfMemory found = absurd (found refl)
+
+  pub same_plan_print : (p q : Plan) → AreAlike p q → plan_print o s p ≡ plan_print o s q
+  same_plan_print (plan.Cleared c) (plan.Cleared d) same = ap (λ x. printout_of (certificate_text o.schema x) [] false false) same
+  same_plan_print (plan.Blocked order cause) (plan.Blocked other reason) same =
+      ap (λ text. printout_of [] text true false) (same_text o.schema s.members s.root (plan.Blocked order cause) (plan.Blocked other reason) same).0
+  same_plan_print (plan.Unfit v) (plan.Unfit w) same =
+      ap (λ text. printout_of [] text true false) (same_text o.schema s.members s.root (plan.Unfit v) (plan.Unfit w) same).0
+  same_plan_print p q same = absurd same
+
+  pub one_plan_print : IsOnePrint (IsPlanPrint o s)
+  one_plan_print print other (p, planned, is) (q, planned_too, is_too) found found_too =
+      let one = found_plan p (subst FoundMemory is found) in
+      let two = found_plan q (subst FoundMemory is_too found_too) in
+      is ∙ same_plan_print p q (one_plan o s p q planned.plan planned_too.plan one two) ∙ sym is_too
+
+-- verdicts and merges ------------------------------------------------------------------------
+
+module _ (o : Office) (c : Certificate) where
+  abbrev IsSaid : Verdict → Type 0
+  IsSaid v = IsCheckAnswer o (merge_set_of c) (entries_in c.entries) v
+
+  found_verdict : (v : Verdict) → IsSaid v → is_without_memory v ≡ false → IsVerdict o (merge_set_of c) (entries_in c.entries) v
+  found_verdict v (checks.of_verdict is) found = is
+  found_verdict v (checks.of_memory none is) found = absurd (true≢false (sym (ap is_without_memory is) ∙ found))
+
+  same_verdict : (v w : Verdict) → IsSaid v → IsSaid w → is_without_memory v ≡ false → is_without_memory w ≡ false → v ≡ w
+  same_verdict v w one two found found_too =
+      one_verdict o (merge_set_of c) (entries_in c.entries) v w (found_verdict v one found) (found_verdict w two found_too)
+
+  pub one_check_print : IsOnePrint (IsCheckPrint o c)
+  one_check_print print other (v, judged, found, is) (w, judged_too, found_too, is_too) any any_too =
+      is ∙ ap (check_print o c) (same_verdict v w judged.answer judged_too.answer found found_too) ∙ sym is_too
+
+  found_said : (v : Verdict) → FoundMemory (verdict_print o c v) → is_without_memory v ≡ false
+  found_said v found = found_by_status _ (is_without_memory v) found
+
+  not_refused : (v : Verdict) → IsVerdict o (merge_set_of c) (entries_in c.entries) verdict.Clear → IsSaid v → ¬ (v ≡ verdict.Clear)
+      → is_without_memory v ≡ false → ⊥
+  not_refused v clear one not_clear found =
+      not_clear (one_verdict o (merge_set_of c) (entries_in c.entries) v verdict.Clear (found_verdict v one found) clear)
+
+  pub one_merge_print : (names : List Name) → IsOnePrint (IsMergePrintout names o c)
+  one_merge_print names print other (merging.of_merges replies stopped left merged is) (merging.of_merges others halted rest merged_too is_too) found found_too =
+      let same = one_start o (merge_set_of c) (merges names) replies others left rest stopped halted merged.start merged_too.start
+      (found_by_status _ _ (subst FoundMemory is found)) (found_by_status _ _ (subst FoundMemory is_too found_too)) in
+      is ∙ (λ i. merge_print (same.0 i) (same.2 i) (same.1 i)) ∙ sym is_too
+  one_merge_print names print other (merging.of_merges replies stopped left merged is) (merging.of_verdict v refusal is_too) found found_too =
+      absurd (not_refused v merged.clear refusal.answer refusal.not_clear (found_said v (subst FoundMemory is_too found_too)))
+  one_merge_print names print other (merging.of_verdict v refusal is) (merging.of_merges replies stopped left merged is_too) found found_too =
+      absurd (not_refused v merged.clear refusal.answer refusal.not_clear (found_said v (subst FoundMemory is found)))
+  one_merge_print names print other (merging.of_verdict v refusal is) (merging.of_verdict w refusal_too is_too) found found_too =
+      is ∙ ap (verdict_print o c) (same_verdict v w refusal.answer refusal_too.answer
+      (found_said v (subst FoundMemory is found)) (found_said w (subst FoundMemory is_too found_too))) ∙ sym is_too
+
+-- offices in lines ---------------------------------------------------------------------------
+
+same_lines : (o : Office) (text other : List ℕ) → IsInLines o text → IsInLines o other → text ≡ other
+same_lines o text other (in_lines is again) (in_lines is_too again_too) = is ∙ sym is_too
+same_lines o text other (in_lines is again) (in_one_line unread is_too again_too) = absurd (unread (subst (λ t. draft_in t ≡ Ok o) is again))
+same_lines o text other (in_one_line unread is again) (in_lines is_too again_too) = absurd (unread (subst (λ t. draft_in t ≡ Ok o) is_too again_too))
+same_lines o text other (in_one_line unread is again) (in_one_line unread_too is_too again_too) = is ∙ sym is_too
+
+pub one_format_print : (o : Office) → IsOnePrint (IsFormatPrint o)
+one_format_print o print other (text, lines, is) (text_too, lines_too, is_too) found found_too =
+    is ∙ ap (λ t. printout_of t [] false false) (same_lines o text text_too lines lines_too) ∙ sym is_too
+
+-- designs ------------------------------------------------------------------------------------
+
+module _ (options : LayerOptions) (layers : List GivenLayer) (P : Office → Content → PrintoutOrFault → Type 0)
+    (one_print : (o : Office) (content : Content) (print other : PrintoutOrFault) → P o content print → P o content other → print ≡ other) where
+  pub one_of_layers : (o : Office) → IsOnePrint (IsPrintOfLayers options layers P o)
+  one_of_layers o print other (designs.of_content content is here) (designs.of_content wished is_too there) found found_too =
+      let e : Ok wished ≡ Ok content = sym is_too ∙ is in
+      let same : wished ≡ content = cc in
+      one_print o content print other here (subst (λ m. P o m other) same there)
+  one_of_layers o print other (designs.of_content content is here) (designs.of_fault faulty is_too told) found found_too =
+      absurd (let e : Ok content ≡ Err faulty = sym is ∙ is_too in cc)
+  one_of_layers o print other (designs.of_fault faulty is told) (designs.of_content content is_too there) found found_too =
+      absurd (let e : Ok content ≡ Err faulty = sym is_too ∙ is in cc)
+  one_of_layers o print other (designs.of_fault faulty is told) (designs.of_fault bad is_too told_too) found found_too =
+      let e : Err faulty ≡ Err bad = sym is ∙ is_too in
+      let same : faulty ≡ bad = cc in
+      told ∙ ap (faulty_layer_printout layers) same ∙ sym told_too
+
+pub one_design : (name : Name) (o : Office) (content : Content) (print other : PrintoutOrFault) → IsPrintOfDesign name o content print
+    → IsPrintOfDesign name o content other
+    → print ≡ other
+one_design name o content print other (designs.of_design text none made is) (designs.of_design text_too none_too made_too is_too) =
+    is ∙ ap text_print (made.bytes ∙ sym made_too.bytes) ∙ sym is_too
+one_design name o content print other (designs.of_design text none made is) (designs.of_refusal reply refused is_too) =
+    absurd (let e : None ≡ Some reply = sym none ∙ refused in cc)
+one_design name o content print other (designs.of_refusal reply refused is) (designs.of_design text none made is_too) =
+    absurd (let e : None ≡ Some reply = sym none ∙ refused in cc)
+one_design name o content print other (designs.of_refusal reply refused is) (designs.of_refusal answer refused_too is_too) =
+    let e : Some reply ≡ Some answer = sym refused ∙ refused_too in
+    let same : reply ≡ answer = cc in
+    is ∙ ap (refusal_print o.schema) same ∙ sym is_too
+
+pub one_design_script : (name : Name) (o : Office) (content : Content) (print other : PrintoutOrFault) → IsPrintOfScript name o content print
+    → IsPrintOfScript name o content other
+    → print ≡ other
+one_design_script name o content print other (designs.of_script text none made is) (designs.of_script text_too none_too made_too is_too) =
+    is ∙ ap text_print (made.bytes ∙ sym made_too.bytes) ∙ sym is_too
+one_design_script name o content print other (designs.of_script text none made is) (designs.of_refused_script reply refused is_too) =
+    absurd (let e : None ≡ Some reply = sym none ∙ refused in cc)
+one_design_script name o content print other (designs.of_refused_script reply refused is) (designs.of_script text none made is_too) =
+    absurd (let e : None ≡ Some reply = sym none ∙ refused in cc)
+one_design_script name o content print other (designs.of_refused_script reply refused is) (designs.of_refused_script answer refused_too is_too) =
+    let e : Some reply ≡ Some answer = sym refused ∙ refused_too in
+    let same : reply ≡ answer = cc in
+    is ∙ ap (refusal_print o.schema) same ∙ sym is_too
+
+pub one_live : (o : Office) (content : Content) (print other : PrintoutOrFault) → IsPrintOfLive o content print → IsPrintOfLive o content other → print ≡ other
+one_live o content print other (designs.of_live text none made is) (designs.of_live text_too none_too made_too is_too) =
+    is ∙ ap text_print (made.bytes ∙ sym made_too.bytes) ∙ sym is_too
+one_live o content print other (designs.of_live text none made is) (designs.of_broken need broken is_too) =
+    absurd (let e : None ≡ Some need = sym none ∙ broken in cc)
+one_live o content print other (designs.of_broken need broken is) (designs.of_live text none made is_too) =
+    absurd (let e : None ≡ Some need = sym none ∙ broken in cc)
+one_live o content print other (designs.of_broken need broken is) (designs.of_broken want broken_too is_too) =
+    let e : Some need ≡ Some want = sym broken ∙ broken_too in
+    let same : need ≡ want = cc in
+    is ∙ ap (λ n. refusal_print o.schema (RuleBroken n)) same ∙ sym is_too

@@ -1,0 +1,70 @@
+-- What is asked of texts has one answer alone.
+use Rattle.std.proofs.Common.{◌≡◌, ◌∙◌, ◌||◌, ◌∷◌, Bool, true, false, List, ℕ, sym}
+use Rattle.std.specs.List.{list_any}
+use Rattle.std.proofs.lemmas.Bool.{false≢true}
+use Rattle.clr_check.specs.Cases.{case_of}
+use Rattle.clr_drafts.specs.Drafts.{draft_in}
+use Rattle.clr_office.specs.Answers.{is_too_long}
+use Rattle.clr_layer_changes.specs.declared.options.GivenLayer.{GivenLayer}
+use Rattle.clr_desk_command_line.specs.declared.asks.Ask.{Ask}
+use Rattle.clr_desk_command_line.specs.declared.asks.Ask.TheVariants as ask
+use Rattle.clr_desk_command_line.specs.declared.asks.GeographicAsk.{GeographicAsk}
+use Rattle.clr_desk_command_line.specs.declared.asks.GeographicAsk.TheVariants as geographic
+use Rattle.clr_prints.specs.Designs.{IsDesignPrint, IsDesignScriptPrint, IsOfficePrint, IsPrintOfDesign, IsPrintOfLive, IsPrintOfScript}
+use Rattle.clr_prints.specs.Members.{set_asked}
+use Rattle.clr_prints.specs.NameHints.{IsHinted}
+use Rattle.clr_prints.specs.Printing.{PrintoutOrFault}
+use Rattle.clr_desk.specs.Answers.{IsDeskAnswerIf, IsDeskAnswerTo, IsDeskAnswerWithin, is_too_long_layer}
+use Rattle.clr_desk.specs.Certificates.{IsCertificatePrint}
+use Rattle.clr_desk.specs.Checks.{IsCheckPrint}
+use Rattle.clr_desk.specs.Choices.{IsChoicePrint}
+use Rattle.clr_desk.specs.Formats.{IsFormatPrint}
+use Rattle.clr_desk.specs.Geographic.{IsGeographicAnswer, options_of}
+use Rattle.clr_desk.specs.Merges.{IsHintedMerge, IsMergePrintout}
+use Rattle.clr_desk.specs.OneAnswer.{IsOnePrint, OneDeskAnswerLaw, is_whole, is_whole_layer}
+use Rattle.clr_desk.proofs.OneAnswer.{one_check_print, one_design, one_design_script, one_format_print, one_live, one_merge_print, one_of_layers, one_plan_print}
+use Rattle.clr_desk.proofs.OneChoice.{one_choice_print}
+use Rattle.clr_desk.proofs.OnePrint.{one_hinted, one_in, one_of_case}
+
+one_geographic : (asked : GeographicAsk) (office : List ℕ) (layers : List GivenLayer) → is_whole_layer asked ≡ true
+    → IsOnePrint (IsGeographicAnswer asked office layers)
+one_geographic (geographic.Features root names system) office layers whole = absurd (false≢true whole)
+one_geographic (geographic.Layer table workspace) office layers whole = absurd (false≢true whole)
+one_geographic (geographic.Office tables rounded) office layers whole =
+    one_in (IsOfficePrint (options_of 1 rounded) layers) (λ o. one_of_layers (options_of 1 rounded) layers IsPrintOfLive one_live o) (draft_in office)
+one_geographic (geographic.Design design) office layers whole =
+    let options = options_of design.first_key design.is_rounded in
+    one_in (IsDesignPrint design.name options layers) (λ o. one_of_layers options layers (IsPrintOfDesign design.name) (one_design design.name) o) (draft_in office)
+one_geographic (geographic.DesignScript design) office layers whole =
+    let options = options_of design.first_key design.is_rounded in
+    one_in (IsDesignScriptPrint design.name options layers)
+    (λ o. one_of_layers options layers (IsPrintOfScript design.name) (one_design_script design.name) o) (draft_in office)
+
+one_within : (asked : Ask) (office second : List ℕ) (layers : List GivenLayer) → is_whole asked ≡ true
+    → IsOnePrint (IsDeskAnswerWithin asked office second layers)
+one_within (ask.Certificate root names) office second layers whole =
+    one_in (IsHinted (IsCertificatePrint root names) (root ∷ names))
+    (λ o. one_hinted (IsCertificatePrint root names) (root ∷ names) o (one_plan_print o (set_asked o root names))) (draft_in office)
+one_within ask.Check office certificate layers whole = one_of_case IsCheckPrint one_check_print (case_of office certificate)
+one_within (ask.Merge names) office certificate layers whole =
+    one_of_case (IsHintedMerge names)
+    (λ o c. one_hinted (λ read. IsMergePrintout names read c) (c.root ∷ names) o (one_merge_print o c names)) (case_of office certificate)
+one_within ask.Format office second layers whole = one_in IsFormatPrint one_format_print (draft_in office)
+one_within (ask.Keep root names) office second layers whole =
+    one_in (IsHinted (IsChoicePrint root names) (root ∷ names))
+    (λ o. one_hinted (IsChoicePrint root names) (root ∷ names) o (one_choice_print o root names)) (draft_in office)
+one_within (ask.Clashes root names) office second layers whole = absurd (false≢true whole)
+one_within (ask.Why kind) office second layers whole = absurd (false≢true whole)
+one_within (ask.WorkOrder root names) office second layers whole = absurd (false≢true whole)
+one_within (ask.Map root names) office second layers whole = absurd (false≢true whole)
+one_within (ask.Report root names) office second layers whole = absurd (false≢true whole)
+one_within (ask.Geographic asked) office second layers whole = one_geographic asked office layers whole
+
+one_if : (too_long : Bool) (asked : Ask) (office second : List ℕ) (layers : List GivenLayer) → is_whole asked ≡ true
+    → IsOnePrint (IsDeskAnswerIf too_long asked office second layers)
+one_if true asked office second layers whole print other one two found found_too = one ∙ sym two
+one_if false asked office second layers whole = one_within asked office second layers whole
+
+pub one_desk_answer : OneDeskAnswerLaw
+one_desk_answer asked office second layers whole =
+    one_if (is_too_long office || is_too_long second || list_any is_too_long_layer layers) asked office second layers whole

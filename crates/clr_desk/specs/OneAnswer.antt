@@ -1,0 +1,39 @@
+-- Most of what is asked of texts is answered in one way alone, memory aside.
+use Rattle.std.specs.Prelude.{◌≡◌, ◌≢◌, ℕ, Bool, true, false, List, Ok, Err}
+use Rattle.clr_desk_command_line.specs.declared.asks.Ask.{Ask}
+use Rattle.clr_desk_command_line.specs.declared.asks.Ask.TheVariants as ask
+use Rattle.clr_desk_command_line.specs.declared.asks.GeographicAsk.{GeographicAsk}
+use Rattle.clr_desk_command_line.specs.declared.asks.GeographicAsk.TheVariants as geographic
+use Rattle.clr_layer_changes.specs.declared.options.GivenLayer.{GivenLayer}
+use Rattle.clr_prints.specs.Printing.{PrintoutOrFault}
+use Rattle.clr_desk.specs.Answers.{IsDeskAnswerTo}
+
+-- what is asked has an answer that its definition tells whole; of clashes, faults, sentences, pictures, pages, features and layers it leaves
+-- something open
+abbrev pub is_whole_layer : GeographicAsk → Bool
+is_whole_layer (geographic.Features root names system) = false
+is_whole_layer (geographic.Layer table workspace) = false
+is_whole_layer _ = true
+
+abbrev pub is_whole : Ask → Bool
+is_whole (ask.Clashes root names) = false
+is_whole (ask.Why kind) = false
+is_whole (ask.WorkOrder root names) = false
+is_whole (ask.Map root names) = false
+is_whole (ask.Report root names) = false
+is_whole (ask.Geographic asked) = is_whole_layer asked
+is_whole _ = true
+
+-- no plan, verdict or merge found no memory: the status isn't the one that says so
+abbrev pub FoundMemory : PrintoutOrFault → Type 0
+FoundMemory (Ok print) = print.status ≢ 3
+FoundMemory (Err e) = Unit {0}
+
+-- two answers of this kind are the same
+abbrev pub IsOnePrint : (PrintoutOrFault → Type 0) → Type 0
+IsOnePrint IsPrint = (print other : PrintoutOrFault) → IsPrint print → IsPrint other → FoundMemory print → FoundMemory other → print ≡ other
+
+-- two answers to what is asked of the same texts have one text, the same notes and one status, or one fault
+abbrev pub OneDeskAnswerLaw : Type 0
+OneDeskAnswerLaw = (asked : Ask) (office second : List ℕ) (layers : List GivenLayer) → is_whole asked ≡ true
+    → IsOnePrint (IsDeskAnswerTo asked office second layers)

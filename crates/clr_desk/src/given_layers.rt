@@ -1,0 +1,63 @@
+//! The layers that are asked for, each with its text.
+ghost use Rattle.std.specs.Prelude.{◌≡◌, [], map, slice_get, IfOk};
+ghost use Rattle.std.specs.List.{zip};
+ghost use Rattle.clr_desk.specs.GivenLayers.{pair_of, pairs_in, tables_of};
+
+use clr_desk_command_line::{Ask, GeographicAsk};
+use clr_office::Words;
+use clr_prints::GivenLayer;
+use std::alloc::{AllocError, Global};
+
+/// Returns the tables of the layers that are asked for, in the order of their files.
+fn tables_of(ask: &Ask) -> &[Words]
+    ensures { result.now ≡ tables_of ask.now }
+{
+    match ask {
+        Ask::Geographic(GeographicAsk::Office(tables, _)) => tables.as_slice(),
+        Ask::Geographic(GeographicAsk::Design(design) | GeographicAsk::DesignScript(design)) => {
+            design.tables.as_slice()
+        }
+        _ => &[],
+    }
+}
+
+/// Returns tables with texts, each table with the text in its place.
+fn with_texts(
+    alloc: Global,
+    tables: &[Words],
+    texts: Vec<Vec<u8>>,
+) -> Result<Vec<GivenLayer>, AllocError>
+    ensures { IfOk result (λ layers. map pair_of layers.items ≡ zip tables.now (map (λ text. text.items) texts.items)) }
+{
+    let mut layers = Vec::new(alloc);
+    let mut texts = texts.into_iter();
+    for table in tables {
+        let Some(text) = texts.next() else {
+            return Ok(layers);
+        };
+        layers.push(GivenLayer {
+            table: table.copy()?,
+            text,
+        })?;
+    }
+    Ok(layers)
+}
+
+/// Takes the layers that are asked for out of texts, each with its table: the text of the first layer stands right behind that of the office,
+/// and the others follow in the order of their tables. The text of the office stays, and where no layer is asked for, all texts do.
+pub fn take_layers(
+    alloc: Global,
+    ask: &Ask,
+    texts: &mut Vec<Vec<u8>>,
+) -> Result<Vec<GivenLayer>, AllocError>
+    ensures layers { IfOk result (λ layers. map pair_of layers.items ≡ pairs_in ask.now (map (λ text. text.items) texts.old.items)) }
+    ensures office { slice_get texts.new.items 0 ≡ slice_get texts.old.items 0 }
+    ensures none { tables_of ask.now ≡ [] → texts.new ≡ texts.old }
+{
+    let tables = tables_of(ask);
+    if tables.is_empty() || texts.is_empty() {
+        return Ok(Vec::new(alloc));
+    }
+    let behind = texts.split_off(1)?;
+    with_texts(alloc, tables, behind)
+}
