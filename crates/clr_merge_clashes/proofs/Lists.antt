@@ -1,8 +1,8 @@
 -- Lists that a loop makes, one element after another.
-use Rattle.std.proofs.Common.{◌≡◌, ◌∙◌, ◌<◌, ◌≤◌, ◌+◌, ℕ, zero, suc, Bool, true, false, cond, List, [], ◌∷◌, ◌++◌, Bor, Option, Some, None}
-use Rattle.std.proofs.Common.{ap, ap₂, append-nil, arith, filter, get_or, length, map, refl, sym, take}
+use Rattle.std.proofs.Common.{◌≡◌, ◌∙◌, ◌<◌, ◌≤◌, ◌+◌, ℕ, zero, suc, Bool, false, cond, List, [], ◌∷◌, ◌++◌, Bor, Option, Some, None}
+use Rattle.std.proofs.Common.{ap, append-nil, arith, filter, get_or, length, map, refl, sym, take}
 use Rattle.std.specs.Prelude.{find, option_map, option_to_list, slice_get}
-use Rattle.std.specs.List.{cons_option, filter_map, flat_map, range_with_len}
+use Rattle.std.specs.List.{cons_option, filter_map, range_with_len}
 use Rattle.std.proofs.lemmas.List.{map-append, take_more}
 use Rattle.std.proofs.lemmas.List.Elements.{filter-append, filter_map-append}
 use Rattle.std.proofs.lemmas.Option.{slice_get-map, slice_get_past, slice_get_read}
