@@ -1,2 +1,6 @@
+pub mod FreeKeys
+pub mod KeyLemmas
+pub mod RemedyLemmas
 pub mod Savepoints
+pub mod SentenceLemmas
 pub mod TrialLemmas

@@ -1,14 +1,15 @@
 //! Remedies that are tried, each by itself, on the opened office.
 
-ghost use Rattle.std.specs.Prelude.{◌≡◌, ◌<◌, ◌∷◌, [], All, length, map, remove, IfOk, IfSome, OnOk};
+ghost use Rattle.std.specs.Prelude.{◌≡◌, ◌<◌, ◌∷◌, [], length, map, remove, IfOk, OnOk};
 ghost use Rattle.clr_steps.specs.declared.commands.Command.TheVariants as command;
-ghost use Rattle.clr_steps.specs.Offices.{Office as Whole};
 ghost use Rattle.clr_merge_sets.specs.MergeSetNames.{merge_set};
 ghost use Rattle.clr_words.specs.declared.trials.TheConstants.{BEFORE_TRIAL as SAVEPOINT};
-ghost use Rattle.clr_words.specs.Making.{AddsTrial, IsBack, IsDone, IsEditJudged};
-ghost use Rattle.clr_words.specs.Trials.{IsEdited, IsTrial, IsTrialAnswer, TellsIfCleared};
+ghost use Rattle.clr_words.specs.Actions.{action_text};
+ghost use Rattle.clr_words.specs.Making.{AddsTrial, IsActionTried, IsBack, IsDone, IsEditJudged, IsEditTried};
+ghost use Rattle.clr_words.specs.Trials.{AreTrials, AreTrialsOf, TellsIfCleared};
 
-use crate::remedies::{Action, Remedy, plan_remedies};
+use crate::actions::{Action, action_words, copy_action, copy_edit};
+use crate::remedies::plan_remedies;
 use clr_change::{Edit, Edits};
 use clr_engine::Office;
 use clr_plan::{Plan, plan};
@@ -23,6 +24,7 @@ pub(crate) const BEFORE_TRIAL: &str = "before_trial";
 #[derive(Debug, Drop)]
 pub struct Trial {
     pub words: Words,
+    pub action: Action,
     pub is_cleared: bool,
 }
 
@@ -66,11 +68,11 @@ fn set_savepoint(alloc: Global, office: &mut Office, ws: &str) -> Result<bool, A
 }
 
 /// Makes an edit in a workspace, or answers that it can't be made.
-fn make_edit(alloc: Global, office: &mut Office, ws: &str, edit: Edit) -> Result<bool, AllocError>
-    ensures { IfOk result (λ done. IsDone office.old (command.Apply ws.now (edit ∷ [])) done office.new) }
+fn make_edit(alloc: Global, office: &mut Office, ws: &str, edit: &Edit) -> Result<bool, AllocError>
+    ensures { IfOk result (λ done. IsDone office.old (command.Apply ws.now (edit.now ∷ [])) done office.new) }
 {
     let mut edits = Vec::new(alloc);
-    edits.push(edit)?;
+    edits.push(copy_edit(edit)?)?;
     let command = Command::Apply {
         ws: Words::from_str(alloc, ws)?,
         edits: Edits::new(edits),
@@ -121,9 +123,9 @@ fn judge_edit(
     root: &str,
     names: &[&str],
     ws: &str,
-    edit: Edit,
+    edit: &Edit,
 ) -> Result<Option<bool>, AllocError>
-    ensures { IfOk result (λ told. IsEditJudged office.old ws.now edit (merge_set root.now (map (λ name. name.now) names.now)) told office.new) }
+    ensures { IfOk result (λ told. IsEditJudged office.old ws.now edit.now (merge_set root.now (map (λ name. name.now) names.now)) told office.new) }
 {
     if !make_edit(alloc, office, ws, edit)? {
         return Ok(None);
@@ -140,10 +142,9 @@ fn try_edit(
     root: &str,
     names: &[&str],
     ws: &str,
-    edit: Edit,
+    edit: &Edit,
 ) -> Result<Option<bool>, AllocError>
-    ensures told { IfOk result (λ told. IfSome told (λ cleared. (next : Whole)
-        × IsEdited office.old ws.now edit next × TellsIfCleared next (merge_set root.now (map (λ name. name.now) names.now)) cleared)) }
+    ensures told { IfOk result (IsEditTried office.old ws.now edit.now (merge_set root.now (map (λ name. name.now) names.now))) }
     ensures back { IfOk result (λ told. office.new ≡ office.old) }
 {
     let _sound = office.len();
@@ -176,59 +177,79 @@ fn try_action(
     office: &mut Office,
     root: &str,
     names: &[&str],
-    action: Action,
+    action: &Action,
 ) -> Result<Option<bool>, AllocError>
-    ensures told { IfOk result (λ told. IfSome told (IsTrialAnswer office.old (merge_set root.now (map (λ name. name.now) names.now)) action)) }
+    ensures told { IfOk result (IsActionTried office.old (merge_set root.now (map (λ name. name.now) names.now)) action.now) }
     ensures back { IfOk result (λ told. office.new ≡ office.old) }
 {
     match action {
-        Action::LeaveOut(member) if member < names.len() => {
-            let rest = names_without(alloc, names, member)?;
+        Action::LeaveOut(member) if *member < names.len() => {
+            let rest = names_without(alloc, names, *member)?;
             let is_cleared = are_cleared(alloc, office, root, rest.as_slice())?;
             Ok(Some(is_cleared))
         }
         Action::LeaveOut(_) => Ok(None),
-        Action::Make(member, edit) => match names.get(member) {
+        Action::Make(member, edit) => match names.get(*member) {
             Some(ws) => try_edit(alloc, office, root, names, ws, edit),
             None => Ok(None),
         },
     }
 }
 
-/// Tries a remedy, and adds what is told of it, if it can be tried. The office is as before, unless memory runs out.
+/// Returns the trial of an action with this answer.
+fn trial_of(
+    alloc: Global,
+    office: &Office,
+    names: &[&str],
+    action: &Action,
+    is_cleared: bool,
+) -> Result<Trial, AllocError>
+    ensures words { IfOk result (λ trial. trial.words ≡ action_text office.now.schema (map (λ name. name.now) names.now) action.now) }
+    ensures action { IfOk result (λ trial. trial.action ≡ action.now) }
+    ensures cleared { IfOk result (λ trial. trial.is_cleared ≡ is_cleared) }
+{
+    Ok(Trial {
+        words: action_words(alloc, office.schema(), names, action)?,
+        action: copy_action(action)?,
+        is_cleared,
+    })
+}
+
+/// Tries an action, and adds what is told of it, if it can be tried. The office is as before, unless memory runs out.
 fn add_trial(
     alloc: Global,
     office: &mut Office,
     root: &str,
     names: &[&str],
-    remedy: Remedy,
+    action: &Action,
     trials: &mut Vec<Trial>,
 ) -> Result<(), AllocError>
-    ensures added { OnOk result (AddsTrial office.old (merge_set root.now (map (λ name. name.now) names.now)) trials.old.items trials.new.items) }
+    ensures added { OnOk result (AddsTrial office.old (merge_set root.now (map (λ name. name.now) names.now)) action.now trials.old.items trials.new.items) }
     ensures back { OnOk result (office.new ≡ office.old) }
 {
-    let Remedy { words, action } = remedy;
     match try_action(alloc, office, root, names, action)? {
-        Some(is_cleared) => Ok(trials.push(Trial { words, is_cleared })?),
+        Some(is_cleared) => {
+            Ok(trials.push(trial_of(alloc, office, names, action, is_cleared)?)?)
+        }
         None => Ok(()),
     }
 }
 
-/// Tries remedies, one after another. The office is as before, but where it fails, which is for want of
+/// Tries actions, one after another. The office is as before, but where it fails, which is for want of
 /// memory.
 fn try_all(
     alloc: Global,
     office: &mut Office,
     root: &str,
     names: &[&str],
-    remedies: Vec<Remedy>,
+    actions: &[Action],
 ) -> Result<Vec<Trial>, AllocError>
-    ensures tried { IfOk result (λ trials. All (IsTrial office.old (merge_set root.now (map (λ name. name.now) names.now))) trials.items) }
+    ensures tried { IfOk result (λ trials. AreTrials office.old (merge_set root.now (map (λ name. name.now) names.now)) actions.now trials.items) }
     ensures back { IfOk result (λ trials. office.new ≡ office.old) }
 {
     let mut trials = Vec::new(alloc);
-    for remedy in remedies {
-        add_trial(alloc, office, root, names, remedy, &mut trials)?;
+    for action in actions {
+        add_trial(alloc, office, root, names, action, &mut trials)?;
     }
     Ok(trials)
 }
@@ -244,9 +265,9 @@ pub fn try_remedies(
     names: &[&str],
     plan: &Plan,
 ) -> Result<Vec<Trial>, AllocError>
-    ensures tried { IfOk result (λ trials. All (IsTrial office.old (merge_set root.now (map (λ name. name.now) names.now))) trials.items) }
+    ensures tried { IfOk result (λ trials. AreTrialsOf office.old (merge_set root.now (map (λ name. name.now) names.now)) plan.now trials.items) }
     ensures back { IfOk result (λ trials. office.new ≡ office.old) }
 {
-    let remedies = plan_remedies(alloc, office, root, names, plan)?;
-    try_all(alloc, office, root, names, remedies)
+    let actions = plan_remedies(alloc, office, root, names, plan)?;
+    try_all(alloc, office, root, names, actions.as_slice())
 }

@@ -1,11 +1,11 @@
 use Rattle.std.proofs.Common.{◌≡◌, ◌∙◌, Some, ap, length, map, refl, subst, sym}
-use Rattle.std.specs.Prelude.{IfOk, IfSome, slice_get}
+use Rattle.std.specs.Prelude.{IfOk, slice_get}
 use Rattle.std.specs.Option.{option_map}
 use Rattle.std.proofs.lemmas.Option.{slice_get-map, slice_get_read}
 use Rattle.std.proofs.lemmas.Result.{IfOk-weaker}
 use Rattle.clr_merge_sets.specs.MergeSetNames.{merge_set}
-use Rattle.clr_words.specs.declared.remedies.Action.{Action}
-use Rattle.clr_words.specs.Trials.{IsTrialAnswer}
+use Rattle.clr_words.specs.declared.actions.Action.{Action}
+use Rattle.clr_words.specs.Making.{IsActionTried}
 use Rattle.clr_words.proofs.TrialLemmas.{told_as}
 use Rattle.clr_words.proofs.trials.try_action.Goals as goal
 
@@ -19,5 +19,5 @@ returns-in-Some-clause-told c =
     item in
     let named : slice_get (map (λ name. name.now) names) c.in-Make.member ≡ Some c.in-Some.ws.now.now =
     slice_get-map (λ name. name.now) names c.in-Make.member ∙ ap (option_map (λ name. name.now)) there in
-    subst (λ (action : Action). IfOk c.try_edit.result (λ told. IfSome told (IsTrialAnswer o s action))) (sym c.in-Make.is)
+    subst (λ (action : Action). IfOk c.try_edit.result (IsActionTried o s action)) (sym c.in-Make.is)
     (IfOk-weaker c.try_edit.result _ _ (told_as o s c.in-Make.member c.in-Make.edit c.in-Some.ws.now.now named) c.try_edit.ensures.told)

@@ -13,7 +13,7 @@ returns-clause-told c =
     let saved = c.set_savepoint.new.office in
     let set : c.in_ok-set_savepoint.field-0 ≡ true = search rules in
     let mark = subst (λ (done : Bool). IsDone o (command.Mark ws (codes "before_trial")) done saved) set c.in_ok-set_savepoint.ensures in
-    told_of o saved c.judge_edit.new.office ws (codes "before_trial") c.args.edit s c.in_ok-told.told mark c.in_ok-told.ensures
+    told_of o saved c.judge_edit.new.office ws c.args.edit.now s c.in_ok-told.told mark c.in_ok-told.ensures
 
 pub returns-clause-back : goal.returns-clause-back
 returns-clause-back c =
@@ -23,5 +23,5 @@ returns-clause-back c =
     let saved = c.set_savepoint.new.office in
     let set : c.in_ok-set_savepoint.field-0 ≡ true = search rules in
     let mark = subst (λ (done : Bool). IsDone o (command.Mark ws (codes "before_trial")) done saved) set c.in_ok-set_savepoint.ensures in
-    back_to o saved c.judge_edit.new.office c.go_back.new.office ws (codes "before_trial") c.args.edit s c.in_ok-told.told c.len-sound.ensures.sound mark
+    back_to o saved c.judge_edit.new.office c.go_back.new.office ws (codes "before_trial") c.args.edit.now s c.in_ok-told.told c.len-sound.ensures.sound mark
     c.in_ok-told.ensures c.in_ok-go_back.ensures
