@@ -1,5 +1,5 @@
 -- The designs that a plan is about, and what each changes.
-use Rattle.std.specs.Prelude.{ℕ, ◌==◌, Bool, List, [], ◌∷◌, ◌++◌, flat_map, length, position, take, Option, Some, None, slice_get, unwrap_or, if◌then◌else◌}
+use Rattle.std.specs.Prelude.{ℕ, ◌==◌, Bool, List, [], ◌∷◌, ◌++◌, flat_map, position, take, Option, Some, None, slice_get, unwrap_or, if◌then◌else◌}
 use Rattle.std.specs.FinMap as finite
 use Rattle.std.specs.List.{list_any, range_with_len}
 use Rattle.std.specs.Option.{option_and_then}
@@ -8,8 +8,6 @@ use Rattle.clr_rows.specs.declared.cells.Change.{Change}
 use Rattle.clr_rows.specs.Contents.{Changes}
 use Rattle.clr_needs.specs.Members.{after_of, positions}
 use Rattle.clr_needs.specs.Settings.{first_changer}
-use Rattle.clr_drawing.specs.declared.palette.DesignColours.{DesignColours}
-use Rattle.clr_drawing.specs.Palette.{colours_of}
 use Rattle.clr_plan_words.specs.declared.changes.Counts.{Counts}
 use Rattle.clr_plan_words.specs.Counts.{counts_of}
 use Rattle.clr_plan_scenes.specs.declared.designs.Designs.{Designs}

@@ -1,2 +1,3 @@
+pub mod Badges
 pub mod Causes
 pub mod Designs

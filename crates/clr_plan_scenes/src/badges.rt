@@ -1,10 +1,24 @@
 //! The few words beside the place of a cause.
 
+ghost use Rattle.std.specs.Prelude.{◌≡◌, ◌++◌, IfOk, OnOk, codes, string_bytes};
+ghost use Rattle.std.specs.List.{flat_map};
+ghost use Rattle.clr_plan_scenes.specs.Badges.{badge_words, column_name, is_between, same_words, server_words};
+
 use crate::causes::Mark;
 use clr_rows::Schema;
-use clr_rules::{Col, ColumnList, Rule};
+use clr_rules::{Col, Rule};
 use clr_wording::Metres;
 use std::alloc::{AllocError, Global};
+
+/// Returns whether a ring marks a place where no row can stand.
+fn is_between(mark: Mark) -> bool
+    ensures { result ≡ is_between mark }
+{
+    match mark {
+        Mark::Ring(ring) => !ring.is_whole,
+        Mark::Link | Mark::Near(_) | Mark::Nothing => false,
+    }
+}
 
 /// Returns the few words for a server that is missing.
 fn badge_of_server(
@@ -12,35 +26,59 @@ fn badge_of_server(
     server: &str,
     mark: Mark,
     goers: usize,
-) -> Result<String, AllocError> {
+) -> Result<String, AllocError>
+    ensures { IfOk result (λ text. string_bytes text ≡ server_words server.now mark goers) }
+{
     if goers > 1 {
         return format!(in alloc; "all its {server}s go");
     }
     if goers == 1 {
         return format!(in alloc; "its {server} goes");
     }
-    match mark {
-        Mark::Ring(ring) if !ring.is_whole => format!(in alloc; "no {server} can stand here"),
-        _ => format!(in alloc; "no {server} here"),
+    if is_between(mark) {
+        return format!(in alloc; "no {server} can stand here");
     }
+    format!(in alloc; "no {server} here")
 }
 
-/// Adds the names of columns of a table, with commas between them.
-fn add_columns(
+/// Adds the names of columns of a table, each behind a comma.
+fn add_others(
     text: &mut String,
     schema: &Schema,
     table: u16,
-    columns: &ColumnList,
-) -> Result<(), AllocError> {
-    for (at, column) in columns.as_slice().iter().enumerate() {
-        text.push_str(if at == 0 { "the same " } else { ", " })?;
+    columns: &[Col],
+) -> Result<(), AllocError>
+    ensures { OnOk result (string_bytes text.new
+        ≡ string_bytes text.old ++ flat_map (λ other. codes ", " ++ column_name schema.now table other) columns.now) }
+{
+    for column in columns {
+        text.push_str(", ")?;
         text.push_str(column_name(schema, table, *column))?;
     }
     Ok(())
 }
 
+/// Adds the names of columns of a table that rows have in common.
+fn add_columns(
+    text: &mut String,
+    schema: &Schema,
+    table: u16,
+    columns: &[Col],
+) -> Result<(), AllocError>
+    ensures { OnOk result (string_bytes text.new ≡ string_bytes text.old ++ same_words schema.now table columns.now) }
+{
+    let [first, others @ ..] = columns else {
+        return Ok(());
+    };
+    text.push_str("the same ")?;
+    text.push_str(column_name(schema, table, *first))?;
+    add_others(text, schema, table, others)
+}
+
 /// Returns the name of a column, or no bytes where there is none.
-fn column_name<'a>(schema: &'a Schema, table: u16, column: Col) -> &'a str {
+fn column_name<'a>(schema: &'a Schema, table: u16, column: Col) -> &'a str
+    ensures { result.now ≡ column_name schema.now table column }
+{
     let Col::At(at) = column else {
         return "KEY";
     };
@@ -60,11 +98,13 @@ pub(crate) fn badge_of_need(
     rule: &Rule,
     mark: Mark,
     goers: usize,
-) -> Result<String, AllocError> {
+) -> Result<String, AllocError>
+    ensures { IfOk result (λ text. string_bytes text ≡ badge_words schema.now rule.now mark goers) }
+{
     match rule {
         Rule::Unique { subject, columns } => {
             let mut text = String::new(alloc);
-            add_columns(&mut text, schema, subject.table, columns)?;
+            add_columns(&mut text, schema, subject.table, columns.as_slice())?;
             Ok(text)
         }
         Rule::Partner { server, .. } if goers == 0 => {

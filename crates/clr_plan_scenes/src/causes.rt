@@ -1,20 +1,27 @@
 //! What a cause is about: its rows, where they fail, and the few words that say why.
 
-ghost use Rattle.std.specs.Prelude.{◌≡◌, ◌++◌, IfOk, OnOk};
+ghost use Rattle.std.specs.Prelude.{◌≡◌, ◌++◌, ◌∷◌, [], IfOk, OnOk, string_bytes};
+ghost use Rattle.std.specs.Fmt.{signed_decimal};
 ghost use Rattle.std.specs.Option.{option_copied};
-ghost use Rattle.clr_plan_scenes.specs.Causes.{contested_rows, goer_of, goers_among, owner_of, row_of_design, shown_row};
+ghost use Rattle.clr_clearance.specs.MergeSets.{change_sets};
+ghost use Rattle.clr_steps.specs.Quiet.{MergeSet};
+ghost use Rattle.clr_plan_words.specs.NeedPlaces.{rule_in};
+ghost use Rattle.clr_plan_words.specs.Servers.{server_changes as changes_of_servers};
+ghost use Rattle.clr_plan_words.specs.Versions.{AreMembers};
+ghost use Rattle.clr_plan_scenes.specs.Causes.{contested_rows, goer_of, goers_among, middle_of_first, owner_of, ring_at, row_of_design, shown_row};
+ghost use Rattle.clr_plan_scenes.specs.Causes.{Finds, IsCauseOf, IsCauseUnder, IsCellCause, IsMark, IsRing, IsVerdictCause, conflict_words, shared_words};
+ghost use Rattle.clr_plan_scenes.specs.Causes.{subject_rows, version_rows};
 ghost use Rattle.clr_plan_scenes.specs.Designs.{sets_of};
 
 use crate::badges::badge_of_need;
 use crate::designs::Designs;
 use crate::fields::Field;
-use crate::places::{CausePlace, place_of_need};
+use crate::places::{CausePlace, middle_of_first, place_of_need};
 use clr_clearance::Verdict;
-use clr_drawing::middle_of;
 use clr_needs::{Need, VersionId};
 use clr_plan::Plan;
 use clr_plan_words::{ServerChange, Standing, rule_of, server_changes};
-use clr_rows::{CellId, Row};
+use clr_rows::{CellId, Row, Schema};
 use clr_rules::Rule;
 use std::alloc::{AllocError, Global};
 
@@ -66,7 +73,10 @@ fn add_version(
     rows: &mut Vec<CauseRow>,
     field: Field<'_>,
     version: VersionId,
-) -> Result<(), AllocError> {
+) -> Result<(), AllocError>
+    ensures { OnOk result ((s : MergeSet) → AreMembers field.entry.office.now s field.entry.designs.now.members
+        → rows.new.items ≡ rows.old.items ++ version_rows field.entry.office.now s version) }
+{
     let members = &field.designs.members;
     if let Some(row) = members.row_of(field.office, version) {
         rows.push(CauseRow {
@@ -79,7 +89,10 @@ fn add_version(
 }
 
 /// Returns the rows of the subjects of a need.
-fn subjects_of(field: Field<'_>, need: &Need) -> Result<Vec<CauseRow>, AllocError> {
+fn subjects_of(field: Field<'_>, need: &Need) -> Result<Vec<CauseRow>, AllocError>
+    ensures { IfOk result (λ rows. (s : MergeSet) → AreMembers field.entry.office.now s field.entry.designs.now.members
+        → rows.items ≡ subject_rows field.entry.office.now s need.now) }
+{
     let mut rows = Vec::new(field.alloc);
     add_version(&mut rows, field, need.first)?;
     if let Some(version) = need.second {
@@ -88,15 +101,35 @@ fn subjects_of(field: Field<'_>, need: &Need) -> Result<Vec<CauseRow>, AllocErro
     Ok(rows)
 }
 
+/// Returns a ring round a place, if there is one.
+fn ring_at(place: Option<CausePlace>) -> Mark
+    ensures { result ≡ ring_at place }
+{
+    match place {
+        Some(ring) => Mark::Ring(ring),
+        None => Mark::Nothing,
+    }
+}
+
+/// Returns a ring round the place of a need, if it has one.
+fn ring_of_need(field: Field<'_>, need: &Need, rows: &[CauseRow]) -> Mark
+    ensures { (s : MergeSet) → AreMembers field.entry.office.now s field.entry.designs.now.members
+        → IsRing field.entry.office.now s need.now rows.now result }
+{
+    ring_at(place_of_need(field, need, rows))
+}
+
 /// Returns how the place of a need under a rule is marked.
-fn mark_of(field: Field<'_>, rule: &Rule, need: &Need, rows: &[CauseRow]) -> Mark {
+fn mark_of(field: Field<'_>, rule: &Rule, need: &Need, rows: &[CauseRow]) -> Mark
+    ensures { (s : MergeSet) → AreMembers field.entry.office.now s field.entry.designs.now.members
+        → IsMark field.entry.office.now s need.now rule.now rows.now result }
+{
     match rule {
         Rule::Unique { .. } => Mark::Link,
         Rule::Near { d, .. } => Mark::Near(*d),
-        _ => match place_of_need(field, need, rows) {
-            Some(ring) => Mark::Ring(ring),
-            None => Mark::Nothing,
-        },
+        Rule::Partner { .. } | Rule::EndNode { .. } | Rule::Crossing { .. } => {
+            ring_of_need(field, need, rows)
+        }
     }
 }
 
@@ -138,20 +171,26 @@ fn goers_among(
 }
 
 /// Returns the rows that served a need and go with a design.
-fn goers_of(field: Field<'_>, need: &Need) -> Result<Vec<CauseRow>, AllocError> {
+fn goers_of(field: Field<'_>, need: &Need) -> Result<Vec<CauseRow>, AllocError>
+    ensures { IfOk result (λ goers. (s : MergeSet) → AreMembers field.entry.office.now s field.entry.designs.now.members
+        → goers.items ≡ goers_among (change_sets field.entry.office.now s) (changes_of_servers field.entry.office.now s need.now)) }
+{
     let changes = server_changes(field.alloc, field.office, &field.designs.members, need)?;
     goers_among(field.alloc, field.designs, changes.as_slice())
 }
 
 /// Returns a need that nothing covers.
-fn cause_of_need(field: Field<'_>, need: &Need) -> Result<Option<Cause>, AllocError> {
+fn cause_of_need(field: Field<'_>, need: &Need) -> Result<Option<Cause>, AllocError>
+    ensures { IfOk result (λ found. (s : MergeSet) → AreMembers field.entry.office.now s field.entry.designs.now.members
+        → IsCauseUnder field.entry.office.now s need.now (rule_in field.entry.office.now need.now) found) }
+{
     let Some(rule) = rule_of(field.office, need) else {
         return Ok(None);
     };
     let rows = subjects_of(field, need)?;
     let goers = goers_of(field, need)?;
     let mark = mark_of(field, rule, need, rows.as_slice());
-    let says = badge_of_need(field.alloc, field.schema, rule, mark, goers.len())?;
+    let says = badge_of_need(field.alloc, field.office.schema(), rule, mark, goers.len())?;
     Ok(Some(Cause {
         rows,
         goers,
@@ -206,29 +245,18 @@ fn contested_rows(
     Ok(rows)
 }
 
-/// Returns a ring round the middle of the first of these rows, where it has one.
-fn ring_round(rows: &[CauseRow]) -> Mark {
-    let Some(first) = rows.first() else {
-        return Mark::Nothing;
-    };
-    match middle_of(&first.row.shape) {
-        Some(place) => Mark::Ring(CausePlace {
-            place,
-            is_whole: true,
-        }),
-        None => Mark::Nothing,
-    }
-}
-
 /// Returns a cell at which designs meet one another or the root.
 fn cause_at_cell(
     field: Field<'_>,
     cell: CellId,
     members: &[usize],
     says: String,
-) -> Result<Option<Cause>, AllocError> {
+) -> Result<Option<Cause>, AllocError>
+    ensures { IfOk result (λ found. (s : MergeSet) → AreMembers field.entry.office.now s field.entry.designs.now.members
+        → Finds (IsCellCause field.entry.office.now s cell members.now (string_bytes says)) found) }
+{
     let rows = contested_rows(field.alloc, field.designs, cell, members)?;
-    let mark = ring_round(rows.as_slice());
+    let mark = ring_at(middle_of_first(rows.as_slice()));
     Ok(Some(Cause {
         rows,
         goers: Vec::new(field.alloc),
@@ -237,28 +265,87 @@ fn cause_at_cell(
     }))
 }
 
-/// Returns what the cause of a plan is about, or none where the plan has no cause.
-pub fn cause_of(field: Field<'_>, plan: &Plan) -> Result<Option<Cause>, AllocError> {
-    let Plan::Blocked { cause, .. } = plan else {
-        return Ok(None);
-    };
+/// Returns the few words for a cell that a design and the root both change.
+fn conflict_words(alloc: Global, root: &str) -> Result<String, AllocError>
+    ensures { IfOk result (λ text. string_bytes text ≡ conflict_words root.now) }
+{
+    format!(in alloc; "{root} changed too")
+}
+
+/// Returns the digits of a key.
+fn key_words(alloc: Global, key: i64) -> Result<String, AllocError>
+    ensures { IfOk result (λ text. string_bytes text ≡ signed_decimal key) }
+{
+    format!(in alloc; "{key}")
+}
+
+/// Returns the few words for a cell that two designs change.
+fn shared_words(alloc: Global, schema: &Schema, cell: CellId) -> Result<String, AllocError>
+    ensures { IfOk result (λ text. string_bytes text ≡ shared_words schema.now cell) }
+{
+    let key = key_words(alloc, cell.key)?;
+    let mut text = String::from_str(alloc, "both change ")?;
+    text.push_str(schema.name_of_table(cell.table))?;
+    text.push_str(" ")?;
+    text.push_str(key.as_str())?;
+    Ok(text)
+}
+
+/// Returns a cell that a design and the root both change.
+fn conflict_cause(
+    field: Field<'_>,
+    member: usize,
+    cell: CellId,
+) -> Result<Option<Cause>, AllocError>
+    ensures { IfOk result (λ found. (s : MergeSet) → AreMembers field.entry.office.now s field.entry.designs.now.members
+        → Finds (IsCellCause field.entry.office.now s cell (member ∷ []) (conflict_words s.root)) found) }
+{
+    let members = &field.designs.members;
+    let says = conflict_words(field.alloc, members.root)?;
+    let found = cause_at_cell(field, cell, &[member], says)?;
+    Ok(found)
+}
+
+/// Returns a cell that two designs change.
+fn shared_cause(
+    field: Field<'_>,
+    cell: CellId,
+    first: usize,
+    second: usize,
+) -> Result<Option<Cause>, AllocError>
+    ensures { IfOk result (λ found. (s : MergeSet) → AreMembers field.entry.office.now s field.entry.designs.now.members
+        → Finds (IsCellCause field.entry.office.now s cell (first ∷ second ∷ []) (shared_words field.entry.office.now.schema cell)) found) }
+{
+    let says = shared_words(field.alloc, field.office.schema(), cell)?;
+    let found = cause_at_cell(field, cell, &[first, second], says)?;
+    Ok(found)
+}
+
+/// Returns what the cause of a no is about, or none of a verdict that blocks nothing.
+fn cause_of_verdict(field: Field<'_>, cause: &Verdict) -> Result<Option<Cause>, AllocError>
+    ensures { IfOk result (λ found. (s : MergeSet) → AreMembers field.entry.office.now s field.entry.designs.now.members
+        → IsVerdictCause field.entry.office.now s cause.now found) }
+{
     match cause {
         Verdict::Uncovered(need) => cause_of_need(field, need),
-        Verdict::Conflict { member, cell, .. } => {
-            let root = field.root;
-            let says = format!(in field.alloc; "{root} changed too")?;
-            cause_at_cell(field, *cell, &[*member], says)
-        }
+        Verdict::Conflict { member, cell, .. } => conflict_cause(field, *member, *cell),
         Verdict::SharedCell {
             cell,
             first,
             second,
-        } => {
-            let table = field.schema.name_of_table(cell.table);
-            let key = cell.key;
-            let says = format!(in field.alloc; "both change {table} {key}")?;
-            cause_at_cell(field, *cell, &[*first, *second], says)
-        }
+        } => shared_cause(field, *cell, *first, *second),
         _ => Ok(None),
+    }
+}
+
+/// Returns what the cause of a plan is about, or none where the plan has no cause: the rows that it names, those that served a need and go, how
+/// its place is marked, and the few words that say why.
+pub fn cause_of(field: Field<'_>, plan: &Plan) -> Result<Option<Cause>, AllocError>
+    ensures { IfOk result (λ found. (s : MergeSet) → AreMembers field.entry.office.now s field.entry.designs.now.members
+        → IsCauseOf field.entry.office.now s plan.now found) }
+{
+    match plan {
+        Plan::Blocked { cause, .. } => cause_of_verdict(field, cause),
+        Plan::Unfit(_) | Plan::Cleared(_) | Plan::OutOfMemory => Ok(None),
     }
 }

@@ -3,8 +3,9 @@
 //!
 //! - `Designs`: exactly in which order designs are told (those that a cause names first), which these are, their names and colours, what each
 //!   changes at a cell and in all, and which is the first that changes a cell.
-//! - Each call is safe and ends, and no call fails while there is memory. Which rows a cause names, and which of them go, is told by `clr_plan_words`.
-//!   What is shown of them is tested by pictures.
+//! - `cause_of`: exactly the rows that a cause names, each with the design by which it stands, the rows that served a need and go, and the few words
+//!   that say why; and the place, where it is a whole millimetre. Where it is none, the place is near where the rows meet, which is tested.
+//! - Each call is safe and ends, and no call fails while there is memory. What `Scene` shows of it is tested by pictures.
 #![tactic(auto)]
 
 mod badges;

@@ -1,5 +1,10 @@
 //! Where a cause is: the place that the rule of a need asks for.
 
+ghost use Rattle.std.specs.Prelude.{◌≡◌};
+ghost use Rattle.clr_steps.specs.Quiet.{MergeSet};
+ghost use Rattle.clr_plan_words.specs.Versions.{AreMembers};
+ghost use Rattle.clr_plan_scenes.specs.Causes.{IsMeetingPlace, IsNear, IsNeedPlace, middle_of_first};
+
 use crate::causes::CauseRow;
 use crate::fields::Field;
 use clr_drawing::middle_of;
@@ -80,29 +85,45 @@ fn place_near(meeting: Meeting, need: &Need, rows: &[CauseRow]) -> Option<Place>
     }
 }
 
-/// Returns the middle of the first subject of a need whose rule asks for no place.
-fn middle_of_first(rows: &[CauseRow]) -> Option<CausePlace> {
+/// Returns the middle of the first of some rows, where it has one.
+pub(crate) fn middle_of_first(rows: &[CauseRow]) -> Option<CausePlace>
+    ensures { result ≡ middle_of_first rows.now }
+{
     Some(CausePlace {
         place: middle_of(&rows.first()?.row.shape)?,
         is_whole: true,
     })
 }
 
-/// Returns where a need with these subjects fails, or none where they have no place.
-pub(crate) fn place_of_need(
-    field: Field<'_>,
-    need: &Need,
-    rows: &[CauseRow],
-) -> Option<CausePlace> {
-    match need_place(field.office, &field.designs.members, need) {
+/// Returns a place near where the subjects of a need meet, at which no row can stand.
+fn ring_near(meeting: Meeting, need: &Need, rows: &[CauseRow]) -> Option<CausePlace>
+    ensures { IsNear result }
+{
+    Some(CausePlace {
+        place: place_near(meeting, need, rows)?,
+        is_whole: false,
+    })
+}
+
+/// Returns where rows of a need meet that are told to meet so.
+fn meeting_place(meeting: Meeting, need: &Need, rows: &[CauseRow]) -> Option<CausePlace>
+    ensures { IsMeetingPlace rows.now meeting result }
+{
+    match meeting {
         Meeting::Whole(place) => Some(CausePlace {
             place,
             is_whole: true,
         }),
         Meeting::Apart | Meeting::NoParts => middle_of_first(rows),
-        meeting => Some(CausePlace {
-            place: place_near(meeting, need, rows)?,
-            is_whole: false,
-        }),
+        Meeting::Between | Meeting::Overlap => ring_near(meeting, need, rows),
     }
+}
+
+/// Returns where a need with these subjects fails, or none where they have no place.
+pub(crate) fn place_of_need(field: Field<'_>, need: &Need, rows: &[CauseRow]) -> Option<CausePlace>
+    ensures { (s : MergeSet) → AreMembers field.entry.office.now s field.entry.designs.now.members
+        → IsNeedPlace field.entry.office.now s need.now rows.now result }
+{
+    let meeting = need_place(field.office, &field.designs.members, need);
+    meeting_place(meeting, need, rows)
 }
