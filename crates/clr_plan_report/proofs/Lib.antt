@@ -1,0 +1,3 @@
+mod ClashLemmas
+mod SectionLemmas
+mod TrialLemmas

@@ -1,1 +1,4 @@
+pub mod Clashes
+pub mod Reasons
 pub mod Reports
+pub mod Sections

@@ -1,5 +1,5 @@
 -- What the report of a plan tells.
-use Rattle.std.specs.Prelude.{◌≡◌, ℕ, List, [], ◌∷◌, ◌++◌, codes, if◌then◌else◌}
+use Rattle.std.specs.Prelude.{◌≡◌, ℕ, List, [], ◌∷◌, ◌++◌, true, All, codes, if◌then◌else◌}
 use Rattle.std.specs.Global.{Global}
 use Rattle.std.specs.List.{flat_map}
 use Rattle.std.specs.Str.{bytes_eq}
@@ -10,14 +10,21 @@ use Rattle.clr_workspaces.specs.Marks.{Name}
 use Rattle.clr_steps.specs.Offices.{Office}
 use Rattle.clr_steps.specs.Quiet.{MergeSet}
 use Rattle.clr_plan.specs.declared.plans.Plan.{Plan}
+use Rattle.clr_plan.specs.declared.plans.Plan.TheVariants as plan
 use Rattle.clr_plan.specs.PlanLines.{plan_text}
 use Rattle.clr_html.specs.declared.blocks.Block.{Block}
 use Rattle.clr_html.specs.declared.blocks.Block.TheVariants as block
 use Rattle.clr_html.specs.declared.blocks.Tone.{Tone}
+use Rattle.clr_html.specs.declared.blocks.Tone.TheVariants.{Good, Bad, Neither}
 use Rattle.clr_html.specs.declared.pages.Page.{Page}
 use Rattle.clr_html.specs.declared.pages.Section.{Section}
 use Rattle.clr_html.specs.Pages.{html_page_text}
+use Rattle.clr_html.specs.Words.{is_escaped}
+use Rattle.clr_words.specs.declared.trials.Trial.{Trial}
+use Rattle.clr_words.specs.Trials.{IsTrial}
 use Rattle.clr_plan_map.specs.Maps.{IsMap, plan_word}
+use Rattle.clr_plan_report.specs.Clashes.{AreDesigns}
+use Rattle.clr_plan_report.specs.Reasons.{IsWhy}
 use Rattle.clr_plan_report.specs.declared.feet.TheConstants.{PLAN, PLANUNDER}
 
 -- the command ----------------------------------------------------------------------------------
@@ -36,30 +43,52 @@ command_text members root = under_text root ++ flat_map word_text members ++ cod
 
 -- the page -------------------------------------------------------------------------------------
 
--- the first block of a section shows this word as a verdict, and the second this picture
-abbrev pub BeginsWith : Section → List ℕ → List ℕ → Type 0
-BeginsWith section word picture =
-    (tone : Tone) × (shown about drawn : Vec ℕ Global) × (section.blocks.items ≡ block.Verdict tone shown about ∷ block.Picture drawn ∷ [])
-    × (shown.items ≡ word) × (drawn.items ≡ picture)
+-- whether what a plan says is welcome
+abbrev pub plan_tone : Plan → Tone
+plan_tone (plan.Cleared c) = Good
+plan_tone (plan.Blocked order cause) = Bad
+plan_tone (plan.Unfit v) = Neither
+plan_tone plan.OutOfMemory = Neither
 
--- the last block of a section is these lines
+-- a section of two blocks: the first shows the word for what a plan says, in the tone of the plan, and the second this picture
+abbrev pub Begins : Plan → List ℕ → Section → Type 0
+Begins p picture section =
+    (shown about drawn : Vec ℕ Global)
+    × (section.blocks.items ≡ block.Verdict (plan_tone p) shown about ∷ block.Picture drawn ∷ [])
+    × (shown.items ≡ plan_word p) × (drawn.items ≡ picture)
+
+-- the last block of a section is these lines, and each text above is escaped
 abbrev pub EndsWith : Section → List ℕ → Type 0
 EndsWith section lines =
-    (above : List Block) × (last : Vec ℕ Global) × (section.blocks.items ≡ above ++ block.Lines last ∷ []) × (last.items ≡ lines)
+    (above : List Block) × (last : Vec ℕ Global) × All (λ b. is_escaped b ≡ true) above × (section.blocks.items ≡ above ++ block.Lines last ∷ [])
+    × (last.items ≡ lines)
 
--- a page that begins with the word for a plan and with a picture, and ends with the command and the lines of the plan
-pub record IsReportPage (tables : List TableDef) (members : List Name) (root : Name) (p : Plan) (picture : List ℕ) (page : Page) : Type 0 where
+-- why a plan says what it says, with these trials, and then the designs with their clashes; no verdict and no picture is among these
+pub record AreBetween (o : Office) (s : MergeSet) (p : Plan) (trials : List Trial) (sections : List Section) : Type 0 where
+  pub why : Section
+  pub designs : Section
+  pub whole : sections ≡ why ∷ designs ∷ []
+  pub reasons : IsWhy p trials why.blocks.items
+  pub told : AreDesigns o s designs.blocks.items
+
+-- a page that begins with the word for a plan and with a picture, and ends with the command and the lines of the plan; between are these sections
+pub record IsReportPage (tables : List TableDef) (s : MergeSet) (p : Plan) (picture : List ℕ) (between : List Section) (page : Page) : Type 0 where
   pub about : List ℕ
   pub head : Section
-  pub between : List Section
   pub foot : Section
   pub title : page.title.items ≡ plan_word p ++ codes ": " ++ about
   pub sections : page.sections.items ≡ head ∷ between ++ foot ∷ []
-  pub begins : BeginsWith head (plan_word p) picture
-  pub ends : EndsWith foot (command_text members root ++ plan_text tables members root p)
+  pub begins : Begins p picture head
+  pub ends : EndsWith foot (command_text s.members s.root ++ plan_text tables s.members s.root p)
 
 -- the text of such a page, whose picture is the map of the plan
-abbrev pub IsReport : Office → MergeSet → Plan → List ℕ → Type 0
-IsReport o s p text =
-    (picture : List ℕ) × (page : Page) × IsMap o.schema s.members s.root p picture × IsReportPage o.schema s.members s.root p picture page
-    × (text ≡ html_page_text page)
+pub record IsReport (o : Office) (s : MergeSet) (p : Plan) (text : List ℕ) : Type 0 where
+  pub picture : List ℕ
+  pub trials : List Trial
+  pub between : List Section
+  pub page : Page
+  pub map : IsMap o.schema s.members s.root p picture
+  pub tried : All (IsTrial o s) trials
+  pub told : AreBetween o s p trials between
+  pub shown : IsReportPage o.schema s p picture between page
+  pub written : text ≡ html_page_text page

@@ -1,5 +1,8 @@
 //! What each design changes.
 
+ghost use Rattle.std.specs.Prelude.{OnOk};
+ghost use Rattle.clr_plan_report.specs.Sections.{Adds, ArePlain};
+
 use crate::sections::{Builder, plain_text, row_of, table_of};
 use clr_change::ChangeSet;
 use clr_drawing::design_colours;
@@ -102,15 +105,30 @@ fn fold_of(
     })
 }
 
+/// Adds a design, with its rows folded.
+fn add_design(
+    section: &mut Builder,
+    setting: Setting<'_>,
+    leaders: &[usize],
+    at: usize,
+    set: &ChangeSet,
+) -> Result<(), AllocError>
+    ensures { OnOk result (Adds ArePlain section.old.blocks.items section.new.blocks.items) }
+{
+    let fold = fold_of(setting, leaders, at, set)?;
+    section.add(Block::Fold(fold))
+}
+
 /// Adds the designs, each with its rows folded; nothing where there are none.
 pub(crate) fn add_designs(
     section: &mut Builder,
     setting: Setting<'_>,
     leaders: &[usize],
-) -> Result<(), AllocError> {
-    section.add_heading("The designs")?;
+) -> Result<(), AllocError>
+    ensures { OnOk result (Adds ArePlain section.old.blocks.items section.new.blocks.items) }
+{
     for (at, set) in setting.members.changes.as_slice().iter().enumerate() {
-        section.add(Block::Fold(fold_of(setting, leaders, at, set)?))?;
+        add_design(section, setting, leaders, at, set)?;
     }
     Ok(())
 }

@@ -2,7 +2,7 @@
 
 ghost use Rattle.std.specs.Prelude.{◌≡◌, ◌++◌, codes, IfOk};
 ghost use Rattle.clr_plan_map.specs.Maps.{plan_word};
-ghost use Rattle.clr_plan_report.specs.Reports.{BeginsWith};
+ghost use Rattle.clr_plan_report.specs.Reports.{Begins, plan_tone};
 
 use clr_html::{Block, Section, Tone};
 use clr_plan::Plan;
@@ -11,7 +11,9 @@ use clr_wording::add_names;
 use std::alloc::{AllocError, Global};
 
 /// Returns whether what a plan says is welcome.
-fn plan_tone(plan: &Plan) -> Tone {
+fn plan_tone(plan: &Plan) -> Tone
+    ensures { result ≡ plan_tone plan.now }
+{
     match plan {
         Plan::Cleared(_) => Tone::Good,
         Plan::Blocked { .. } => Tone::Bad,
@@ -41,14 +43,14 @@ pub(crate) fn title_of(alloc: Global, plan: &Plan, about: &str) -> Result<Vec<u8
     Ok(title)
 }
 
-/// Returns the first section of a report: the word for what the plan says, what it is about, and a picture.
+/// Returns the first section of a report: the word for what the plan says, in its tone, what it is about, and a picture.
 pub(crate) fn head_of(
     alloc: Global,
     plan: &Plan,
     about: &str,
     picture: Vec<u8>,
 ) -> Result<Section, AllocError>
-    ensures { IfOk result (λ section. BeginsWith section (plan_word plan.now) picture.items) }
+    ensures { IfOk result (Begins plan.now picture.items) }
 {
     let word = Vec::from_slice(alloc, plan_word(plan).as_bytes())?;
     let about = Vec::from_slice(alloc, about.as_bytes())?;

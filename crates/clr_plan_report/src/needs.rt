@@ -1,5 +1,8 @@
 //! What serves each need that cleared members touch.
 
+ghost use Rattle.std.specs.Prelude.{OnOk};
+ghost use Rattle.clr_plan_report.specs.Sections.{Adds, ArePlain};
+
 use crate::sections::{Builder, row_of, table_of};
 use clr_cert::Entry;
 use clr_html::{Block, Table};
@@ -20,8 +23,20 @@ fn add_need(table: &mut Table, setting: Setting<'_>, entry: &Entry) -> Result<()
     Ok(table.rows.push(row_of(setting.alloc, &cells)?)?)
 }
 
+/// Returns the table of the first needs.
+fn needs_table(setting: Setting<'_>, entries: &[Entry]) -> Result<Table, AllocError> {
+    let mut table = table_of(setting.alloc, &["Rule", "Asked by", "Served by"])?;
+    for entry in entries.iter().take(MOST_NEEDS) {
+        add_need(&mut table, setting, entry)?;
+    }
+    Ok(table)
+}
+
 /// Adds the sentence that says how many needs are left out, if some are.
-fn add_rest(section: &mut Builder, count: usize) -> Result<(), AllocError> {
+#[tactic(auto, using(crate::proofs::SectionLemmas::no_more, crate::proofs::SectionLemmas::said_plain))]
+fn add_rest(section: &mut Builder, count: usize) -> Result<(), AllocError>
+    ensures { OnOk result (Adds ArePlain section.old.blocks.items section.new.blocks.items) }
+{
     if count <= MOST_NEEDS {
         return Ok(());
     }
@@ -37,15 +52,14 @@ pub(crate) fn add_needs(
     section: &mut Builder,
     setting: Setting<'_>,
     entries: &[Entry],
-) -> Result<(), AllocError> {
+) -> Result<(), AllocError>
+    ensures { OnOk result (Adds ArePlain section.old.blocks.items section.new.blocks.items) }
+{
     if entries.is_empty() {
         return section.add_paragraph("No rule is touched.");
     }
     section.add_paragraph("Each need that the designs touch is served, whatever is merged first.")?;
-    let mut table = table_of(setting.alloc, &["Rule", "Asked by", "Served by"])?;
-    for entry in entries.iter().take(MOST_NEEDS) {
-        add_need(&mut table, setting, entry)?;
-    }
+    let table = needs_table(setting, entries)?;
     section.add(Block::Table(table))?;
     add_rest(section, entries.len())
 }

@@ -1,8 +1,11 @@
 //! The report of a plan.
 
-ghost use Rattle.std.specs.Prelude.{◌≡◌, map, IfOk};
+ghost use Rattle.std.specs.Prelude.{◌≡◌, map, IfOk, OnOk};
 ghost use Rattle.clr_merge_sets.specs.MergeSetNames.{merge_set};
-ghost use Rattle.clr_plan_report.specs.Reports.{IsReport, IsReportPage};
+ghost use Rattle.clr_plan_report.specs.Clashes.{AreDesigns};
+ghost use Rattle.clr_plan_report.specs.Reasons.{AreReasons, IsWhy};
+ghost use Rattle.clr_plan_report.specs.Reports.{AreBetween, IsReport, IsReportPage};
+ghost use Rattle.clr_plan_report.specs.Sections.{Adds};
 
 use crate::causes::add_cause;
 use crate::clashes::add_clashes;
@@ -21,22 +24,37 @@ use clr_rows::Schema;
 use clr_words::{Trial, try_remedies};
 use std::alloc::{AllocError, Global};
 
+/// Adds what serves each need of a cleared plan; or the cause of a blocked one, and what was tried to help.
+fn add_reasons(
+    section: &mut Builder,
+    setting: Setting<'_>,
+    plan: &Plan,
+    trials: &[Trial],
+) -> Result<(), AllocError>
+    ensures { OnOk result (Adds (AreReasons plan.now trials.now) section.old.blocks.items section.new.blocks.items) }
+{
+    match plan {
+        Plan::Cleared(certificate) => {
+            add_needs(section, setting, certificate.entries.as_slice())
+        }
+        Plan::Blocked { cause, .. } => {
+            add_cause(section, setting, cause)?;
+            add_remedies(section, trials)
+        }
+        Plan::Unfit(_) => Ok(()),
+        Plan::OutOfMemory => Ok(()),
+    }
+}
+
 /// Returns why a plan says what it says, and what would help.
-fn why_of(setting: Setting<'_>, plan: &Plan, trials: &[Trial]) -> Result<Section, AllocError> {
+fn why_of(setting: Setting<'_>, plan: &Plan, trials: &[Trial]) -> Result<Section, AllocError>
+    ensures { IfOk result (λ section. IsWhy plan.now trials.now section.blocks.items) }
+{
     let mut section = Builder::new(setting.alloc);
     section.add_heading("Why")?;
     let answer = answer_words(setting, plan)?;
     section.add_paragraph(answer.as_str())?;
-    match plan {
-        Plan::Cleared(certificate) => {
-            add_needs(&mut section, setting, certificate.entries.as_slice())?;
-        }
-        Plan::Blocked { cause, .. } => {
-            add_cause(&mut section, setting, cause)?;
-            add_remedies(&mut section, trials)?;
-        }
-        Plan::Unfit(_) | Plan::OutOfMemory => {}
-    }
+    add_reasons(&mut section, setting, plan, trials)?;
     Ok(section.into_section())
 }
 
@@ -49,8 +67,12 @@ fn leaders_of(plan: &Plan) -> &[usize] {
 }
 
 /// Returns the designs, and the smallest sets of them that can't be merged together.
-fn designs_of(setting: Setting<'_>, plan: &Plan) -> Result<Section, AllocError> {
+fn designs_of(setting: Setting<'_>, plan: &Plan) -> Result<Section, AllocError>
+    ensures { IfOk result (λ section. AreDesigns setting.entry.office.now
+        (merge_set setting.entry.members.now.root.now (map (λ name. name.now) setting.entry.members.now.names.now)) section.blocks.items) }
+{
     let mut section = Builder::new(setting.alloc);
+    section.add_heading("The designs")?;
     add_designs(&mut section, setting, leaders_of(plan))?;
     add_clashes(&mut section, setting)?;
     Ok(section.into_section())
@@ -64,16 +86,20 @@ fn sections_between(
     members: &[&str],
     plan: &Plan,
     trials: &[Trial],
-) -> Result<Vec<Section>, AllocError> {
+) -> Result<Vec<Section>, AllocError>
+    ensures { IfOk result (λ sections. AreBetween office.now (merge_set root.now (map (λ name. name.now) members.now)) plan.now trials.now sections.items) }
+{
     let changes = Members::read(alloc, office, root, members)?;
     let setting = Setting {
         alloc,
         office,
         members: &changes,
     };
-    let mut sections = Vec::with_capacity(alloc, 2)?;
-    sections.push(why_of(setting, plan, trials)?)?;
-    sections.push(designs_of(setting, plan)?)?;
+    let why = why_of(setting, plan, trials)?;
+    let designs = designs_of(setting, plan)?;
+    let mut sections = Vec::new(alloc);
+    sections.push(why)?;
+    sections.push(designs)?;
     Ok(sections)
 }
 
@@ -88,7 +114,7 @@ fn page_of(
     picture: Vec<u8>,
     mut between: Vec<Section>,
 ) -> Result<Page, AllocError>
-    ensures { IfOk result (IsReportPage schema.now (map (λ name. name.now) members.now) root.now plan.now picture.items) }
+    ensures { IfOk result (IsReportPage schema.now (merge_set root.now (map (λ name. name.now) members.now)) plan.now picture.items between.items) }
 {
     let about = about(alloc, root, members)?;
     let title = title_of(alloc, plan, about.as_str())?;

@@ -1,5 +1,9 @@
 //! What sections are made of.
 
+ghost use Rattle.std.specs.Prelude.{◌≡◌, ◌++◌, ◌∷◌, [], map, IfOk, OnOk};
+ghost use Rattle.clr_html.specs.Words.{words_of_row, words_of_text};
+ghost use Rattle.clr_plan_report.specs.Sections.{Adds, AddsOne, AreSaid, IsHeading};
+
 use clr_html::{Block, Row, Section, Table, Text};
 use std::alloc::{AllocError, Global};
 
@@ -11,17 +15,24 @@ pub(crate) struct Builder {
 }
 
 /// Returns a plain text.
-pub(crate) fn plain_text(alloc: Global, words: &str) -> Result<Text, AllocError> {
+pub(crate) fn plain_text(alloc: Global, words: &str) -> Result<Text, AllocError>
+    ensures { IfOk result (λ text. words_of_text text ≡ words.now) }
+{
     Ok(Text::Plain(Vec::from_slice(alloc, words.as_bytes())?))
 }
 
 /// Returns a text in bold letters.
-pub(crate) fn strong_text(alloc: Global, words: &str) -> Result<Text, AllocError> {
+fn strong_text(alloc: Global, words: &str) -> Result<Text, AllocError>
+    ensures { IfOk result (λ text. words_of_text text ≡ words.now) }
+{
     Ok(Text::Strong(Vec::from_slice(alloc, words.as_bytes())?))
 }
 
 /// Returns an empty table with these heads.
-pub(crate) fn table_of(alloc: Global, heads: &[&str]) -> Result<Table, AllocError> {
+pub(crate) fn table_of(alloc: Global, heads: &[&str]) -> Result<Table, AllocError>
+    ensures heads { IfOk result (λ table. map words_of_text table.heads.items ≡ map (λ head. head.now) heads.now) }
+    ensures rows { IfOk result (λ table. table.rows.items ≡ []) }
+{
     let mut texts = Vec::with_capacity(alloc, heads.len())?;
     for head in heads {
         texts.push(plain_text(alloc, head)?)?;
@@ -32,15 +43,24 @@ pub(crate) fn table_of(alloc: Global, heads: &[&str]) -> Result<Table, AllocErro
     })
 }
 
+/// Returns the text of a cell, in bold letters where it is the first.
+fn cell_text(alloc: Global, is_first: bool, words: &str) -> Result<Text, AllocError>
+    ensures { IfOk result (λ text. words_of_text text ≡ words.now) }
+{
+    if is_first {
+        strong_text(alloc, words)
+    } else {
+        plain_text(alloc, words)
+    }
+}
+
 /// Returns a row of cells, the first of them in bold letters.
-pub(crate) fn row_of(alloc: Global, cells: &[&str]) -> Result<Row, AllocError> {
+pub(crate) fn row_of(alloc: Global, cells: &[&str]) -> Result<Row, AllocError>
+    ensures { IfOk result (λ row. words_of_row row ≡ map (λ cell. cell.now) cells.now) }
+{
     let mut texts = Vec::with_capacity(alloc, cells.len())?;
-    for (at, cell) in cells.iter().enumerate() {
-        let text = if at == 0 {
-            strong_text(alloc, cell)?
-        } else {
-            plain_text(alloc, cell)?
-        };
+    for cell in cells {
+        let text = cell_text(alloc, texts.is_empty(), cell)?;
         texts.push(text)?;
     }
     Ok(Row { cells: texts })
@@ -48,7 +68,9 @@ pub(crate) fn row_of(alloc: Global, cells: &[&str]) -> Result<Row, AllocError> {
 
 impl Builder {
     /// Returns a section with nothing in it.
-    pub(crate) fn new(alloc: Global) -> Builder {
+    pub(crate) fn new(alloc: Global) -> Builder
+        ensures { result.blocks.items ≡ [] }
+    {
         Builder {
             alloc,
             blocks: Vec::new(alloc),
@@ -56,13 +78,17 @@ impl Builder {
     }
 
     /// Adds a heading.
-    pub(crate) fn add_heading(&mut self, words: &str) -> Result<(), AllocError> {
+    pub(crate) fn add_heading(&mut self, words: &str) -> Result<(), AllocError>
+        ensures { OnOk result (AddsOne (IsHeading words.now) self.old.blocks.items self.new.blocks.items) }
+    {
         let words = Vec::from_slice(self.alloc, words.as_bytes())?;
         self.add(Block::Heading(words))
     }
 
     /// Adds a paragraph, where there are words for one.
-    pub(crate) fn add_paragraph(&mut self, words: &str) -> Result<(), AllocError> {
+    pub(crate) fn add_paragraph(&mut self, words: &str) -> Result<(), AllocError>
+        ensures { OnOk result (Adds (AreSaid words.now) self.old.blocks.items self.new.blocks.items) }
+    {
         if words.is_empty() {
             return Ok(());
         }
@@ -71,12 +97,16 @@ impl Builder {
     }
 
     /// Adds a block.
-    pub(crate) fn add(&mut self, block: Block) -> Result<(), AllocError> {
+    pub(crate) fn add(&mut self, block: Block) -> Result<(), AllocError>
+        ensures { OnOk result (self.new.blocks.items ≡ self.old.blocks.items ++ block ∷ []) }
+    {
         Ok(self.blocks.push(block)?)
     }
 
     /// Returns the section.
-    pub(crate) fn into_section(self) -> Section {
+    pub(crate) fn into_section(self) -> Section
+        ensures { result.blocks ≡ self.blocks }
+    {
         Section {
             blocks: self.blocks,
         }

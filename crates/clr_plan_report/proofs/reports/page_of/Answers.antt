@@ -12,7 +12,6 @@ returns c =
     record {
       about = c.as_str.result.now;
       head = head;
-      between = between;
       foot = foot;
       title = c.in_ok-title.ensures;
       sections = c.in_ok-push-2.ensures.items ∙ ap (λ (sections : List Section). sections ++ foot ∷ []) more;
