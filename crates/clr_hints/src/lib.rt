@@ -6,7 +6,7 @@
 //!   of the first byte that can't stand in that text.
 //! - `nearest` [`nearest`]: the first of the names that are most alike, where one is alike enough; none else.
 //! - `metres_hint`: a hint at exactly the texts that are decimal numbers of metres with at most three decimals, with their millimetres.
-//! - `name_hint`: where a name may be meant the hint is at the nearest, and else at all names, where there are some and not too many.
+//! - `GOOD_NAME`: what a good name has. `name_hint`: where a name may be meant the hint is at the nearest, and else at all names, where there are some and not too many.
 //! - `table_names`, `column_names`, `join_names`, `table_of`: the names of a schema in their order, names with commas between them, and
 //!   the table of a name.
 //! - `blank_lines_hint`: a hint at exactly the texts in which nothing but carriage returns stands before a line end, behind the one before.
@@ -30,6 +30,6 @@ pub use encodings::{encoding_fault, has_byte_order_mark};
 pub use json_faults::json_fault;
 pub use laws::limits_of_hints;
 pub use metres::metres_hint;
-pub use names::{name_hint, nearest};
+pub use names::{GOOD_NAME, name_hint, nearest};
 pub use schema_names::{column_names, join_names, table_names, table_of};
 pub use values::{kind_of, shorten, shorten_value};

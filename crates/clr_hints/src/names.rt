@@ -12,6 +12,10 @@ use strsim::jaro_winkler;
 /// How alike two names are where the one may be meant by the other, of 1 where they are the same.
 const LEAST_LIKENESS: f64 = 0.8;
 
+/// What a good name has, as a sentence says it behind one that isn't good.
+pub const GOOD_NAME: &str =
+    "a name has 1 to 30 letters of a to z and A to Z, digits and _, a letter first";
+
 /// The most names that a hint lists.
 const MOST_LISTED: usize = 12;
 

@@ -4,6 +4,7 @@ ghost use Rattle.clr_item_explanations.specs.FaultNames.{BeginsWithName, schema_
 
 use crate::fields::{items_at, text_at};
 use crate::slips::Slip;
+use clr_hints::GOOD_NAME;
 use clr_places::{Key, Step};
 use clr_rows::{KEY, MOST_COLUMNS, MOST_TABLES, SchemaFault, good_name};
 use serde_json::Value as Json;
@@ -25,7 +26,9 @@ fn bad_column(alloc: Global, json: &Json) -> Result<Option<Slip>, AllocError> {
     for (at, column) in items_at(json, Key::Columns).iter().enumerate() {
         let name = column_name(column);
         if !good_name(name) || name == KEY {
-            let sentence = format!(in alloc; "'{name}' is no good name of a column")?;
+            let sentence = format!(in alloc;
+                "'{name}' is no good name of a column: {GOOD_NAME}, and isn't KEY"
+            )?;
             let steps = [Step::Key(Key::Columns), Step::At(at), Step::At(0)];
             return Ok(Some(Slip::new(alloc, &steps, sentence)?));
         }
@@ -39,7 +42,7 @@ fn bad_name_in(alloc: Global, table: &Json) -> Result<Option<Slip>, AllocError> 
     if good_name(name) {
         return bad_column(alloc, table);
     }
-    let sentence = format!(in alloc; "'{name}' is no good name of a table")?;
+    let sentence = format!(in alloc; "'{name}' is no good name of a table: {GOOD_NAME}")?;
     Ok(Some(Slip::new(alloc, &[Step::Key(Key::Name)], sentence)?))
 }
 

@@ -4,7 +4,7 @@ ghost use Rattle.clr_item_explanations.specs.FaultNames.{BeginsWithName, part_fa
 
 use crate::fields::{Wanted, explain_field, explain_fields, items_at, text_at};
 use crate::slips::Slip;
-use clr_hints::name_hint;
+use clr_hints::{GOOD_NAME, name_hint};
 use clr_places::{Key, Step};
 use clr_rows::LIVE;
 use clr_tree::PartFault;
@@ -98,7 +98,9 @@ fn part_fault_word(fault: PartFault) -> &'static str
 /// Returns what a fault of a workspace among all of them means.
 fn sentence_of(alloc: Global, name: &str, fault: PartFault) -> Result<String, AllocError> {
     match fault {
-        PartFault::BadName => format!(in alloc; "'{name}' is no good name of a workspace"),
+        PartFault::BadName => {
+            format!(in alloc; "'{name}' is no good name of a workspace: {GOOD_NAME}")
+        }
         PartFault::NameTaken => {
             format!(in alloc; "'{name}' is LIVE or the name of an earlier workspace")
         }

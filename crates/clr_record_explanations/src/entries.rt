@@ -3,7 +3,7 @@
 use crate::record_slips::RecordSlip;
 use crate::references::{RECORD_FIELDS, bad_need};
 use clr_cert::CertFault;
-use clr_hints::name_hint;
+use clr_hints::{GOOD_NAME, name_hint};
 use clr_records::field;
 use clr_rows::{LIVE, Schema, good_name};
 use csv::StringRecord;
@@ -48,7 +48,7 @@ fn bad_name(alloc: Global, fields: &StringRecord) -> Result<RecordSlip, AllocErr
         return RecordSlip::of_words(alloc, 1, "LIVE is the root where no record names one");
     }
     if !good_name(name) {
-        let sentence = format!(in alloc; "'{name}' is no good name of a workspace")?;
+        let sentence = format!(in alloc; "'{name}' is no good name of a workspace: {GOOD_NAME}")?;
         return Ok(RecordSlip::new(1, sentence));
     }
     match field_behind_name(fields) {

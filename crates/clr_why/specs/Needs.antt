@@ -11,9 +11,9 @@ use Rattle.clr_workspaces.specs.Marks.{Name}
 -- what a rule asks for
 abbrev pub rule_sentence : Rule → List ℕ
 rule_sentence (rule.Unique subject columns) = codes "UNIQUE: the two rows have the same values in all columns of the rule"
-rule_sentence (rule.Partner subject columns server server_columns) = codes "PARTNER: no row of the server has the values of this row"
-rule_sentence (rule.EndNode subject tip server) = codes "ENDNODE: no point of the server stands at this end of the row"
-rule_sentence (rule.Crossing a b server) = codes "CROSSING: the two rows meet, and no point of the server stands where they do"
+rule_sentence (rule.Partner subject columns server server_columns) = codes "PARTNER: this row names a row that isn't there: none has its values in the columns of the rule"
+rule_sentence (rule.EndNode subject tip server) = codes "ENDNODE: no point that the rule asks for stands at this end of the row"
+rule_sentence (rule.Crossing a b server) = codes "CROSSING: the two rows meet, and no point that the rule asks for stands where they do"
 rule_sentence (rule.Near a b d) = codes "NEAR: the two points are nearer than the rule allows"
 
 abbrev pub rule_line : Option Rule → List ℕ

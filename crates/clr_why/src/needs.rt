@@ -14,10 +14,12 @@ fn rule_sentence(rule: &Rule) -> &'static str
     match rule {
         Rule::Unique { .. } =>
             "UNIQUE: the two rows have the same values in all columns of the rule",
-        Rule::Partner { .. } => "PARTNER: no row of the server has the values of this row",
-        Rule::EndNode { .. } => "ENDNODE: no point of the server stands at this end of the row",
+        Rule::Partner { .. } =>
+            "PARTNER: this row names a row that isn't there: none has its values in the columns of the rule",
+        Rule::EndNode { .. } =>
+            "ENDNODE: no point that the rule asks for stands at this end of the row",
         Rule::Crossing { .. } => {
-            "CROSSING: the two rows meet, and no point of the server stands where they do"
+            "CROSSING: the two rows meet, and no point that the rule asks for stands where they do"
         }
         Rule::Near { .. } => "NEAR: the two points are nearer than the rule allows",
     }
