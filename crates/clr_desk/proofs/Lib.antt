@@ -4,5 +4,6 @@ mod OneAnswer
 mod OneChoice
 mod OneDeskAnswer
 mod OnePrint
+mod PlaceLemmas
 mod Positions
 mod Trying

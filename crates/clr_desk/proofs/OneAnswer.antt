@@ -32,11 +32,8 @@ use Rattle.clr_plan.specs.PlanLines.{blocked_text, cleared_text, plan_text}
 use Rattle.clr_office.specs.Clearances.{is_without_memory}
 use Rattle.clr_office.specs.Outcomes.{IsPlanned}
 use Rattle.clr_reports.specs.Printing.{status_of}
-use Rattle.clr_layer_changes.specs.Wanted.{wanted}
 use Rattle.clr_layer_changes.specs.declared.options.GivenLayer.{GivenLayer}
 use Rattle.clr_layer_changes.specs.declared.options.LayerOptions.{LayerOptions}
-use Rattle.clr_designs.specs.Designs.{design_refusal}
-use Rattle.clr_steps.specs.Refusals.{first_broken}
 use Rattle.clr_prints.specs.Designs as designs
 use Rattle.clr_prints.specs.Designs.{IsPrintOfDesign, IsPrintOfLayers, IsPrintOfLive, IsPrintOfScript, faulty_layer_printout, refusal_print, text_print}
 use Rattle.clr_prints.specs.Members.{members_or_children}

@@ -6,7 +6,7 @@ use Rattle.std.proofs.lemmas.List.Elements.{All-head, All-tail}
 use Rattle.clr_hints.specs.Names.{IsNearest, likeness}
 use Rattle.clr_workspaces.specs.Marks.{Name}
 use Rattle.clr_steps.specs.Offices.{Office}
-use Rattle.clr_prints.specs.NameHints.{AreNameHints, IsHintAt, IsMeant, hint_at, workspace_names}
+use Rattle.clr_office.specs.NameHints.{AreNameHints, IsHintAt, IsMeant, hint_at, workspace_names}
 
 -- what holds of all of a list holds of one in its middle
 middle : {X : Type 0} (P : X → Type 0) (front : List X) (x : X) (behind : List X) → All P (front ++ x ∷ behind) → P x
