@@ -21,7 +21,7 @@ use Rattle.clr_html.specs.declared.pages.Section.{Section}
 use Rattle.clr_html.specs.Pages.{html_page_text}
 use Rattle.clr_html.specs.Words.{is_escaped}
 use Rattle.clr_words.specs.declared.trials.Trial.{Trial}
-use Rattle.clr_words.specs.Trials.{IsTrial}
+use Rattle.clr_words.specs.Trials.{AreTrialsOf}
 use Rattle.clr_plan_map.specs.Maps.{IsMap, plan_word}
 use Rattle.clr_plan_report.specs.Clashes.{AreDesigns}
 use Rattle.clr_plan_report.specs.Reasons.{IsWhy}
@@ -88,7 +88,7 @@ pub record IsReport (o : Office) (s : MergeSet) (p : Plan) (text : List ℕ) : T
   pub between : List Section
   pub page : Page
   pub map : IsMap o.schema s.members s.root p picture
-  pub tried : All (IsTrial o s) trials
+  pub tried : AreTrialsOf o s p trials
   pub told : AreBetween o s p trials between
   pub shown : IsReportPage o.schema s p picture between page
   pub written : text ≡ html_page_text page
