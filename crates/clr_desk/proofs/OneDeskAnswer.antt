@@ -63,7 +63,8 @@ one_within (ask.Geographic asked) office second layers whole = one_geographic as
 one_if : (too_long : Bool) (asked : Ask) (office second : List ℕ) (layers : List GivenLayer) → is_whole asked ≡ true
     → IsOnePrint (IsDeskAnswerIf too_long asked office second layers)
 one_if true asked office second layers whole print other one two found found_too = one ∙ sym two
-one_if false asked office second layers whole = one_within asked office second layers whole
+one_if false asked office second layers whole print other one two found found_too =
+    one_within asked office second layers whole print other one two found found_too
 
 pub one_desk_answer : OneDeskAnswerLaw
 one_desk_answer asked office second layers whole =
