@@ -1,5 +1,5 @@
 -- Clashes that are told.
-use Rattle.std.proofs.Common.{◌≡◌, ◌==◌, ◌∙◌, ℕ, Bool, false, true, List, [], ◌∷◌, ◌++◌, ap, append_assoc, arith, codes, inl, inr, length, refl, subst, sym}
+use Rattle.std.proofs.Common.{◌≡◌, ◌==◌, ◌∙◌, Bool, false, true, List, [], ◌∷◌, ◌++◌, ap, append_assoc, arith, codes, inl, inr, length, refl, subst, sym}
 use Rattle.std.proofs.lemmas.List.{append-nil}
 use Rattle.clr_html.specs.declared.blocks.Block.{Block}
 use Rattle.clr_html.specs.declared.blocks.Block.TheVariants as block

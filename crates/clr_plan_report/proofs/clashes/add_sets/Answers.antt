@@ -1,6 +1,5 @@
 use Rattle.std.proofs.Common.{map}
 use Rattle.std.proofs.lemmas.Result.{on_ok_weaker}
-use Rattle.clr_html.specs.declared.blocks.Block.TheVariants as block
 use Rattle.clr_plan_report.proofs.ClashLemmas.{none_told, some_told}
 use Rattle.clr_plan_report.proofs.clashes.add_sets.Goals as goal
 

@@ -1,4 +1,4 @@
-use Rattle.std.proofs.Common.{◌≡◌, ◌∙◌, ◌++◌, List, Some, ap, map, refl}
+use Rattle.std.proofs.Common.{◌∙◌, ◌++◌, List, Some, ap, map, refl}
 use Rattle.clr_html.specs.declared.tables.Row.{Row}
 use Rattle.clr_plan_report.specs.Clashes.{first_words, set_words}
 use Rattle.clr_plan_report.proofs.clashes.clashes_table.Goals as goal
