@@ -10,7 +10,7 @@ use clr_reports::{
     BAD_WORDS, end_run, file_name, has_words, print_fault, print_input_remark,
     print_parser_message, read_files, text_at, texts_of_words, words,
 };
-use std::io::{ErrorKind, IsTerminal};
+use std::io::{ErrorKind, IsTerminal, Write, sink};
 use std::process::ExitCode;
 
 /// Prints a fault's line on standard error, and gives its exit status. Where somebody reads it on a terminal, a second line says of
@@ -35,14 +35,14 @@ fn run(rt: &HostRuntime) -> u8 {
     }
 }
 
-/// Answers what the words ask of files on standard output, and gives the exit status.
-fn answer_files(rt: &HostRuntime, ask: &Ask, files: &[Words]) -> u8 {
-    let texts = match read_files(rt, files) {
-        Ok(texts) => texts,
-        Err(refused) => return refuse_input(rt, file_name(files, refused.file), refused.fault),
-    };
-    let (office, second) = (text_at(&texts, 0), text_at(&texts, 1));
-    let (mut writer, mut notes) = (Port::new(rt.stdout()), Port::new(rt.stderr()));
+/// Answers what the words ask of texts on standard output, hints on notes, and gives the exit status.
+fn answer_on<W: Write + Drop>(
+    rt: &HostRuntime,
+    ask: &Ask,
+    (office, second): (&[u8], &[u8]),
+    mut notes: Port<W>,
+) -> u8 {
+    let mut writer = Port::new(rt.stdout());
     let ended = answer(
         rt.alloc(),
         Disposal::Leak,
@@ -53,6 +53,21 @@ fn answer_files(rt: &HostRuntime, ask: &Ask, files: &[Words]) -> u8 {
         &mut notes,
     );
     end_run(rt, ended, writer.is_closed())
+}
+
+/// Answers what the words ask of files on standard output, and gives the exit status. Hints at names go to standard error where somebody
+/// reads it on a terminal, so that a program which reads the lines finds no other.
+fn answer_files(rt: &HostRuntime, ask: &Ask, files: &[Words]) -> u8 {
+    let texts = match read_files(rt, files) {
+        Ok(texts) => texts,
+        Err(refused) => return refuse_input(rt, file_name(files, refused.file), refused.fault),
+    };
+    let given = (text_at(&texts, 0), text_at(&texts, 1));
+    if rt.stderr().is_terminal() {
+        answer_on(rt, ask, given, Port::new(rt.stderr()))
+    } else {
+        answer_on(rt, ask, given, Port::new(sink()))
+    }
 }
 
 /// Does what the words ask for, and gives the exit status.
