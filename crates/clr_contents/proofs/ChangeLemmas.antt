@@ -16,7 +16,7 @@ use Rattle.clr_change.specs.ChangeSets.{set_change, change_from}
 use Rattle.clr_change.proofs.SetLemmas.{get-set_change}
 use Rattle.clr_deltas.specs.Differences.{Differences, RowsByCell, seen_over}
 use Rattle.clr_deltas.proofs.DifferenceLemmas.{row-seen_over}
-use Rattle.clr_contents.specs.Pinning.{set_each}
+use Rattle.clr_contents.specs.SeenRows.{set_each}
 
 -- the change at a cell where there is a difference, over what stood there
 abbrev at_difference : Content → CellId → Option Change → Option (Option Row) → Option Change

@@ -3,6 +3,6 @@ pub mod ComparedLemmas
 pub mod LeanLemmas
 pub mod MarkLemmas
 pub mod MoveLemmas
-pub mod PinLemmas
+pub mod SeenRowLemmas
 pub mod ReadLemmas
 pub mod SweepLemmas

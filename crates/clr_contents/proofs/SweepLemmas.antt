@@ -19,7 +19,7 @@ use Rattle.clr_deltas.specs.declared.stored_marks.StoredMark.TheVariants as kind
 use Rattle.clr_deltas.proofs.Meaning.{length-wholes, name-wholes, parent-wholes, find-wholes, wholes-at}
 use Rattle.clr_workspaces.specs.Roots.{IsRooted}
 use Rattle.clr_contents.specs.Lean.{content_above, content_of_parent, swept_marks}
-use Rattle.clr_contents.proofs.PinLemmas.{whole_base, whole_current, whole_marks}
+use Rattle.clr_contents.proofs.SeenRowLemmas.{whole_base, whole_current, whole_marks}
 use Rattle.clr_contents.proofs.MoveLemmas.{stays}
 use Rattle.clr_contents.proofs.ReadLemmas.{within_wholes, above_parent, base_of_whole}
 

@@ -8,7 +8,7 @@ use Rattle.clr_deltas.specs.Differences.{is_among, IsOwnOver}
 use Rattle.clr_deltas.specs.Deltas.{Delta, delta_at, wholes, swept_mark, swept_mark_at, AreOwnOver, IsUnder}
 use Rattle.clr_deltas.specs.declared.stored_marks.StoredMark.{StoredMark}
 use Rattle.clr_workspaces.specs.Workspaces.{Workspace, workspace_at, parent_of}
-use Rattle.clr_contents.specs.Pinning.{StaysOwnAt}
+use Rattle.clr_contents.specs.SeenRows.{StaysOwnAt}
 
 -- the current content of the parent
 abbrev pub content_above : List Workspace → Option ℕ → Content

@@ -1,3 +1,3 @@
-pub mod Pinning
+pub mod SeenRows
 pub mod Lean
 pub mod Comparing

@@ -6,7 +6,7 @@ ghost use Rattle.clr_deltas.specs.Differences.{cells_in};
 ghost use Rattle.clr_deltas.specs.Deltas.{delta_at, stored_at, saved_differences, wholes};
 ghost use Rattle.clr_workspaces.specs.Marks.{is_saved, mark_at, saved_content};
 ghost use Rattle.clr_workspaces.specs.Workspaces.{workspace_at};
-ghost use Rattle.clr_contents.specs.Pinning.{set_each};
+ghost use Rattle.clr_contents.specs.SeenRows.{set_each};
 ghost use Rattle.clr_workspaces.specs.Roots.{IsRooted};
 
 use crate::reads::{base_row_of, parent_of};
@@ -45,7 +45,7 @@ pub fn base_rows(live: &Sheet, map: &WorkspaceMap, at: usize) -> Result<Sheet, A
 }
 
 /// Returns the changes from the base of a workspace other than LIVE to these rows, at their cells.
-#[tactic(auto, unfolding(crate::specs::Pinning::set_each))]
+#[tactic(auto, unfolding(crate::specs::SeenRows::set_each))]
 fn changes_to(
     live: &Sheet,
     map: &WorkspaceMap,

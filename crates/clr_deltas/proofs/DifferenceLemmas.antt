@@ -100,27 +100,27 @@ hidden m n d agree = same_content _ _ (λ q. row-seen_over n d q ∙ by (finite.
 
 -- a cell set where there is a difference
 pub set_outside : (d : Differences) (m : Content) (k : CellId) (v : Option Row) → HasDifference d k → AgreeOutside d m (set_cell m k v)
-set_outside d m k v pinned q none = row-set_cell m k v q ∙ by (eq_by_cmp cell_cmp q k) refl
+set_outside d m k v is_stored q none = row-set_cell m k v q ∙ by (eq_by_cmp cell_cmp q k) refl
   where
     by : (b : Bool) → eq_by_cmp cell_cmp q k ≡ b → cond b v (row_at m q) ≡ row_at m q
-    by true h = absurd (false≢true (sym (ap is_some none) ∙ subst (HasDifference d) (sym (tied_cells q k h)) pinned))
+    by true h = absurd (false≢true (sym (ap is_some none) ∙ subst (HasDifference d) (sym (tied_cells q k h)) is_stored))
     by false h = refl
 
 -- rows put where there are differences
 pub over_outside : (d : Differences) (es : RowsByCell) (m : Content) → HasDifferences d (cells_in es) → AgreeOutside d m (over m es)
 unfolding over
-over_outside d [] m pinned q none = refl
-over_outside d (e ∷ es) m pinned q none = over_outside d es (set_cell m e.0 e.1) pinned.1 q none ∙ set_outside d m e.0 e.1 pinned.0 q none
+over_outside d [] m is_stored q none = refl
+over_outside d (e ∷ es) m is_stored q none = over_outside d es (set_cell m e.0 e.1) is_stored.1 q none ∙ set_outside d m e.0 e.1 is_stored.0 q none
 
 -- differences that lie over a content, where others are at each of their cells
 pub seen_outside : (d : Differences) (m : Content) (e : Differences) → HasDifferences d (finite.keys e) → AgreeOutside d m (seen_over m e)
 unfolding seen_over
-seen_outside d m e pinned = over_outside d (finite.entries e) m pinned
+seen_outside d m e is_stored = over_outside d (finite.entries e) m is_stored
 
 -- where there is a difference ------------------------------------------------------------------
 
 pub difference_stays : (d : Differences) (k q : CellId) (v : Option Row) → HasDifference d q → HasDifference (finite.insert d k v) q
-difference_stays d k q v pinned = ap is_some (finite.get-insert cell_cmp_total d k v q) ∙ by (eq_by_cmp cell_cmp q k) (finite.get d q) pinned
+difference_stays d k q v is_stored = ap is_some (finite.get-insert cell_cmp_total d k v q) ∙ by (eq_by_cmp cell_cmp q k) (finite.get d q) is_stored
   where
     by : (b : Bool) (o : Option (Option Row)) → is_some o ≡ true → is_some (cond b (Some v) o) ≡ true
     by true o h = refl
@@ -131,29 +131,29 @@ difference_stored d k v = ap is_some (finite.get-insert cell_cmp_total d k v k �
 
 pub differences_keep : (d e : Differences) (cells : List CellId) → ((q : CellId) → HasDifference d q → HasDifference e q) → HasDifferences d cells
     → HasDifferences e cells
-differences_keep d e [] more pinned = tt
-differences_keep d e (cell ∷ cells) more pinned = (more cell pinned.0, differences_keep d e cells more pinned.1)
+differences_keep d e [] more is_stored = tt
+differences_keep d e (cell ∷ cells) more is_stored = (more cell is_stored.0, differences_keep d e cells more is_stored.1)
 
 pub differences_stay : (cells : List CellId) (d : Differences) (k : CellId) (v : Option Row) → HasDifferences d cells
     → HasDifferences (finite.insert d k v) cells
-differences_stay cells d k v pinned = differences_keep d (finite.insert d k v) cells (λ q. difference_stays d k q v) pinned
+differences_stay cells d k v is_stored = differences_keep d (finite.insert d k v) cells (λ q. difference_stays d k q v) is_stored
 
 pub put_each_keeps : (es : RowsByCell) (d : Differences) (q : CellId) → HasDifference d q → HasDifference (put_each d es) q
 unfolding put_each
-put_each_keeps [] d q pinned = pinned
-put_each_keeps (e ∷ es) d q pinned = put_each_keeps es (finite.insert d e.0 e.1) q (difference_stays d e.0 q e.1 pinned)
+put_each_keeps [] d q is_stored = is_stored
+put_each_keeps (e ∷ es) d q is_stored = put_each_keeps es (finite.insert d e.0 e.1) q (difference_stays d e.0 q e.1 is_stored)
 
 differences_push : (d : Differences) (cells : List CellId) (cell : CellId) → HasDifferences d cells → HasDifference d cell
     → HasDifferences d (cells ++ cell ∷ [])
-differences_push d [] cell pinned one = (one, tt)
-differences_push d (c ∷ cells) cell pinned one = (pinned.0, differences_push d cells cell pinned.1 one)
+differences_push d [] cell is_stored one = (one, tt)
+differences_push d (c ∷ cells) cell is_stored one = (is_stored.0, differences_push d cells cell is_stored.1 one)
 
 -- differences at one more of some cells
 pub differences_next : (d : Differences) (cells : List CellId) (i : ℕ) (c : CellId) → i < length cells → HasDifferences d (take i cells) →
     HasDifference d (get_or cells i c)
     → HasDifferences d (take (i + 1) cells)
-differences_next d cells i c lt pinned one =
-    subst (HasDifferences d) (sym (take_at_read cells i c lt).1) (differences_push d (take i cells) (get_or cells i c) pinned one)
+differences_next d cells i c lt is_stored one =
+    subst (HasDifferences d) (sym (take_at_read cells i c lt).1) (differences_push d (take i cells) (get_or cells i c) is_stored one)
 
 -- other cells -------------------------------------------------------------------------------------
 

@@ -131,14 +131,14 @@ StayOwnBeside cells old new = (q : CellId) → is_among cells q ≡ false → (b
 abbrev pub stored_in_mark : StoredMark → ℕ
 stored_in_mark mark = length (finite.keys (saved_differences mark))
 
-abbrev pub MarkPins : CellId → StoredMark → Type 0
-MarkPins cell (stored.Saved name d) = HasDifference d cell
-MarkPins cell (stored.Child name) = Unit {0}
+abbrev pub MarkStores : CellId → StoredMark → Type 0
+MarkStores cell (stored.Saved name d) = HasDifference d cell
+MarkStores cell (stored.Child name) = Unit {0}
 
 -- each savepoint has a difference at a cell
-abbrev pub EachMarkPins : List StoredMark → CellId → Type 0
-EachMarkPins [] cell = Unit {0}
-EachMarkPins (m ∷ ms) cell = MarkPins cell m × EachMarkPins ms cell
+abbrev pub EachMarkStores : List StoredMark → CellId → Type 0
+EachMarkStores [] cell = Unit {0}
+EachMarkStores (m ∷ ms) cell = MarkStores cell m × EachMarkStores ms cell
 
 -- a delta whose base takes rows over, and whose current content is the base; the savepoints go
 abbrev pub rows_taken_over : RowsByCell → Delta → Delta

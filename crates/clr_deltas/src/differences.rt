@@ -122,7 +122,7 @@ impl Differences {
     pub fn put(&mut self, cell: CellId, row: Option<Row>) -> Result<(), AllocError>
         ensures ok { OnOk result (self.new ≡ finite.insert self.old cell row) }
         ensures err { OnErr result (self.new ≡ self.old) }
-        ensures pinned { HasDifference self.old cell → IsOk result }
+        ensures is_stored { HasDifference self.old cell → IsOk result }
     {
         self.rows.insert(cell, row)?;
         Ok(())
@@ -158,9 +158,9 @@ impl Differences {
     /// Stores a difference at a cell that has none, with the row of the content below. What is seen
     /// stays, also where memory runs out.
     #[tactic(auto, using(crate::proofs::DifferenceLemmas::difference_stored, crate::proofs::DifferenceLemmas::put_elsewhere))]
-    pub(crate) fn pin(&mut self, cell: CellId, row: Option<&Row>) -> Result<(), AllocError>
+    pub(crate) fn store_seen(&mut self, cell: CellId, row: Option<&Row>) -> Result<(), AllocError>
         ensures seen { (below : Content) → row_at below cell ≡ option_copied row.entry → seen_over below self.new ≡ seen_over below self.old }
-        ensures pinned { OnOk result (HasDifference self.new cell) }
+        ensures is_stored { OnOk result (HasDifference self.new cell) }
         ensures others { (q : CellId) → is_among (cell ∷ []) q ≡ false → finite.get self.new q ≡ finite.get self.old q }
     {
         if self.get(cell).is_some() {

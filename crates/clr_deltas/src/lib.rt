@@ -2,7 +2,7 @@
 //! differences that a delta has.
 //!
 //! - A delta is what is stored of a workspace, by differences; specs/ says which whole contents it
-//!   means. The contract of each call says what becomes of the deltas; that of `pin_saved` says that
+//!   means. The contract of each call says what becomes of the deltas; that of `store_saved_rows` says that
 //!   no savepoint's content changes, also where memory runs out.
 //! - `Differences` have, at some cells, a row or none: that by which one content differs from another that
 //!   lies below it. The contract of each call says what becomes of the stored differences.

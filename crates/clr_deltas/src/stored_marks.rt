@@ -5,7 +5,7 @@ ghost use Rattle.std.specs.List.{list_any};
 ghost use Rattle.std.specs.Option.{option_copied};
 ghost use Rattle.clr_rows.specs.Contents.{Content, row_at};
 ghost use Rattle.clr_deltas.specs.Deltas.{whole_mark, is_stored_child, is_stored_saved, is_stored_saved_as, is_stored_mark_of};
-ghost use Rattle.clr_deltas.specs.Deltas.{stored_without_mark_of, swept_mark, swept_mark_at, MarkPins, EachMarkPins, StayOwnBeside};
+ghost use Rattle.clr_deltas.specs.Deltas.{stored_without_mark_of, swept_mark, swept_mark_at, MarkStores, EachMarkStores, StayOwnBeside};
 ghost use Rattle.clr_deltas.specs.declared.stored_marks.StoredMark.TheVariants.{Child};
 
 use crate::differences::Differences;
@@ -21,30 +21,30 @@ pub enum StoredMark {
 }
 
 /// Stores a difference at a cell in a savepoint that has none there, with the row of the base.
-fn pin(mark: &mut StoredMark, cell: CellId, row: Option<&Row>) -> Result<(), AllocError>
+fn store_seen(mark: &mut StoredMark, cell: CellId, row: Option<&Row>) -> Result<(), AllocError>
     ensures seen { (base : Content) → row_at base cell ≡ option_copied row.entry → whole_mark base mark.new ≡ whole_mark base mark.old }
-    ensures pinned { OnOk result (MarkPins cell mark.new) }
+    ensures is_stored { OnOk result (MarkStores cell mark.new) }
     ensures others { StayOwnBeside (cell ∷ []) (mark.old ∷ []) (mark.new ∷ []) }
 {
     match mark {
-        StoredMark::Saved(_, differences) => differences.pin(cell, row),
+        StoredMark::Saved(_, differences) => differences.store_seen(cell, row),
         StoredMark::Child(_) => Ok(()),
     }
 }
 
 /// Stores a difference at a cell in each savepoint that has none there, with the row of the base. No
 /// savepoint's content changes, also where memory runs out.
-pub(crate) fn pin_each(
+pub(crate) fn store_in_each(
     marks: &mut Vec<StoredMark>,
     cell: CellId,
     row: Option<&Row>,
 ) -> Result<(), AllocError>
     ensures seen { (b : Content) → row_at b cell ≡ option_copied row.entry → map (whole_mark b) marks.new.items ≡ map (whole_mark b) marks.old.items }
-    ensures pinned { OnOk result (EachMarkPins marks.new.items cell) }
+    ensures is_stored { OnOk result (EachMarkStores marks.new.items cell) }
     ensures others { StayOwnBeside (cell ∷ []) marks.old.items marks.new.items }
 {
     for i in 0..marks.len() {
-        pin(&mut marks[i], cell, row)?;
+        store_seen(&mut marks[i], cell, row)?;
     }
     Ok(())
 }

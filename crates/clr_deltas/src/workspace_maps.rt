@@ -8,14 +8,14 @@ ghost use Rattle.indexmap.specs.IndexMap.{values};
 ghost use Rattle.clr_rows.specs.Contents.{Content, row_at};
 ghost use Rattle.clr_deltas.specs.Differences.{no_differences, put_each, cells_in, HasDifference, HasDifferences};
 ghost use Rattle.clr_deltas.specs.Deltas.{delta_at, delta_changed, find_delta, stored_in, whole_mark, is_stored_child};
-ghost use Rattle.clr_deltas.specs.Deltas.{stored_without_mark_of, EachMarkPins, StayOwnBeside, rows_taken_over, restarted_with};
+ghost use Rattle.clr_deltas.specs.Deltas.{stored_without_mark_of, EachMarkStores, StayOwnBeside, rows_taken_over, restarted_with};
 ghost use Rattle.clr_deltas.specs.NamedDeltas.{delta_of};
 ghost use Rattle.clr_deltas.specs.declared.stored_marks.StoredMark.TheVariants.{Child};
 
 use crate::delta_views::DeltaView;
 use crate::differences::Differences;
 use crate::stored_marks::{
-    StoredMark, cut_after, drop_mark, drop_mark_of, drop_saved, move_last, pin_each, push_mark,
+    StoredMark, cut_after, drop_mark, drop_mark_of, drop_saved, move_last, push_mark, store_in_each,
 };
 use clr_rows::{CellId, Row, Words};
 use indexmap::IndexMap;
@@ -209,7 +209,7 @@ impl WorkspaceMap {
 
     /// Stores a difference at a cell in each savepoint of the workspace at a position that has none
     /// there, with the row of the base. No savepoint's content changes, also where memory runs out.
-    pub fn pin_saved(
+    pub fn store_saved_rows(
         &mut self,
         at: usize,
         cell: CellId,
@@ -219,17 +219,17 @@ impl WorkspaceMap {
         ensures others { self.new ≡ delta_changed self.old at (λ l. record l { marks = (delta_at self.new at).marks }) }
         ensures seen { (base : Content) → row_at base cell ≡ option_copied row.entry
             → map (whole_mark base) (delta_at self.new at).marks ≡ map (whole_mark base) (delta_at self.old at).marks }
-        ensures pinned { OnOk result (EachMarkPins (delta_at self.new at).marks cell) }
+        ensures is_stored { OnOk result (EachMarkStores (delta_at self.new at).marks cell) }
         ensures elsewhere { StayOwnBeside (cell ∷ []) (delta_at self.old at).marks (delta_at self.new at).marks }
     {
         let (_, delta) = self.map.pair_mut(at);
-        pin_each(&mut delta.marks, cell, row)
+        store_in_each(&mut delta.marks, cell, row)
     }
 
     /// Sets differences that a current content has.
     pub fn set_current(&mut self, at: usize, rows: Vec<(CellId, Option<Row>)>)
         requires there { at < length self.old }
-        requires pinned { HasDifferences (delta_at self.old at).current (cells_in rows.items) }
+        requires is_stored { HasDifferences (delta_at self.old at).current (cells_in rows.items) }
         ensures { self.new ≡ delta_changed self.old at (λ l. record l { current = put_each l.current rows.items }) }
     {
         let (_, delta) = self.map.pair_mut(at);
@@ -239,7 +239,7 @@ impl WorkspaceMap {
     /// Sets differences that a base has. The current content becomes the base, and the savepoints go.
     pub fn take_over(&mut self, at: usize, rows: Vec<(CellId, Option<Row>)>)
         requires there { at < length self.old }
-        requires pinned { HasDifferences (delta_at self.old at).base (cells_in rows.items) }
+        requires is_stored { HasDifferences (delta_at self.old at).base (cells_in rows.items) }
         ensures { self.new ≡ delta_changed self.old at (rows_taken_over rows.items) }
     {
         let alloc = self.allocator();
@@ -296,7 +296,7 @@ impl WorkspaceMap {
     /// Takes the difference at a cell out of a base, and sets the one that the current content has.
     pub fn move_row(&mut self, at: usize, cell: CellId, row: Option<Row>)
         requires there { at < length self.old }
-        requires pinned { HasDifference (delta_at self.old at).current cell }
+        requires is_stored { HasDifference (delta_at self.old at).current cell }
         ensures { self.new ≡ delta_changed self.old at (λ l. record l { base = finite.remove l.base cell; current = finite.insert l.current cell row }) }
     {
         let (_, delta) = self.map.pair_mut(at);

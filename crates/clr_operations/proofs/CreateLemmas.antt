@@ -16,7 +16,7 @@ use Rattle.clr_deltas.specs.Deltas.{Delta, delta_at, delta_changed, leaf, whole_
 use Rattle.clr_deltas.specs.declared.stored_marks.StoredMark.TheVariants as stored
 use Rattle.clr_deltas.proofs.Meaning.{name-wholes, named_found}
 use Rattle.clr_deltas.proofs.Places.{wholes-push}
-use Rattle.clr_contents.specs.Pinning.{Extends, ChildrenPin}
+use Rattle.clr_contents.specs.SeenRows.{Extends, ChildrenStore}
 use Rattle.clr_operations.specs.Moves.{mark_moved}
 use Rattle.clr_workspaces.specs.Operations.{change_workspace, with_marks, with_mark_of, change_marks, new_leaf, own_changes, refresh, after_create}
 use Rattle.clr_workspaces.specs.Operations.{after_refresh}
@@ -24,7 +24,7 @@ use Rattle.clr_workspaces.specs.Roots.{IsRooted}
 use Rattle.clr_workspaces.proofs.RootLemmas.{below_current, below_parent, below_rooted, below_stays, rooted_more}
 use Rattle.clr_contents.proofs.ReadLemmas.{base-wholes, current-wholes, within_wholes}
 use Rattle.clr_operations.proofs.OperationLemmas.{mark_pushed, mark_lasts, restarted}
-use Rattle.clr_contents.proofs.PinLemmas.{extends_itself, extends_marks}
+use Rattle.clr_contents.proofs.SeenRowLemmas.{extends_itself, extends_marks}
 
 -- a leaf at the end --------------------------------------------------------------------------------
 
@@ -111,15 +111,15 @@ pub refreshed_is : (live : Content) (ls gs : List Delta) (at p : ℕ) (rows : Ro
     at < length ls
     → at < length gs → parent_of (wholes live ls) at ≡ Some p → p < at
     → wholes live gs ≡ change_marks (wholes live ls) p (mark_last (workspace_at (wholes live ls) at).name)
-    → ChildrenPin gs (delta_at gs at).name (cells_in rows) → ChildrenPin gs (delta_at gs at).name (finite.keys (delta_at ls at).base)
-    → ChildrenPin gs (delta_at gs at).name (finite.keys (delta_at ls at).current)
+    → ChildrenStore gs (delta_at gs at).name (cells_in rows) → ChildrenStore gs (delta_at gs at).name (finite.keys (delta_at ls at).base)
+    → ChildrenStore gs (delta_at gs at).name (finite.keys (delta_at ls at).current)
     → rows ≡ rows_after changed → changed ≡ own_changes (workspace_at (wholes live ls) at)
     → wholes live (delta_changed gs at (λ l. record l {
       base = no_differences;
       current = put_each no_differences rows;
       marks = filter is_stored_child l.marks;
     })) ≡ after_refresh (wholes live ls) at p
-refreshed_is live ls gs at p rows changed r some lt lt_new parent up end held_rows pinned_base held_old after is =
+refreshed_is live ls gs at p rows changed r some lt lt_new parent up end held_rows is_stored_in_base held_old after is =
     let ws = wholes live ls in
     let w = workspace_at ws at in
     let vs = wholes live gs in
@@ -133,7 +133,7 @@ refreshed_is live ls gs at p rows changed r some lt lt_new parent up end held_ro
     restarted live gs at rooted some lt_new p parent_new up rows (delta_at ls at).base (delta_at ls at).current
     (ap (λ (v : Workspace). v.base) same ∙ base-wholes live ls at some lt p parent up ∙ ap (λ m. seen_over m (delta_at ls at).base) (sym content))
     (ap (λ (v : Workspace). v.current) same ∙ current-wholes live ls at some lt ∙ ap (λ (v : Workspace). seen_over v.base (delta_at ls at).current) (sym same))
-    held_rows pinned_base held_old
+    held_rows is_stored_in_base held_old
     ∙ (λ i. slice_set (end i) at (let v = same i in record v {
       base = content i;
       current = over (content i) ((after ∙ ap rows_after is) i);

@@ -22,8 +22,8 @@ use Rattle.clr_deltas.specs.Deltas.{whole_mark, wholes, is_stored_child, restart
 use Rattle.clr_deltas.specs.declared.stored_marks.StoredMark.{StoredMark}
 use Rattle.clr_deltas.specs.declared.stored_marks.StoredMark.TheVariants as kinds
 use Rattle.clr_deltas.proofs.Meaning.{length-wholes, name-wholes, parent-wholes}
-use Rattle.clr_contents.specs.Pinning.{StaysOwnAt, StayOwnBut, StayOwnButChildren}
-use Rattle.clr_contents.proofs.PinLemmas.{but_itself, but_marks, but_set, own_both}
+use Rattle.clr_contents.specs.SeenRows.{StaysOwnAt, StayOwnBut, StayOwnButChildren}
+use Rattle.clr_contents.proofs.SeenRowLemmas.{but_itself, but_marks, but_set, own_both}
 use Rattle.std.proofs.Math.ListN.{get_or, get_or-map, get_or-append}
 use Rattle.std.proofs.Math.Seq.{map-set_same, get_or-append_seam}
 use Rattle.clr_workspaces.specs.Operations.{own_changes, with_base_merged, after_merge, after_write, with_kept, with_marks, roll_all, new_leaf, keep_row}

@@ -18,12 +18,12 @@ use Rattle.clr_workspaces.specs.Marks.{Name, Mark, Saved, ChildMark, mark_at, is
 use Rattle.clr_workspaces.specs.Marks.{without_mark_of, mark_last}
 use Rattle.clr_workspaces.specs.Workspaces.{Workspace, workspace_at, parent_of}
 use Rattle.clr_deltas.specs.Deltas.{Delta, delta_at, delta_changed, whole_of, whole_mark, wholes, top, above_at, IsUnder, stored_at, saved_differences}
-use Rattle.clr_deltas.specs.Deltas.{is_stored_child, is_stored_mark_of, stored_without_mark_of, EachMarkPins}
+use Rattle.clr_deltas.specs.Deltas.{is_stored_child, is_stored_mark_of, stored_without_mark_of, EachMarkStores}
 use Rattle.clr_deltas.specs.declared.stored_marks.StoredMark.{StoredMark}
 use Rattle.clr_deltas.specs.declared.stored_marks.StoredMark.TheVariants as stored
 use Rattle.clr_deltas.proofs.Meaning.{wholes-live}
 use Rattle.clr_deltas.proofs.Places.{moved_live}
-use Rattle.clr_contents.specs.Pinning.{ChildrenPin}
+use Rattle.clr_contents.specs.SeenRows.{ChildrenStore}
 use Rattle.clr_operations.specs.Moves.{put_into, row_moved}
 use Rattle.clr_workspaces.specs.Operations.{change_workspace, with_marks, with_current, with_kept, roll_all, own_changes, with_base_merged, after_mark}
 use Rattle.clr_workspaces.specs.Operations.{after_unmark, after_roll_to, after_roll_all, set_kept, after_write, after_merge, after_resolve}
@@ -33,7 +33,7 @@ use Rattle.clr_workspaces.proofs.RootLemmas.{later_stays}
 use Rattle.clr_contents.proofs.ReadLemmas.{above_parent, current-wholes}
 use Rattle.clr_contents.proofs.MarkLemmas.{saved_there}
 use Rattle.clr_contents.proofs.MoveLemmas.{becomes, becomes_still}
-use Rattle.clr_contents.proofs.PinLemmas.{rows_agree}
+use Rattle.clr_contents.proofs.SeenRowLemmas.{rows_agree}
 
 -- marks ------------------------------------------------------------------------------------------
 
@@ -76,7 +76,7 @@ cut_marks : (ms : List Mark) (i : ℕ) → is_held ms i ≡ false → take (suc 
 cut_marks ms i e = sym (append-nil (take (suc i) ms)) ∙ ap (λ (ns : List Mark). take (suc i) ms ++ ns) (sym (no_children (drop (suc i) ms) e))
 
 -- savepoints with a difference don't see the base change there
-marks_hidden : (b : Content) (k : CellId) (v : Option Row) (ms : List StoredMark) → EachMarkPins ms k → map (whole_mark (set_cell b k v)) ms
+marks_hidden : (b : Content) (k : CellId) (v : Option Row) (ms : List StoredMark) → EachMarkStores ms k → map (whole_mark (set_cell b k v)) ms
     ≡ map (whole_mark b) ms
 marks_hidden b k v [] held = refl
 marks_hidden b k v (stored.Saved name d ∷ ms) held = λ i. Saved name (hidden b (set_cell b k v) d (set_outside d b k v held.0) i)
@@ -189,7 +189,7 @@ module _ (above : Content) (l : Delta) where
       let current = seen_over-fresh a rows ∙ ap (λ m. over m rows) base in
       λ i. record { name = l.name; parent = l.parent; base = base i; current = current i; marks = children_kept a b l.marks i; kept = l.kept }
 
-  whole_base_taken : (k : CellId) → HasDifference l.current k → EachMarkPins l.marks k → whole_of above (record l { base = finite.remove l.base k })
+  whole_base_taken : (k : CellId) → HasDifference l.current k → EachMarkStores l.marks k → whole_of above (record l { base = finite.remove l.base k })
       ≡ (let w = whole_of above l in record w { base = set_cell w.base k (row_at above k) })
   unfolding whole_of
   whole_base_taken k difference held =
@@ -199,7 +199,7 @@ module _ (above : Content) (l : Delta) where
       let marks = ap (λ (m : Content). map (whole_mark m) l.marks) base ∙ marks_hidden b k v l.marks held in
       λ i. record { name = l.name; parent = l.parent; base = base i; current = current i; marks = marks i; kept = l.kept }
 
-  whole_row_moved : (k : CellId) (v : Option Row) → HasDifference l.current k → EachMarkPins l.marks k
+  whole_row_moved : (k : CellId) (v : Option Row) → HasDifference l.current k → EachMarkStores l.marks k
       → whole_of above (record l { base = finite.remove l.base k; current = finite.insert l.current k v })
       ≡ (let w = whole_of above l in record w { base = set_cell w.base k (row_at above k); current = set_cell w.current k v })
   unfolding whole_of
@@ -261,7 +261,7 @@ module _ (live : Content) (ls : List Delta) (at : ℕ) (r : IsRooted (wholes liv
 
   -- other differences over the base, and fewer marks
   pub rolled : (d old : Differences) (n : ℕ) → (workspace_at (wholes live ls) at).current ≡ seen_over (workspace_at (wholes live ls) at).base old
-      → ChildrenPin ls (delta_at ls at).name (finite.keys d) → ChildrenPin ls (delta_at ls at).name (finite.keys old)
+      → ChildrenStore ls (delta_at ls at).name (finite.keys d) → ChildrenStore ls (delta_at ls at).name (finite.keys old)
       → wholes live (delta_changed ls at (λ l. record l { current = d; marks = take n l.marks }))
       ≡ change_workspace (wholes live ls) at (λ w. record w { current = seen_over w.base d; marks = take n w.marks })
   rolled d old n was held_new held_old =
@@ -270,7 +270,7 @@ module _ (live : Content) (ls : List Delta) (at : ℕ) (r : IsRooted (wholes liv
       seen_outside (delta_at ls k).base here.base d (held_new k k_some k_lt under) q none
       ∙ sym (ap (λ (c : Content). row_at c q) was ∙ seen_outside (delta_at ls k).base here.base old (held_old k k_some k_lt under) q none))
 
-  pub put : (rows : RowsByCell) → ChildrenPin ls (delta_at ls at).name (cells_in rows)
+  pub put : (rows : RowsByCell) → ChildrenStore ls (delta_at ls at).name (cells_in rows)
       → wholes live (delta_changed ls at (λ l. record l { current = put_each l.current rows })) ≡ put_into (wholes live ls) at rows
   put rows held = becomes live ls at r some lt _ (λ w. with_current (over w.current rows) w) refl refl (whole_put above l_at rows)
       (rows_agree ls l_at.name here.current rows held)
@@ -292,8 +292,8 @@ module _ (live : Content) (ls : List Delta) (at : ℕ) (r : IsRooted (wholes liv
     pub restarted : (rows : RowsByCell) (base old : Differences)
         → (workspace_at (wholes live ls) at).base ≡ seen_over (workspace_at (wholes live ls) p).current base → (workspace_at (wholes live ls) at).current
         ≡ seen_over (workspace_at (wholes live ls) at).base old
-        → ChildrenPin ls (delta_at ls at).name (cells_in rows) → ChildrenPin ls (delta_at ls at).name (finite.keys base)
-        → ChildrenPin ls (delta_at ls at).name (finite.keys old)
+        → ChildrenStore ls (delta_at ls at).name (cells_in rows) → ChildrenStore ls (delta_at ls at).name (finite.keys base)
+        → ChildrenStore ls (delta_at ls at).name (finite.keys old)
         → wholes live (delta_changed ls at (λ l. record l {
           base = no_differences;
           current = put_each no_differences rows;
@@ -306,7 +306,7 @@ module _ (live : Content) (ls : List Delta) (at : ℕ) (r : IsRooted (wholes liv
           marks =
               without_saved w.marks;
         })
-    restarted rows base old was_base was_current held_rows pinned_base held_old =
+    restarted rows base old was_base was_current held_rows is_stored_in_base held_old =
         becomes live ls at r some lt _ (λ w. record w { base = over_it; current = over over_it rows; marks = without_saved w.marks }) refl refl
         (whole_restarted above l_at rows
         ∙ ap (λ (m : Content). let w = whole_of above l_at in record w { base = m; current = over m rows; marks = without_saved w.marks })
@@ -314,17 +314,17 @@ module _ (live : Content) (ls : List Delta) (at : ℕ) (r : IsRooted (wholes liv
         (λ k k_some k_lt under q none.
         over_outside (delta_at ls k).base rows over_it (held_rows k k_some k_lt under) q none
         ∙ sym (ap (λ (m : Content). row_at m q) was_current ∙ seen_outside (delta_at ls k).base here.base old (held_old k k_some k_lt under) q none
-        ∙ ap (λ (m : Content). row_at m q) was_base ∙ seen_outside (delta_at ls k).base over_it base (pinned_base k k_some k_lt under) q none))
+        ∙ ap (λ (m : Content). row_at m q) was_base ∙ seen_outside (delta_at ls k).base over_it base (is_stored_in_base k k_some k_lt under) q none))
 
-    pub base_taken : (k : CellId) → HasDifference (delta_at ls at).current k → EachMarkPins (delta_at ls at).marks k
+    pub base_taken : (k : CellId) → HasDifference (delta_at ls at).current k → EachMarkStores (delta_at ls at).marks k
         → wholes live (delta_changed ls at (λ l. record l { base = finite.remove l.base k })) ≡ after_resolve (wholes live ls) at p k keeps.Child
     base_taken k difference held =
         becomes_still live ls at r some lt _ (λ w. record w { base = set_cell w.base k (row_at over_it k) }) refl refl
         (whole_base_taken above l_at k difference held ∙ ap (λ (m : Content). let w = whole_of above l_at in record w { base = set_cell w.base k (row_at m k) })
         (above_parent live ls at p parent up)) refl
 
-    pub row_set : (k : CellId) (v : Option Row) → ChildrenPin ls (delta_at ls at).name (k ∷ []) → HasDifference (delta_at ls at).current k
-        → EachMarkPins (delta_at ls at).marks k
+    pub row_set : (k : CellId) (v : Option Row) → ChildrenStore ls (delta_at ls at).name (k ∷ []) → HasDifference (delta_at ls at).current k
+        → EachMarkStores (delta_at ls at).marks k
         → wholes live (delta_changed ls at (λ l. record l { base = finite.remove l.base k; current = finite.insert l.current k v }))
         ≡ row_moved (wholes live ls) at p k v
     row_set k v children difference held =
@@ -339,8 +339,8 @@ differences_both : (d : Differences) (first others : List CellId) → HasDiffere
 differences_both d [] others held = (tt, held)
 differences_both d (cell ∷ first) others held = let rest = differences_both d first others held.1 in ((held.0, rest.0), rest.1)
 
-pub children_both : (ls : List Delta) (name : Name) (first others : List CellId) → ChildrenPin ls name (first ++ others) → ChildrenPin ls name first
-    × ChildrenPin ls name others
+pub children_both : (ls : List Delta) (name : Name) (first others : List CellId) → ChildrenStore ls name (first ++ others) → ChildrenStore ls name first
+    × ChildrenStore ls name others
 children_both ls name first others held = (
   λ k some lt under. (differences_both (delta_at ls k).base first others (held k some lt under)).0,
   λ k some lt under.
@@ -352,7 +352,7 @@ top_put : (live : Content) (l : Delta) (rows : RowsByCell) → top (over live ro
 unfolding top
 top_put live l rows = refl
 
-pub live_put : (live : Content) (ls : List Delta) (rows : RowsByCell) → 0 < length ls → ChildrenPin ls (delta_at ls 0).name (cells_in rows)
+pub live_put : (live : Content) (ls : List Delta) (rows : RowsByCell) → 0 < length ls → ChildrenStore ls (delta_at ls 0).name (cells_in rows)
     → wholes (over live rows) ls ≡ put_into (wholes live ls) 0 rows
 live_put live ls rows lt held =
     moved_live live (over live rows) ls lt (rows_agree ls (delta_at ls 0).name live rows held)

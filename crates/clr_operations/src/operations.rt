@@ -7,7 +7,7 @@ ghost use Rattle.std.specs.FinMap as finite;
 ghost use Rattle.clr_deltas.specs.Deltas.{delta_at, saved_differences, stored_at, wholes};
 ghost use Rattle.clr_workspaces.specs.Marks.{is_saved, is_held, mark_at};
 ghost use Rattle.clr_workspaces.specs.Workspaces.{workspace_at, find, parent_of as position_of_parent, children_of};
-ghost use Rattle.clr_contents.specs.Pinning.{Extends, ChildrenPin, StayOwnButChildren};
+ghost use Rattle.clr_contents.specs.SeenRows.{Extends, ChildrenStore, StayOwnButChildren};
 ghost use Rattle.clr_operations.specs.Moves.{put_into, row_moved, mark_moved};
 ghost use Rattle.clr_workspaces.specs.Operations.{after_create, after_remove, after_mark, after_roll_to, after_roll_all};
 ghost use Rattle.clr_workspaces.specs.Operations.{after_refresh, after_merge, after_resolve, after_rebase};
@@ -20,8 +20,8 @@ ghost use Rattle.clr_workspaces.specs.declared.rebases.Rebase.TheVariants.{Merge
 
 use clr_change::{ChangeSet, copy_row};
 use clr_contents::{
-    base_row_of, cells_of, changes_of, parent_of, pin_children, pin_own, pin_row, row_of, saved_at,
-    sweep_at,
+    base_row_of, cells_of, changes_of, parent_of, row_of, saved_at, store_current_rows,
+    store_rows_of_children, store_seen_row, sweep_at,
 };
 use clr_deltas::{Differences, StoredMark, WorkspaceMap, push_leaf};
 use clr_rows::{CellId, Row, Sheet, Words};
@@ -44,15 +44,15 @@ fn put_rows(
     ensures err { OnErr result (wholes live.new map.new ≡ wholes live.old map.old) }
     ensures extends { Extends map.old map.new }
     ensures elsewhere { StayOwnButNear at (cells_in rows.items) map.old map.new }
-    ensures children { OnOk result (ChildrenPin map.new (delta_at map.old at).name (cells_in rows.items)) }
+    ensures children { OnOk result (ChildrenStore map.new (delta_at map.old at).name (cells_in rows.items)) }
 {
     let cells = cells_of(map.allocator(), rows.as_slice())?;
-    pin_children(live, map, at, cells.as_slice())?;
+    store_rows_of_children(live, map, at, cells.as_slice())?;
     if at == 0 {
         live.put_all(rows)?;
         return Ok(());
     }
-    pin_own(live, map, at, cells.as_slice())?;
+    store_current_rows(live, map, at, cells.as_slice())?;
     map.set_current(at, rows);
     Ok(())
 }
@@ -123,7 +123,7 @@ fn roll_back(
     ensures long { length map.new ≡ length map.old }
     ensures elsewhere { StayOwnButNear at cells.now map.old map.new }
 {
-    pin_children(live, map, at, cells)?;
+    store_rows_of_children(live, map, at, cells)?;
     map.roll_to(at, differences, mark);
     Ok(())
 }
@@ -257,7 +257,7 @@ fn refresh_base(
 {
     let alloc = map.allocator();
     let name = Words::from_str(alloc, map.name_at(at))?;
-    pin_children(live, map, at, cells)?;
+    store_rows_of_children(live, map, at, cells)?;
     let differences = Differences::of_rows(alloc, rows)?;
     move_mark(map, above, name)?;
     map.restart(at, differences);
@@ -313,21 +313,26 @@ fn keep_own(
     ensures long { length map.new ≡ length map.old }
     ensures elsewhere { StayOwnButNear at (cell ∷ []) map.old map.new }
 {
-    pin_row(live, map, at, cell)?;
+    store_seen_row(live, map, at, cell)?;
     map.take_base(at, cell);
     Ok(())
 }
 
 /// Stores a difference at a cell of the base of each child of a workspace that has none there.
-fn pin_cell(live: &Sheet, map: &mut WorkspaceMap, at: usize, cell: CellId) -> Result<(), AllocError>
+fn store_cell(
+    live: &Sheet,
+    map: &mut WorkspaceMap,
+    at: usize,
+    cell: CellId,
+) -> Result<(), AllocError>
     requires within { at < length map.old }
     requires rooted { IsRooted (wholes live.now map.old) }
     ensures seen { wholes live.now map.new ≡ wholes live.now map.old }
     ensures extends { Extends map.old map.new }
     ensures elsewhere { StayOwnButChildren (delta_at map.old at).name (cell ∷ []) map.old map.new }
-    ensures children { OnOk result (ChildrenPin map.new (delta_at map.old at).name (cell ∷ [])) }
+    ensures children { OnOk result (ChildrenStore map.new (delta_at map.old at).name (cell ∷ [])) }
 {
-    pin_children(live, map, at, &[cell])
+    store_rows_of_children(live, map, at, &[cell])
 }
 
 /// Moves the base of a workspace to its parent's row at one cell, and gives the workspace another
@@ -350,8 +355,8 @@ fn move_row(
     ensures long { length map.new ≡ length map.old }
     ensures elsewhere { StayOwnButNear at (cell ∷ []) map.old map.new }
 {
-    pin_cell(live, map, at, cell)?;
-    pin_row(live, map, at, cell)?;
+    store_cell(live, map, at, cell)?;
+    store_seen_row(live, map, at, cell)?;
     map.move_row(at, cell, row);
     Ok(())
 }

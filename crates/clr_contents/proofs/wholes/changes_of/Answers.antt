@@ -4,7 +4,7 @@ use Rattle.clr_rows.specs.Contents.{changes, no_changes}
 use Rattle.clr_deltas.specs.Differences.{Differences, RowsByCell}
 use Rattle.clr_deltas.specs.Deltas.{delta_at, wholes}
 use Rattle.clr_workspaces.specs.Workspaces.{workspace_at}
-use Rattle.clr_contents.specs.Pinning.{set_each}
+use Rattle.clr_contents.specs.SeenRows.{set_each}
 use Rattle.clr_contents.proofs.ChangeLemmas.{changes_found}
 use Rattle.clr_contents.proofs.ReadLemmas.{current-wholes}
 use Rattle.clr_contents.proofs.wholes.changes_of.Goals as goal

@@ -3,7 +3,7 @@ use Rattle.std.specs.Vec.Iter.{into_iter_items}
 use Rattle.clr_rows.specs.Contents.{no_changes}
 use Rattle.clr_deltas.specs.Deltas.{wholes}
 use Rattle.clr_workspaces.specs.Workspaces.{workspace_at}
-use Rattle.clr_contents.specs.Pinning.{set_each}
+use Rattle.clr_contents.specs.SeenRows.{set_each}
 use Rattle.clr_contents.proofs.wholes.changes_to.Given as goal
 
 -- the changes that are left, set over those so far, are all

@@ -4,7 +4,7 @@ use Rattle.clr_rows.specs.Contents.{over, rows_after}
 use Rattle.clr_deltas.specs.Differences.{RowsByCell, no_differences, put_each, cells_in, HasDifferences}
 use Rattle.clr_deltas.specs.Deltas.{Delta, wholes, delta_at, delta_changed, is_stored_child, IsUnder}
 use Rattle.clr_workspaces.specs.Workspaces.{workspace_at}
-use Rattle.clr_contents.specs.Pinning.{StayOwnBut}
+use Rattle.clr_contents.specs.SeenRows.{StayOwnBut}
 use Rattle.clr_workspaces.specs.Roots.{IsRooted}
 use Rattle.clr_contents.proofs.ReadLemmas.{under_its_parent}
 use Rattle.clr_contents.specs.Lean.{StayOwnButNear}
@@ -15,8 +15,8 @@ use Rattle.clr_operations.proofs.OperationLemmas.{merged_is}
 use Rattle.clr_workspaces.proofs.RootLemmas.{rooted_set}
 use Rattle.clr_operations.proofs.operations.merge_rows.Goals as goal
 
-pub take_over-requires-clause-pinned : goal.take_over-requires-clause-pinned
-take_over-requires-clause-pinned c =
+pub take_over-requires-clause-is_stored : goal.take_over-requires-clause-is_stored
+take_over-requires-clause-is_stored c =
     let ls = c.args.map.now in
     let hs = c.put_rows.new.map in
     let at = c.args.at in

@@ -7,8 +7,8 @@ use Rattle.clr_rows.proofs.SortedMaps.{get_sorted, one_put, sorted_from_ordered}
 use Rattle.clr_deltas.specs.Differences.{Differences}
 use Rattle.clr_deltas.proofs.differences.Differences.put.Goals as goal
 
-pub returns-in_err-insert-clause-pinned : goal.returns-in_err-insert-clause-pinned
-returns-in_err-insert-clause-pinned c =
+pub returns-in_err-insert-clause-is_stored : goal.returns-in_err-insert-clause-is_stored
+returns-in_err-insert-clause-is_stored c =
     let none = ap (λ (d : Differences). finite.get d c.args.cell) (sym c.self.view_is)
     ∙ get_sorted cell_cmp c.self.inside.rows.entries c.args.cell c.self.invariant ∙ c.in_err-insert.ensures.absent in
     λ some. absurd (false≢true (sym (ap is_some none) ∙ some))
