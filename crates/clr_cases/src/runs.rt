@@ -2,9 +2,9 @@
 
 use crate::offices::office_after;
 use clr_check::{Verdict, check};
-use clr_drafts::write_office;
 use clr_engine::Office;
 use clr_office_test_kit::{certificate_of, office_of, replies_to, rows_of, run_under};
+use clr_office_texts::write_office;
 use std::alloc::Global;
 
 /// Returns what commands are answered under the certificate of a text, or the line of its verdict, and the rows of the root after them.

@@ -6,7 +6,7 @@ use Rattle.std.proofs.lemmas.Bool.Decides.{Decides-eqb}
 use Rattle.clr_needs.specs.declared.needs.Need.{Need}
 use Rattle.clr_needs.specs.declared.needs.VersionId.{VersionId}
 use Rattle.clr_needs.specs.Blocking.{same_life}
-use Rattle.clr_versions.specs.Candidates.{are_opposed}
+use Rattle.clr_row_versions.specs.Candidates.{are_opposed}
 use Rattle.clr_needs.specs.Covers.{CoverTogether, CoversAlone, IsLifeOf, Lasts, WitnessesCover}
 use Rattle.clr_needs.specs.Needs.{AreOpposed, AreServers, IsBesideIfAny, IsPossible, Serves}
 use Rattle.clr_needs.specs.Settings.{Setting, Lifetime, Always, With, Without, Lived, version}

@@ -5,8 +5,8 @@ ghost use Rattle.clr_cert.specs.Certificates.{certificate_in};
 ghost use Rattle.clr_check.specs.Cases.{IsCaseFault, case_of, where_held, with_certificate};
 
 use clr_cert::{CertFault, Certificate, read_certificate};
-use clr_drafts::{TextFault, read_office};
 use clr_engine::{AdmitFault, Broken, Draft, Office};
+use clr_office_texts::{TextFault, read_office};
 use std::alloc::Global;
 
 /// Why two texts give no office with a certificate of it.

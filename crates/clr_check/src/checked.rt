@@ -2,8 +2,8 @@
 
 use clr_cert::CertFault;
 use clr_clearance::Verdict;
-use clr_drafts::TextFault;
 use clr_engine::Broken;
+use clr_office_texts::TextFault;
 
 /// What is said of an office and of a certificate, both given as texts.
 #[derive(Clone, Copy, Debug, PartialEq, Eq)]

@@ -17,8 +17,8 @@ use clr_cert::Entry;
 use clr_finders::RowFinder;
 use clr_foot::Scene;
 use clr_needs::{Life, Need, VersionId};
+use clr_row_versions::{are_opposed, are_same};
 use clr_rows::RowView;
-use clr_versions::{are_opposed, are_same};
 use std::alloc::{AllocError, Global};
 
 /// Returns whether a life is that of a subject, if there is one.

@@ -45,6 +45,6 @@ pub use cases::{CaseFault, read_case};
 pub use checked::Checked;
 pub use checks::check;
 pub use clr_clearance::Verdict;
-pub use clr_drafts::TextFault;
+pub use clr_office_texts::TextFault;
 pub use runs::{ClearedRun, perform_cleared};
 pub use text_checks::{TextCheck, check_texts, judge_texts};

@@ -8,8 +8,8 @@ use Rattle.std.proofs.lemmas.Slice.Eq.{bytes_eq-Decides}
 use Rattle.json.specs.Print.{escape, escape_byte, quoted}
 use Rattle.serde_json.specs.Data.{Data, null, boolean, number, string, array, object, Items, no_items, item, Members, no_members, member, Num, unsigned, negative, float}
 use Rattle.serde_json.specs.Written.{compact_text, items_text, members_text, number_text}
-use Rattle.clr_desk.specs.declared.line_ends.Place.{Place}
-use Rattle.clr_desk.specs.declared.line_ends.Place.TheVariants.{Within, Escaped, Between}
+use Rattle.clr_desk.specs.declared.line_ends.JsonState.{JsonState}
+use Rattle.clr_desk.specs.declared.line_ends.JsonState.TheVariants.{Within, Escaped, Between}
 use Rattle.clr_desk.specs.LineEnds.{is_in_list, line_end_if, lined_from}
 use Rattle.clr_desk.specs.LinedTexts.{is_object, lined_items, lined_members, lined_text}
 use Rattle.clr_desk.proofs.LineEnds.{last-append, last_of, lined-append, place-append, place_of}
@@ -21,11 +21,11 @@ within_same : (b : ℕ) (xs : List ℕ) → lined_from Within b xs ≡ lined_fro
 within_same b [] = refl
 within_same b (x ∷ xs) = refl
 
-abbrev is_within : Place → Bool
+abbrev is_within : JsonState → Bool
 is_within Within = true
 is_within _ = false
 
-within_is : (p : Place) → is_within p ≡ true → p ≡ Within
+within_is : (p : JsonState) → is_within p ≡ true → p ≡ Within
 within_is Within e = refl
 within_is Escaped e = absurd cc
 within_is Between e = absurd cc

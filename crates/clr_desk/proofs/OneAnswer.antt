@@ -22,7 +22,7 @@ use Rattle.clr_check.specs.Answers.{IsCheckAnswer}
 use Rattle.clr_merge_sets.specs.Certificates.{entries_in, merge_set_of}
 use Rattle.clr_merge_sets.specs.MergeSetNames.{merge_set}
 use Rattle.clr_lines.specs.Verdicts.{verdict_text}
-use Rattle.clr_drafts.specs.Drafts.{draft_in}
+use Rattle.clr_office_texts.specs.Drafts.{draft_in}
 use Rattle.clr_plan.specs.declared.plans.Plan.{Plan}
 use Rattle.clr_plan.specs.declared.plans.Plan.TheVariants as plan
 use Rattle.clr_plan.specs.OnePlan.{AreAlike}
@@ -31,17 +31,17 @@ use Rattle.clr_plan.proofs.OnePlanLemmas.{one_plan}
 use Rattle.clr_plan.specs.PlanLines.{blocked_text, cleared_text, plan_text}
 use Rattle.clr_office.specs.Clearances.{is_without_memory}
 use Rattle.clr_office.specs.Outcomes.{IsPlanned}
-use Rattle.clr_reports.specs.Printing.{status_of}
+use Rattle.clr_office_reports.specs.Printing.{status_of}
 use Rattle.clr_layer_changes.specs.declared.options.GivenLayer.{GivenLayer}
 use Rattle.clr_layer_changes.specs.declared.options.LayerOptions.{LayerOptions}
-use Rattle.clr_prints.specs.Designs as designs
-use Rattle.clr_prints.specs.Designs.{IsPrintOfDesign, IsPrintOfLayers, IsPrintOfLive, IsPrintOfScript, faulty_layer_printout, refusal_print, text_print}
-use Rattle.clr_prints.specs.Members.{members_or_children}
-use Rattle.clr_prints.specs.Printing.{PrintoutOrFault, printout_of}
+use Rattle.clr_desk_answers.specs.Designs as designs
+use Rattle.clr_desk_answers.specs.Designs.{IsPrintOfDesign, IsPrintOfLayers, IsPrintOfLive, IsPrintOfScript, faulty_layer_printout, refusal_print, text_print}
+use Rattle.clr_desk_answers.specs.Members.{members_or_children}
+use Rattle.clr_desk_answers.specs.Printing.{PrintoutOrFault, printout_of}
 use Rattle.clr_desk.specs.Certificates.{IsPlanPrint, plan_print}
 use Rattle.clr_desk.specs.Checks.{IsCheckPrint, check_print}
 use Rattle.clr_desk.specs.Choices as choices
-use Rattle.clr_desk.specs.Choices.{AreTrials, IsChoicePrint, Trial, choice_print, is_taken, left_text, members_tried, refusal_text, taken_in}
+use Rattle.clr_desk.specs.Choices.{AreTrials, IsChoicePrint, TriedName, choice_print, is_taken, left_text, members_tried, refusal_text, taken_in}
 use Rattle.clr_desk.specs.Formats.{IsFormatPrint, IsInLines, in_lines, in_one_line}
 use Rattle.clr_desk.specs.Merges as merging
 use Rattle.clr_desk.specs.Merges.{IsMergePrintout, merge_print, verdict_print}

@@ -3,17 +3,17 @@ use Rattle.std.proofs.Common.{◌≡◌, ◌∙◌, ◌||◌, ◌∷◌, Bool, t
 use Rattle.std.specs.List.{list_any}
 use Rattle.std.proofs.lemmas.Bool.{false≢true}
 use Rattle.clr_check.specs.Cases.{case_of}
-use Rattle.clr_drafts.specs.Drafts.{draft_in}
+use Rattle.clr_office_texts.specs.Drafts.{draft_in}
 use Rattle.clr_office.specs.Answers.{is_too_long}
 use Rattle.clr_layer_changes.specs.declared.options.GivenLayer.{GivenLayer}
-use Rattle.clr_desk_command_line.specs.declared.asks.Ask.{Ask}
-use Rattle.clr_desk_command_line.specs.declared.asks.Ask.TheVariants as ask
+use Rattle.clr_desk_command_line.specs.declared.asks.DeskAsk.{DeskAsk}
+use Rattle.clr_desk_command_line.specs.declared.asks.DeskAsk.TheVariants as ask
 use Rattle.clr_desk_command_line.specs.declared.asks.GeographicAsk.{GeographicAsk}
 use Rattle.clr_desk_command_line.specs.declared.asks.GeographicAsk.TheVariants as geographic
-use Rattle.clr_prints.specs.Designs.{IsDesignPrint, IsDesignScriptPrint, IsOfficePrint, IsPrintOfDesign, IsPrintOfLive, IsPrintOfScript}
-use Rattle.clr_prints.specs.Members.{set_asked}
-use Rattle.clr_prints.specs.NameHints.{IsHinted}
-use Rattle.clr_prints.specs.Printing.{PrintoutOrFault}
+use Rattle.clr_desk_answers.specs.Designs.{IsDesignPrint, IsDesignScriptPrint, IsOfficePrint, IsPrintOfDesign, IsPrintOfLive, IsPrintOfScript}
+use Rattle.clr_desk_answers.specs.Members.{set_asked}
+use Rattle.clr_desk_answers.specs.NameHints.{IsHinted}
+use Rattle.clr_desk_answers.specs.Printing.{PrintoutOrFault}
 use Rattle.clr_desk.specs.Answers.{IsDeskAnswerIf, IsDeskAnswerTo, IsDeskAnswerWithin, is_too_long_layer}
 use Rattle.clr_desk.specs.Certificates.{IsCertificatePrint}
 use Rattle.clr_desk.specs.Checks.{IsCheckPrint}
@@ -40,7 +40,7 @@ one_geographic (geographic.DesignScript design) office layers whole =
     one_in (IsDesignScriptPrint design.name options layers)
     (λ o. one_of_layers options layers (IsPrintOfScript design.name) (one_design_script design.name) o) (draft_in office)
 
-one_within : (asked : Ask) (office second : List ℕ) (layers : List GivenLayer) → is_whole asked ≡ true
+one_within : (asked : DeskAsk) (office second : List ℕ) (layers : List GivenLayer) → is_whole asked ≡ true
     → IsOnePrint (IsDeskAnswerWithin asked office second layers)
 one_within (ask.Certificate root names) office second layers whole =
     one_in (IsHinted (IsCertificatePrint root names) (root ∷ names))
@@ -60,7 +60,7 @@ one_within (ask.Map root names) office second layers whole = absurd (false≢tru
 one_within (ask.Report root names) office second layers whole = absurd (false≢true whole)
 one_within (ask.Geographic asked) office second layers whole = one_geographic asked office layers whole
 
-one_if : (too_long : Bool) (asked : Ask) (office second : List ℕ) (layers : List GivenLayer) → is_whole asked ≡ true
+one_if : (too_long : Bool) (asked : DeskAsk) (office second : List ℕ) (layers : List GivenLayer) → is_whole asked ≡ true
     → IsOnePrint (IsDeskAnswerIf too_long asked office second layers)
 one_if true asked office second layers whole print other one two found found_too = one ∙ sym two
 one_if false asked office second layers whole print other one two found found_too =

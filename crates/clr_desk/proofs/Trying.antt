@@ -16,15 +16,15 @@ use Rattle.clr_plan.specs.Promises.{is_out_of_memory}
 use Rattle.clr_office.specs.Outcomes.{IsPlanned}
 use Rattle.clr_cert.specs.declared.certificates.Certificate.{Certificate}
 use Rattle.clr_cert.specs.Texts.{certificate_text}
-use Rattle.clr_desk.specs.Choices.{AreTrials, IsChoicePrint, IsTrialAt, Trial, is_taken, left_text, members_tried, names_line, of_trials}
+use Rattle.clr_desk.specs.Choices.{AreTrials, IsChoicePrint, IsTrialAt, TriedName, is_taken, left_text, members_tried, names_line, of_trials}
 use Rattle.clr_desk.specs.Choices.{refusal_text, taken_in}
-use Rattle.clr_prints.specs.Members.{members_or_children}
-use Rattle.clr_prints.specs.Printing.{printed, printout_of}
-use Rattle.clr_prints.specs.declared.prints.Print.{Print}
+use Rattle.clr_desk_answers.specs.Members.{members_or_children}
+use Rattle.clr_desk_answers.specs.Printing.{printed, printout_of}
+use Rattle.clr_desk_answers.specs.declared.prints.Print.{Print}
 use Rattle.clr_desk.specs.Trials.{IsAdded, IsChosen, IsTried}
 use Rattle.clr_desk.specs.declared.choices.Choice.{Choice}
-use Rattle.clr_desk.specs.declared.choices.Trial.{Trial as Answer}
-use Rattle.clr_desk.specs.declared.choices.Trial.TheVariants as answer
+use Rattle.clr_desk.specs.declared.choices.TriedName.{TriedName as Answer}
+use Rattle.clr_desk.specs.declared.choices.TriedName.TheVariants as answer
 
 -- what stands in a list with one more at its end, and what stands before it
 get_last : {X : Type 0} (xs : List X) (x y : X) (at : ℕ) → slice_get (xs ++ x ∷ []) at ≡ Some y
@@ -41,25 +41,25 @@ one_more_name : (names : List Name) (at : ℕ) (name : Name) → at < length nam
 one_more_name names at name less is = take_more names at name less ∙ ap (λ n. take at names ++ n ∷ []) (sym is)
 
 -- the last trial takes its name, or leaves it
-taken_last : (ts : List Trial) (t : Trial) → is_taken t ≡ true → taken_in (ts ++ t ∷ []) ≡ taken_in ts ++ t.name ∷ []
+taken_last : (ts : List TriedName) (t : TriedName) → is_taken t ≡ true → taken_in (ts ++ t ∷ []) ≡ taken_in ts ++ t.name ∷ []
 taken_last ts t e =
-    ap (map (λ (u : Trial). u.name)) (filter-append is_taken ts (t ∷ [])) ∙ map-append (λ (u : Trial). u.name) (filter is_taken ts) (filter is_taken (t ∷ []))
-    ∙ ap (λ b. taken_in ts ++ map (λ (u : Trial). u.name) (cond b (t ∷ []) [])) e
+    ap (map (λ (u : TriedName). u.name)) (filter-append is_taken ts (t ∷ [])) ∙ map-append (λ (u : TriedName). u.name) (filter is_taken ts) (filter is_taken (t ∷ []))
+    ∙ ap (λ b. taken_in ts ++ map (λ (u : TriedName). u.name) (cond b (t ∷ []) [])) e
 
-left_last : (ts : List Trial) (t : Trial) → is_taken t ≡ false → taken_in (ts ++ t ∷ []) ≡ taken_in ts
+left_last : (ts : List TriedName) (t : TriedName) → is_taken t ≡ false → taken_in (ts ++ t ∷ []) ≡ taken_in ts
 left_last ts t e =
-    ap (map (λ (u : Trial). u.name)) (filter-append is_taken ts (t ∷ [])) ∙ map-append (λ (u : Trial). u.name) (filter is_taken ts) (filter is_taken (t ∷ []))
-    ∙ ap (λ b. taken_in ts ++ map (λ (u : Trial). u.name) (cond b (t ∷ []) [])) e ∙ append-nil (taken_in ts)
+    ap (map (λ (u : TriedName). u.name)) (filter-append is_taken ts (t ∷ [])) ∙ map-append (λ (u : TriedName). u.name) (filter is_taken ts) (filter is_taken (t ∷ []))
+    ∙ ap (λ b. taken_in ts ++ map (λ (u : TriedName). u.name) (cond b (t ∷ []) [])) e ∙ append-nil (taken_in ts)
 
 module _ (o : Office) (root : Name) where
   -- one more trial, of those taken so far and one more name
-  trials_last : (names : List Name) (ts : List Trial) (name : Name) (p : Plan) → AreTrials o root names ts
+  trials_last : (names : List Name) (ts : List TriedName) (name : Name) (p : Plan) → AreTrials o root names ts
       → IsPlanned o (merge_set root (taken_in ts ++ name ∷ [])) p
       → is_out_of_memory p ≡ false → AreTrials o root (names ++ name ∷ []) (ts ++ record { before = taken_in ts; name = name; plan = p } ∷ [])
   trials_last names ts name p are planned found =
-      let t : Trial = record { before = taken_in ts; name = name; plan = p } in
+      let t : TriedName = record { before = taken_in ts; name = name; plan = p } in
       record {
-        names = map-append (λ (u : Trial). u.name) ts (t ∷ []) ∙ ap (λ l. l ++ name ∷ []) are.names;
+        names = map-append (λ (u : TriedName). u.name) ts (t ∷ []) ∙ ap (λ l. l ++ name ∷ []) are.names;
         each = λ at u e. elim (get_last ts t u at e) [
           | inl (there, front) ↦ (let before = are.each at u there in
               record { before = before.before ∙ ap taken_in (sym front); planned = before.planned; found = before.found })
@@ -87,7 +87,7 @@ module _ (o : Office) (root : Name) where
       nothing (n ∷ ns) = refl
 
   module _ (names : List Name) (at : ℕ) (name : Name) (less : at < length names) (is : name ≡ get_or names at name) (old new : Choice) where
-    more : (ts : List Trial) → AreTrials o root (take at names) ts → (p : Plan) → IsPlanned o (merge_set root (taken_in ts ++ name ∷ [])) p
+    more : (ts : List TriedName) → AreTrials o root (take at names) ts → (p : Plan) → IsPlanned o (merge_set root (taken_in ts ++ name ∷ [])) p
         → is_out_of_memory p ≡ false
         → AreTrials o root (take (at + 1) names) (ts ++ record { before = taken_in ts; name = name; plan = p } ∷ [])
     more ts are p planned found =
@@ -98,7 +98,7 @@ module _ (o : Office) (root : Name) where
     pub tried : (a : Answer) → IsTried o root old.taken.items name a → IsAdded old name a new → IsChosen o root (take at names) old
         → IsChosen o root (take (at + 1) names) new
     tried (answer.Taken c) planned (taken, certificate, left, any) (ts, are, made) =
-        let t : Trial = record { before = taken_in ts; name = name; plan = plan.Cleared c } in
+        let t : TriedName = record { before = taken_in ts; name = name; plan = plan.Cleared c } in
         let here : IsPlanned o (merge_set root (taken_in ts ++ name ∷ [])) (plan.Cleared c) = subst
         (λ (ms : List Name). IsPlanned o (merge_set root (ms ++ name ∷ [])) (plan.Cleared c)) made.taken planned in
         let now : new.taken.items ≡ old.taken.items ++ name ∷ [] = taken in (
@@ -117,7 +117,7 @@ module _ (o : Office) (root : Name) where
         or_nothing true = refl
         or_nothing false = refl
     tried (answer.Left lines) (p, planned, uncleared, found, told) (taken, certificate, left, any) (ts, are, made) =
-        let t : Trial = record { before = taken_in ts; name = name; plan = p } in
+        let t : TriedName = record { before = taken_in ts; name = name; plan = p } in
         let here : IsPlanned o (merge_set root (taken_in ts ++ name ∷ [])) p = subst
         (λ (ms : List Name). IsPlanned o (merge_set root (ms ++ name ∷ [])) p) made.taken planned in
         let text : lines.items ≡ left_text o root t = told ∙ ap (λ (ms : List Name). refusal_text o.schema root (ms ++ name ∷ []) name p) made.taken ∙ sym
@@ -139,7 +139,7 @@ module _ (o : Office) (root : Name) where
         or_true true = refl
         or_true false = refl
 
-        said : (t : Trial) → is_taken t ≡ false → left_text o root t ≡ refusal_text o.schema root (members_tried t) t.name t.plan
+        said : (t : TriedName) → is_taken t ≡ false → left_text o root t ≡ refusal_text o.schema root (members_tried t) t.name t.plan
         said t e = ap (λ b. cond b [] (refusal_text o.schema root (members_tried t) t.name t.plan)) e
 
 -- all names are tried

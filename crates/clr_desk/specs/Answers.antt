@@ -3,13 +3,13 @@ use Rattle.std.specs.Prelude.{◌≡◌, ◌∷◌, ◌||◌, ◌⊎◌, ℕ, Bo
 use Rattle.std.specs.List.{list_any}
 use Rattle.std.specs.Io.KnownBytes.{Appends}
 use Rattle.clr_check.specs.Cases.{case_of}
-use Rattle.clr_drafts.specs.Drafts.{draft_in}
+use Rattle.clr_office_texts.specs.Drafts.{draft_in}
 use Rattle.clr_layer_changes.specs.declared.options.GivenLayer.{GivenLayer}
 use Rattle.clr_office.specs.Answers.{is_too_long}
-use Rattle.clr_reports.specs.declared.faults.RunFault.{RunFault}
-use Rattle.clr_reports.specs.declared.faults.RunFault.TheVariants as run_fault
-use Rattle.clr_desk_command_line.specs.declared.asks.Ask.{Ask}
-use Rattle.clr_desk_command_line.specs.declared.asks.Ask.TheVariants as ask
+use Rattle.clr_office_reports.specs.declared.faults.RunFault.{RunFault}
+use Rattle.clr_office_reports.specs.declared.faults.RunFault.TheVariants as run_fault
+use Rattle.clr_desk_command_line.specs.declared.asks.DeskAsk.{DeskAsk}
+use Rattle.clr_desk_command_line.specs.declared.asks.DeskAsk.TheVariants as ask
 use Rattle.clr_desk.specs.Certificates.{IsCertificatePrint}
 use Rattle.clr_desk.specs.Checks.{IsCheckPrint}
 use Rattle.clr_desk.specs.Choices.{IsChoicePrint}
@@ -17,15 +17,15 @@ use Rattle.clr_desk.specs.Clashes.{IsClashesPrint}
 use Rattle.clr_desk.specs.Formats.{IsFormatPrint}
 use Rattle.clr_desk.specs.Geographic.{IsGeographicAnswer}
 use Rattle.clr_desk.specs.Merges.{IsHintedMerge}
-use Rattle.clr_prints.specs.NameHints.{IsHinted}
+use Rattle.clr_desk_answers.specs.NameHints.{IsHinted}
 use Rattle.clr_desk.specs.Orders.{IsOrderPrint}
-use Rattle.clr_prints.specs.Printing.{IsPrintoutFault, IsPrintoutIn, IsPrintoutOfCase, Printout, PrintoutOrFault}
+use Rattle.clr_desk_answers.specs.Printing.{IsPrintoutFault, IsPrintoutIn, IsPrintoutOfCase, Printout, PrintoutOrFault}
 use Rattle.clr_desk.specs.Whys.{IsWhyPrint}
-use Rattle.clr_prints.specs.Maps.{IsMapPrint}
-use Rattle.clr_prints.specs.Reports.{IsReportPrint}
+use Rattle.clr_desk_answers.specs.Maps.{IsMapPrint}
+use Rattle.clr_desk_answers.specs.Reports.{IsReportPrint}
 
 -- what is to be printed for what is asked of an office text, a second text and layers
-abbrev pub IsDeskAnswerWithin : Ask → List ℕ → List ℕ → List GivenLayer → PrintoutOrFault → Type 0
+abbrev pub IsDeskAnswerWithin : DeskAsk → List ℕ → List ℕ → List GivenLayer → PrintoutOrFault → Type 0
 IsDeskAnswerWithin (ask.Certificate root names) office second layers print =
     IsPrintoutIn (IsHinted (IsCertificatePrint root names) (root ∷ names)) (draft_in office) print
 IsDeskAnswerWithin ask.Check office certificate layers print = IsPrintoutOfCase IsCheckPrint (case_of office certificate) print
@@ -44,14 +44,14 @@ IsDeskAnswerWithin (ask.WorkOrder root names) office second layers print =
 IsDeskAnswerWithin (ask.Geographic asked) office second layers print = IsGeographicAnswer asked office layers print
 
 -- what is answered, where it is given whether a text is too long
-abbrev pub IsDeskAnswerIf : Bool → Ask → List ℕ → List ℕ → List GivenLayer → PrintoutOrFault → Type 0
+abbrev pub IsDeskAnswerIf : Bool → DeskAsk → List ℕ → List ℕ → List GivenLayer → PrintoutOrFault → Type 0
 IsDeskAnswerIf true asked office second layers print = print ≡ Err run_fault.TooLong
 IsDeskAnswerIf false asked office second layers print = IsDeskAnswerWithin asked office second layers print
 
 abbrev pub is_too_long_layer : GivenLayer → Bool
 is_too_long_layer layer = is_too_long layer.text.items
 
-abbrev pub IsDeskAnswerTo : Ask → List ℕ → List ℕ → List GivenLayer → PrintoutOrFault → Type 0
+abbrev pub IsDeskAnswerTo : DeskAsk → List ℕ → List ℕ → List GivenLayer → PrintoutOrFault → Type 0
 IsDeskAnswerTo asked office second layers print =
     IsDeskAnswerIf (is_too_long office || is_too_long second || list_any is_too_long_layer layers) asked office second layers print
 

@@ -6,11 +6,11 @@ use Rattle.clr_steps.specs.Offices.{Office}
 use Rattle.clr_cert.specs.Certificates.{certificate_in}
 use Rattle.clr_cert.specs.declared.certificates.Certificate.{Certificate}
 use Rattle.clr_cert.specs.declared.faults.CertFault.{CertFault}
-use Rattle.clr_drafts.specs.Drafts.{draft_in}
+use Rattle.clr_office_texts.specs.Drafts.{draft_in}
 use Rattle.clr_rule_text.specs.declared.faults.TextFault.{TextFault}
-use Rattle.clr_why.specs.Shorts.{IsShortCertificateFault, IsShortOfficeFault}
-use Rattle.clr_reports.specs.declared.faults.RunFault.{RunFault}
-use Rattle.clr_reports.specs.declared.faults.RunFault.TheVariants as run_fault
+use Rattle.clr_text_diagnosis.specs.Shorts.{IsShortCertificateFault, IsShortOfficeFault}
+use Rattle.clr_office_reports.specs.declared.faults.RunFault.{RunFault}
+use Rattle.clr_office_reports.specs.declared.faults.RunFault.TheVariants as run_fault
 
 -- the name of the file of a text, or no name
 abbrev pub file_name : List Name → ℕ → Name

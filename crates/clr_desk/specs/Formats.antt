@@ -1,10 +1,10 @@
 -- An office's text in lines.
 use Rattle.std.specs.Prelude.{◌≡◌, ℕ, false, List, [], ◌++◌, codes, Ok}
 use Rattle.clr_steps.specs.Offices.{Office}
-use Rattle.clr_drafts.specs.Drafts.{draft_in}
-use Rattle.clr_drafts.specs.Writing.{bytes_of, text_of}
-use Rattle.clr_office_json.specs.OfficeData.{office_data}
-use Rattle.clr_prints.specs.Printing.{PrintoutOrFault, printout_of}
+use Rattle.clr_office_texts.specs.Drafts.{draft_in}
+use Rattle.clr_office_texts.specs.Writing.{bytes_of, text_of}
+use Rattle.clr_office_writing.specs.OfficeData.{office_data}
+use Rattle.clr_desk_answers.specs.Printing.{PrintoutOrFault, printout_of}
 use Rattle.clr_desk.specs.LinedTexts.{lined_text}
 
 -- the text of an office in lines, the last of which is ended too

@@ -1,15 +1,15 @@
 -- What is printed in the texts of geographic information systems, and of such texts.
 use Rattle.std.specs.Prelude.{ℕ, Bool, List, [], ◌∷◌}
-use Rattle.clr_drafts.specs.Drafts.{draft_in}
+use Rattle.clr_office_texts.specs.Drafts.{draft_in}
 use Rattle.clr_desk_command_line.specs.declared.asks.GeographicAsk.{GeographicAsk}
 use Rattle.clr_desk_command_line.specs.declared.asks.GeographicAsk.TheVariants as ask
 use Rattle.clr_layer_changes.specs.declared.options.GivenLayer.{GivenLayer}
 use Rattle.clr_layer_changes.specs.declared.options.LayerOptions.{LayerOptions}
-use Rattle.clr_prints.specs.Designs.{IsDesignPrint, IsDesignScriptPrint, IsOfficePrint}
-use Rattle.clr_prints.specs.Features.{IsFeaturesAnswer}
-use Rattle.clr_prints.specs.Layers.{IsLayerPrint}
-use Rattle.clr_prints.specs.NameHints.{IsHinted}
-use Rattle.clr_prints.specs.Printing.{IsPrintoutIn, PrintoutOrFault}
+use Rattle.clr_desk_answers.specs.Designs.{IsDesignPrint, IsDesignScriptPrint, IsOfficePrint}
+use Rattle.clr_desk_answers.specs.Features.{IsFeaturesAnswer}
+use Rattle.clr_desk_answers.specs.Layers.{IsLayerPrint}
+use Rattle.clr_desk_answers.specs.NameHints.{IsHinted}
+use Rattle.clr_desk_answers.specs.Printing.{IsPrintoutIn, PrintoutOrFault}
 
 -- layers are read so: rows without keys get keys from this one on, and coordinates are rounded or not
 abbrev pub options_of : ℕ → Bool → LayerOptions

@@ -2,13 +2,13 @@
 use Rattle.std.specs.Prelude.{ℕ, List, [], drop}
 use Rattle.std.specs.List.{zip}
 use Rattle.clr_workspaces.specs.Marks.{Name}
-use Rattle.clr_desk_command_line.specs.declared.asks.Ask.{Ask}
-use Rattle.clr_desk_command_line.specs.declared.asks.Ask.TheVariants as ask
+use Rattle.clr_desk_command_line.specs.declared.asks.DeskAsk.{DeskAsk}
+use Rattle.clr_desk_command_line.specs.declared.asks.DeskAsk.TheVariants as ask
 use Rattle.clr_desk_command_line.specs.declared.asks.GeographicAsk.TheVariants as geographic
 use Rattle.clr_layer_changes.specs.declared.options.GivenLayer.{GivenLayer}
 
 -- the tables of the layers that are asked for, in the order of their files
-abbrev pub tables_of : Ask → List Name
+abbrev pub tables_of : DeskAsk → List Name
 tables_of (ask.Geographic (geographic.Office tables rounded)) = tables
 tables_of (ask.Geographic (geographic.Design design)) = design.tables
 tables_of (ask.Geographic (geographic.DesignScript design)) = design.tables
@@ -19,5 +19,5 @@ abbrev pub pair_of : GivenLayer → Name × List ℕ
 pair_of layer = (layer.table, layer.text.items)
 
 -- each of these tables with the text in its place behind the first, which is the office's
-abbrev pub pairs_in : Ask → List (List ℕ) → List (Name × List ℕ)
+abbrev pub pairs_in : DeskAsk → List (List ℕ) → List (Name × List ℕ)
 pairs_in asked texts = zip (tables_of asked) (drop 1 texts)

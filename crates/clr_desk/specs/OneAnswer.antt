@@ -1,11 +1,11 @@
 -- Most of what is asked of texts is answered in one way alone, memory aside.
 use Rattle.std.specs.Prelude.{◌≡◌, ◌≢◌, ℕ, Bool, true, false, List, Ok, Err}
-use Rattle.clr_desk_command_line.specs.declared.asks.Ask.{Ask}
-use Rattle.clr_desk_command_line.specs.declared.asks.Ask.TheVariants as ask
+use Rattle.clr_desk_command_line.specs.declared.asks.DeskAsk.{DeskAsk}
+use Rattle.clr_desk_command_line.specs.declared.asks.DeskAsk.TheVariants as ask
 use Rattle.clr_desk_command_line.specs.declared.asks.GeographicAsk.{GeographicAsk}
 use Rattle.clr_desk_command_line.specs.declared.asks.GeographicAsk.TheVariants as geographic
 use Rattle.clr_layer_changes.specs.declared.options.GivenLayer.{GivenLayer}
-use Rattle.clr_prints.specs.Printing.{PrintoutOrFault}
+use Rattle.clr_desk_answers.specs.Printing.{PrintoutOrFault}
 use Rattle.clr_desk.specs.Answers.{IsDeskAnswerTo}
 
 -- what is asked has an answer that its definition tells whole; of clashes, faults, sentences, pictures, pages, features and layers it leaves
@@ -15,7 +15,7 @@ is_whole_layer (geographic.Features root names system) = false
 is_whole_layer (geographic.Layer table workspace) = false
 is_whole_layer _ = true
 
-abbrev pub is_whole : Ask → Bool
+abbrev pub is_whole : DeskAsk → Bool
 is_whole (ask.Clashes root names) = false
 is_whole (ask.Why kind) = false
 is_whole (ask.WorkOrder root names) = false
@@ -35,5 +35,5 @@ IsOnePrint IsPrint = (print other : PrintoutOrFault) → IsPrint print → IsPri
 
 -- two answers to what is asked of the same texts have one text, the same notes and one status, or one fault
 abbrev pub OneDeskAnswerLaw : Type 0
-OneDeskAnswerLaw = (asked : Ask) (office second : List ℕ) (layers : List GivenLayer) → is_whole asked ≡ true
+OneDeskAnswerLaw = (asked : DeskAsk) (office second : List ℕ) (layers : List GivenLayer) → is_whole asked ≡ true
     → IsOnePrint (IsDeskAnswerTo asked office second layers)

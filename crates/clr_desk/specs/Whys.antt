@@ -2,10 +2,10 @@
 use Rattle.std.specs.Prelude.{◌≡◌, ℕ, List, [], codes, Ok}
 use Rattle.clr_desk_command_line.specs.declared.asks.TextKind.{TextKind}
 use Rattle.clr_desk_command_line.specs.declared.asks.TextKind.TheVariants as kind
-use Rattle.clr_why.specs.Whys.{IsCertificateWhy, IsOfficeWhy, IsScriptWhy}
-use Rattle.clr_why.specs.declared.whys.Why.{Why}
-use Rattle.clr_why.specs.declared.whys.Why.TheVariants as why
-use Rattle.clr_prints.specs.Printing.{PrintoutOrFault}
+use Rattle.clr_text_diagnosis.specs.Whys.{IsCertificateWhy, IsOfficeWhy, IsScriptWhy}
+use Rattle.clr_text_diagnosis.specs.declared.whys.Why.{Why}
+use Rattle.clr_text_diagnosis.specs.declared.whys.Why.TheVariants as why
+use Rattle.clr_desk_answers.specs.Printing.{PrintoutOrFault}
 
 -- what is found in the office text, or in the second text over it
 abbrev pub IsWhy : TextKind → List ℕ → List ℕ → Why → Type 0

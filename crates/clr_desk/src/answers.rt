@@ -3,9 +3,9 @@
 ghost use Rattle.std.specs.Prelude.{◌≡◌, ◌≢◌, [], false, IfErr, IfOk};
 ghost use Rattle.std.specs.List.{list_any};
 ghost use Rattle.std.specs.Io.KnownBytes.{Appends};
-ghost use Rattle.clr_reports.specs.declared.faults.RunFault.TheVariants as run_fault;
+ghost use Rattle.clr_office_reports.specs.declared.faults.RunFault.TheVariants as run_fault;
 ghost use Rattle.clr_desk.specs.Answers.{IsDeskAnswer, IsDeskAnswerTo, IsDeskAnswerWithin, is_too_long_layer};
-ghost use Rattle.clr_prints.specs.Printing.{IsMadePrintout};
+ghost use Rattle.clr_desk_answers.specs.Printing.{IsMadePrintout};
 
 use crate::certificates::answer_certificate;
 use crate::checks::answer_check;
@@ -16,15 +16,15 @@ use crate::geographic::answer_geographic;
 use crate::merges::answer_merge;
 use crate::orders::answer_work_order;
 use crate::whys::answer_why;
-use clr_desk_command_line::Ask;
+use clr_desk_answers::{GivenLayer, Print, answer_map, answer_report};
+use clr_desk_command_line::DeskAsk;
 use clr_office::{MOST_INPUT_BYTES, RunFault, Sink};
-use clr_prints::{GivenLayer, Print, answer_map, answer_report};
 use std::alloc::Global;
 
 /// Returns what is printed for what is asked of two texts and of layers.
 fn answer_texts(
     alloc: Global,
-    ask: &Ask,
+    ask: &DeskAsk,
     office: &[u8],
     second: &[u8],
     layers: &[GivenLayer],
@@ -32,19 +32,29 @@ fn answer_texts(
     ensures { IsMadePrintout (IsDeskAnswerWithin ask.now office.now second.now layers.now) result }
 {
     match ask {
-        Ask::Certificate(root, names) => {
+        DeskAsk::Certificate(root, names) => {
             answer_certificate(alloc, office, root.as_str(), names.as_slice())
         }
-        Ask::Check => answer_check(alloc, office, second),
-        Ask::Merge(names) => answer_merge(alloc, office, second, names.as_slice()),
-        Ask::Format => answer_format(alloc, office),
-        Ask::Keep(root, names) => answer_keep(alloc, office, root.as_str(), names.as_slice()),
-        Ask::Clashes(root, names) => answer_clashes(alloc, office, root.as_str(), names.as_slice()),
-        Ask::Why(kind) => answer_why(alloc, kind, office, second),
-        Ask::Geographic(ask) => answer_geographic(alloc, ask, office, layers),
-        Ask::Map(root, names) => answer_map(alloc, office, root.as_str(), names.as_slice()),
-        Ask::Report(root, names) => answer_report(alloc, office, root.as_str(), names.as_slice()),
-        Ask::WorkOrder(root, names) => {
+        DeskAsk::Check => answer_check(alloc, office, second),
+        DeskAsk::Merge(names) => answer_merge(alloc, office, second, names.as_slice()),
+        DeskAsk::Format => answer_format(alloc, office),
+        DeskAsk::Keep(root, names) => answer_keep(alloc, office, root.as_str(), names.as_slice()),
+        DeskAsk::Clashes(root, names) => answer_clashes(
+            alloc,
+            office,
+            root.as_str(),
+            names.as_slice(),
+        ),
+        DeskAsk::Why(kind) => answer_why(alloc, kind, office, second),
+        DeskAsk::Geographic(ask) => answer_geographic(alloc, ask, office, layers),
+        DeskAsk::Map(root, names) => answer_map(alloc, office, root.as_str(), names.as_slice()),
+        DeskAsk::Report(root, names) => answer_report(
+            alloc,
+            office,
+            root.as_str(),
+            names.as_slice(),
+        ),
+        DeskAsk::WorkOrder(root, names) => {
             answer_work_order(alloc, office, root.as_str(), names.as_slice())
         }
     }
@@ -73,7 +83,7 @@ fn is_any_too_long(layers: &[GivenLayer]) -> bool
 /// Want of memory is `OutOfMemory`, which may come in place of any other answer.
 pub fn answer<W: Sink, N: Sink>(
     alloc: Global,
-    ask: &Ask,
+    ask: &DeskAsk,
     office: &[u8],
     second: &[u8],
     layers: &[GivenLayer],

@@ -2,27 +2,27 @@
 ghost use Rattle.std.specs.Prelude.{◌≡◌, ◌∷◌, ◌++◌, [], codes, false, map, IfOk, OnOk};
 ghost use Rattle.clr_cert.specs.Texts.{certificate_text};
 ghost use Rattle.clr_merge_sets.specs.MergeSetNames.{merge_set};
-ghost use Rattle.clr_drafts.specs.Drafts.{draft_in};
+ghost use Rattle.clr_office_texts.specs.Drafts.{draft_in};
 ghost use Rattle.clr_plan.specs.declared.plans.Plan.TheVariants as plan;
 ghost use Rattle.clr_office.specs.Outcomes.{IsPlanned};
 ghost use Rattle.clr_desk.specs.Choices.{IsChoicePrint, names_line, refusal_text};
 ghost use Rattle.clr_desk.specs.Trials.{IsAdded, IsChosen, IsTried};
-ghost use Rattle.clr_prints.specs.NameHints.{IsHinted};
-ghost use Rattle.clr_prints.specs.Printing.{IsMadePrintout, IsPrintoutIn, printed, printout_of};
+ghost use Rattle.clr_desk_answers.specs.NameHints.{IsHinted};
+ghost use Rattle.clr_desk_answers.specs.Printing.{IsMadePrintout, IsPrintoutIn, printed, printout_of};
 
 use crate::certificates::plan_print;
 use crate::names_lines::names_line;
 use clr_cert::{Certificate, write_certificate};
+use clr_desk_answers::{Print, members_asked, notes_of, plan_members, with_hints};
 use clr_engine::Office;
 use clr_office::{Plan, RunFault, Words, open_office, texts_of_names};
 use clr_plan::plan_lines;
-use clr_prints::{Print, members_asked, notes_of, plan_members, with_hints};
 use clr_rows::Schema;
 use std::alloc::{AllocError, Global};
 
 /// What is said of one more name beside those taken.
 #[derive(Drop)]
-enum Trial {
+enum TriedName {
     /// The members are cleared together, by this certificate.
     Taken(Certificate),
     /// The members aren't cleared together, and these lines say why.
@@ -65,13 +65,13 @@ fn try_name(
     root: &str,
     taken: &[Words],
     name: &Words,
-) -> Result<Trial, AllocError>
+) -> Result<TriedName, AllocError>
     ensures { IfOk result (IsTried office.now root.now taken.now name.now) }
 {
     let mut members = texts_of_names(alloc, taken)?;
     members.push(name.as_str())?;
     match plan_members(alloc, office, root, members.as_slice()) {
-        Plan::Cleared(certificate) => Ok(Trial::Taken(certificate)),
+        Plan::Cleared(certificate) => Ok(TriedName::Taken(certificate)),
         Plan::OutOfMemory => Err(AllocError),
         plan => {
             let lines = refusal_lines(
@@ -82,22 +82,22 @@ fn try_name(
                 name.as_str(),
                 &plan,
             )?;
-            Ok(Trial::Left(lines))
+            Ok(TriedName::Left(lines))
         }
     }
 }
 
 impl Choice {
     /// Takes a name, or leaves it.
-    fn add(&mut self, name: &Words, trial: Trial) -> Result<(), AllocError>
+    fn add(&mut self, name: &Words, trial: TriedName) -> Result<(), AllocError>
         ensures { OnOk result (IsAdded self.old name.now trial self.new) }
     {
         match trial {
-            Trial::Taken(certificate) => {
+            TriedName::Taken(certificate) => {
                 self.taken.push(name.copy()?)?;
                 self.certificate = certificate;
             }
-            Trial::Left(lines) => {
+            TriedName::Left(lines) => {
                 self.left.extend_from_slice(lines.as_slice())?;
                 self.is_any_left = true;
             }

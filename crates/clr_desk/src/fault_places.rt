@@ -1,13 +1,13 @@
 //! Where the fault of a text is that an answer fails with.
 ghost use Rattle.std.specs.Prelude.{◌≡◌, IfOk};
 ghost use Rattle.clr_cert.specs.Certificates.{certificate_in};
-ghost use Rattle.clr_drafts.specs.Drafts.{draft_in};
+ghost use Rattle.clr_office_texts.specs.Drafts.{draft_in};
 ghost use Rattle.clr_desk.specs.FaultPlaces.{IsCertificatePlace, IsCertificatePlaceOver, IsFaultPlace, IsOfficePlace, file_name};
 
-use clr_drafts::{TextFault, read_office};
 use clr_office::{RunFault, Words};
+use clr_office_texts::{TextFault, read_office};
 use clr_rows::Schema;
-use clr_why::{short_certificate_fault, short_office_fault};
+use clr_text_diagnosis::{short_certificate_fault, short_office_fault};
 use std::alloc::{AllocError, Global};
 
 /// Returns the name of the file of a text, or no name.

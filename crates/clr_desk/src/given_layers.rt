@@ -3,20 +3,19 @@ ghost use Rattle.std.specs.Prelude.{◌≡◌, [], map, slice_get, IfOk};
 ghost use Rattle.std.specs.List.{zip};
 ghost use Rattle.clr_desk.specs.GivenLayers.{pair_of, pairs_in, tables_of};
 
-use clr_desk_command_line::{Ask, GeographicAsk};
+use clr_desk_answers::GivenLayer;
+use clr_desk_command_line::{DeskAsk, GeographicAsk};
 use clr_office::Words;
-use clr_prints::GivenLayer;
 use std::alloc::{AllocError, Global};
 
 /// Returns the tables of the layers that are asked for, in the order of their files.
-fn tables_of(ask: &Ask) -> &[Words]
+fn tables_of(ask: &DeskAsk) -> &[Words]
     ensures { result.now ≡ tables_of ask.now }
 {
     match ask {
-        Ask::Geographic(GeographicAsk::Office(tables, _)) => tables.as_slice(),
-        Ask::Geographic(GeographicAsk::Design(design) | GeographicAsk::DesignScript(design)) => {
-            design.tables.as_slice()
-        }
+        DeskAsk::Geographic(GeographicAsk::Office(tables, _)) => tables.as_slice(),
+        DeskAsk::Geographic(GeographicAsk::Design(design) | GeographicAsk::DesignScript(design)) =>
+            { design.tables.as_slice() }
         _ => &[],
     }
 }
@@ -47,7 +46,7 @@ fn with_texts(
 /// and the others follow in the order of their tables. The text of the office stays, and where no layer is asked for, all texts do.
 pub fn take_layers(
     alloc: Global,
-    ask: &Ask,
+    ask: &DeskAsk,
     texts: &mut Vec<Vec<u8>>,
 ) -> Result<Vec<GivenLayer>, AllocError>
     ensures layers { IfOk result (λ layers. map pair_of layers.items ≡ pairs_in ask.now (map (λ text. text.items) texts.old.items)) }

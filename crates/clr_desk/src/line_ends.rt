@@ -6,32 +6,32 @@ use std::alloc::{AllocError, Global};
 
 /// How a JSON text goes on behind a byte: within a text, behind a `\` in one, or between texts.
 #[derive(Clone, Copy, Drop)]
-enum Place {
+enum JsonState {
     Within,
     Escaped,
     Between,
 }
 
 /// Returns the place behind one more byte.
-fn place_behind(place: Place, byte: u8) -> Place
+fn place_behind(place: JsonState, byte: u8) -> JsonState
     ensures { result ≡ behind place byte }
 {
     match (place, byte) {
-        (Place::Within, b'\\') => Place::Escaped,
-        (Place::Within, b'"') => Place::Between,
-        (Place::Within | Place::Escaped, _) => Place::Within,
-        (Place::Between, b'"') => Place::Within,
-        (Place::Between, _) => Place::Between,
+        (JsonState::Within, b'\\') => JsonState::Escaped,
+        (JsonState::Within, b'"') => JsonState::Between,
+        (JsonState::Within | JsonState::Escaped, _) => JsonState::Within,
+        (JsonState::Between, b'"') => JsonState::Within,
+        (JsonState::Between, _) => JsonState::Between,
     }
 }
 
 /// Returns whether a line ends between two bytes: before an object in a list, and before the end of a
 /// list of objects.
-fn is_line_end(place: Place, before: u8, byte: u8) -> bool
+fn is_line_end(place: JsonState, before: u8, byte: u8) -> bool
     ensures { result ≡ ends_line place before byte }
 {
     match place {
-        Place::Between => match byte {
+        JsonState::Between => match byte {
             b'{' => before == b'[' || before == b',',
             b']' => before == b'}',
             _ => false,
@@ -57,7 +57,7 @@ pub(crate) fn with_line_ends(alloc: Global, text: &[u8]) -> Result<Vec<u8>, Allo
     ensures { IfOk result (λ lines. lines.items ≡ lined text.now) }
 {
     let mut lines = Vec::with_capacity(alloc, text.len())?;
-    let mut place = Place::Between;
+    let mut place = JsonState::Between;
     let mut before = b'\n';
     for byte in text {
         add_byte(&mut lines, is_line_end(place, before, *byte), *byte)?;

@@ -7,7 +7,7 @@ use Rattle.clap.specs.Words.{Row, Text, subcommand_of}
 use Rattle.clap.specs.Faults.{fault_of}
 use Rattle.clap.proofs.OnLiterals.{clap_on_literals}
 use Rattle.clr_command_line.proofs.Entering.{IsAsking, IsKnown, asked_of, asks_something}
-use Rattle.clr_desk_command_line.specs.declared.asks.Ask.{Ask}
+use Rattle.clr_desk_command_line.specs.declared.asks.DeskAsk.{DeskAsk}
 use Rattle.clr_desk_command_line.specs.Asks.{ask_by_name, geographic_asked, is_readable, members_ask, reads_layers}
 use Rattle.clr_desk_command_line.specs.Program.{program}
 
@@ -57,7 +57,7 @@ pub program_asks : IsAsking known program
 unfolding clap_on_literals
 program_asks = record { known = all_known; demands = refl; has_help = refl; simple = refl; free = refl }
 
-either : (b : Bool) (o : Option (Ask × List Text)) → is_some (if b then Some (tt {0}) else option_map (λ asked. tt {0}) o) ≡ true → (not b || is_some o) ≡ true
+either : (b : Bool) (o : Option (DeskAsk × List Text)) → is_some (if b then Some (tt {0}) else option_map (λ asked. tt {0}) o) ≡ true → (not b || is_some o) ≡ true
     → is_some o ≡ true
 either true o some readable = readable
 either false (Some asked) some readable = refl

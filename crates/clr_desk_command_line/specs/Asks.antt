@@ -9,8 +9,8 @@ use Rattle.clr_rows.specs.Names.{live_name}
 use Rattle.clr_rows.specs.Schemas.{is_key}
 use Rattle.clr_records.specs.Decimals.{number_of}
 use Rattle.clr_command_line.specs.Asks.{database_and, database_of, given_names, given_value}
-use Rattle.clr_desk_command_line.specs.declared.asks.Ask.{Ask}
-use Rattle.clr_desk_command_line.specs.declared.asks.Ask.TheVariants.{Certificate, Check, Merge, Format, Keep, Clashes, Why, WorkOrder, Map, Report, Geographic}
+use Rattle.clr_desk_command_line.specs.declared.asks.DeskAsk.{DeskAsk}
+use Rattle.clr_desk_command_line.specs.declared.asks.DeskAsk.TheVariants.{Certificate, Check, Merge, Format, Keep, Clashes, Why, WorkOrder, Map, Report, Geographic}
 use Rattle.clr_desk_command_line.specs.declared.asks.DesignAsk.{DesignAsk}
 use Rattle.clr_desk_command_line.specs.declared.asks.GeographicAsk.{GeographicAsk}
 use Rattle.clr_desk_command_line.specs.declared.asks.GeographicAsk.TheVariants.{Features, Layer, Office, Design, DesignScript}
@@ -25,14 +25,14 @@ abbrev pub given_root : List Row → Text
 given_root rows = given_or live_name (codes "under") rows
 
 -- what `why` asks for, and its files: of the script if one is given, else of the certificate if one is given, else of the office
-abbrev pub why_of : List Row → Ask × List Text
+abbrev pub why_of : List Row → DeskAsk × List Text
 why_of rows =
     if is_some (first_of (codes "script") rows) then (Why kind.Script, database_and (codes "script") rows)
     else (if is_some (first_of (codes "certificate") rows) then (Why kind.Certificate, database_and (codes "certificate") rows)
     else (Why kind.Office, database_of rows))
 
 -- what is asked of members of a root
-unfoldable pub members_ask : Text → Text → List Text → Option Ask
+unfoldable pub members_ask : Text → Text → List Text → Option DeskAsk
 members_ask name root names =
     if bytes_eq name (codes "certificate") then Some (Certificate root names)
     else (if bytes_eq name (codes "keep") then Some (Keep root names)
@@ -42,10 +42,10 @@ members_ask name root names =
     else (if bytes_eq name (codes "report") then Some (Report root names)
     else None)))))
 
-abbrev pub members_asked : Text → List Row → Option (Ask × List Text)
+abbrev pub members_asked : Text → List Row → Option (DeskAsk × List Text)
 members_asked name rows = option_map (λ asked. (asked, database_of rows)) (members_ask name (given_root rows) (given_names rows))
 
-abbrev pub merge_ask : List Row → Ask × List Text
+abbrev pub merge_ask : List Row → DeskAsk × List Text
 merge_ask rows = (Merge (given_names rows), database_and (codes "CERT") rows)
 
 -- tables and designs as texts for geographic information systems ---------------------------------
@@ -124,12 +124,12 @@ geographic_asked name rows =
 
 -- what a subcommand asks for ------------------------------------------------------------------
 
-abbrev pub or_members_asked : Option (GeographicAsk × List Text) → Text → List Row → Option (Ask × List Text)
+abbrev pub or_members_asked : Option (GeographicAsk × List Text) → Text → List Row → Option (DeskAsk × List Text)
 or_members_asked (Some asked) name rows = Some (Geographic asked.0, asked.1)
 or_members_asked None name rows = members_asked name rows
 
 -- what a subcommand asks for, and its files
-unfoldable pub ask_by_name : Text → List Row → Option (Ask × List Text)
+unfoldable pub ask_by_name : Text → List Row → Option (DeskAsk × List Text)
 ask_by_name name rows =
     if bytes_eq name (codes "check") then Some (Check, database_and (codes "CERT") rows)
     else (if bytes_eq name (codes "merge") then Some (merge_ask rows)
@@ -138,7 +138,7 @@ ask_by_name name rows =
     else or_members_asked (geographic_asked name rows) name rows)))
 
 -- what the subcommand that words name asks for, if they name one
-abbrev pub ask_of : Option (Text × List Row) → Option (Ask × List Text)
+abbrev pub ask_of : Option (Text × List Row) → Option (DeskAsk × List Text)
 ask_of found = option_and_then (λ p. ask_by_name p.0 p.1) found
 
 -- a subcommand reads layers

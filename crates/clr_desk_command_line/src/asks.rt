@@ -41,7 +41,7 @@ pub enum GeographicAsk {
 
 /// What is asked of an office text, and of further texts where there are some.
 #[derive(Debug, Drop)]
-pub enum Ask {
+pub enum DeskAsk {
     /// The certificate of these children of a root, alone: the root, and the children, or none for all.
     Certificate(Words, Names),
     /// The verdict on a certificate; the second text is the certificate.

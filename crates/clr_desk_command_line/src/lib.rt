@@ -19,6 +19,6 @@ mod options;
 mod reading;
 mod values;
 
-pub use asks::{Ask, DesignAsk, GeographicAsk, TextKind};
+pub use asks::{DesignAsk, DeskAsk, GeographicAsk, TextKind};
 pub use clr_command_line::AskFault;
 pub use reading::ask_of;

@@ -16,7 +16,7 @@ ghost use Rattle.clr_desk_command_line.specs.Asks.{
 };
 ghost use Rattle.clr_desk_command_line.specs.Program.{program};
 
-use crate::asks::{Ask, TextKind};
+use crate::asks::{DeskAsk, TextKind};
 use crate::command::whole_command;
 use crate::complaints::complaint;
 use crate::layer_reading::geographic_ask;
@@ -28,7 +28,7 @@ use clr_rows::{Names, Words};
 use std::alloc::{AllocError, Global};
 
 /// What is asked, and the files, in which the office text stands first.
-type Asked = (Ask, Vec<Words>);
+type Asked = (DeskAsk, Vec<Words>);
 
 /// Returns whether an option has a value.
 fn has_value(matches: &ArgMatches, option: &str) -> bool
@@ -44,31 +44,31 @@ fn why(alloc: Global, matches: &ArgMatches) -> Result<Asked, AllocError>
 {
     if has_value(matches, "script") {
         Ok((
-            Ask::Why(TextKind::Script),
+            DeskAsk::Why(TextKind::Script),
             database_with(alloc, matches, "script")?,
         ))
     } else if has_value(matches, "certificate") {
         Ok((
-            Ask::Why(TextKind::Certificate),
+            DeskAsk::Why(TextKind::Certificate),
             database_with(alloc, matches, "certificate")?,
         ))
     } else {
-        Ok((Ask::Why(TextKind::Office), database(alloc, matches)?))
+        Ok((DeskAsk::Why(TextKind::Office), database(alloc, matches)?))
     }
 }
 
 /// Returns what is asked of members of a root, if a subcommand of this name asks it.
 #[tactic(auto, unfolding(crate::specs::Asks::members_ask))]
-fn members_ask(name: &str, root: Words, names: Names) -> Option<Ask>
+fn members_ask(name: &str, root: Words, names: Names) -> Option<DeskAsk>
     ensures { result ≡ members_ask name.now root names }
 {
     match name {
-        "certificate" => Some(Ask::Certificate(root, names)),
-        "keep" => Some(Ask::Keep(root, names)),
-        "clashes" => Some(Ask::Clashes(root, names)),
-        "words" => Some(Ask::WorkOrder(root, names)),
-        "map" => Some(Ask::Map(root, names)),
-        "report" => Some(Ask::Report(root, names)),
+        "certificate" => Some(DeskAsk::Certificate(root, names)),
+        "keep" => Some(DeskAsk::Keep(root, names)),
+        "clashes" => Some(DeskAsk::Clashes(root, names)),
+        "words" => Some(DeskAsk::WorkOrder(root, names)),
+        "map" => Some(DeskAsk::Map(root, names)),
+        "report" => Some(DeskAsk::Report(root, names)),
         _ => None,
     }
 }
@@ -94,7 +94,7 @@ fn over_members(
 fn merge(alloc: Global, matches: &ArgMatches) -> Result<Asked, AllocError>
     ensures { IfOk result (λ r. merge_ask (rows_of (found_of matches.now)) ≡ (r.0, r.1.items)) }
 {
-    let ask = Ask::Merge(names(alloc, matches)?);
+    let ask = DeskAsk::Merge(names(alloc, matches)?);
     Ok((ask, database_with(alloc, matches, "CERT")?))
 }
 
@@ -109,7 +109,7 @@ fn over_layers_or_members(
         ≡ option_map (λ p. (p.0, p.1.items)) r) }
 {
     match geographic_ask(alloc, name, matches)? {
-        Some((ask, files)) => Ok(Some((Ask::Geographic(ask), files))),
+        Some((ask, files)) => Ok(Some((DeskAsk::Geographic(ask), files))),
         None => over_members(alloc, name, matches),
     }
 }
@@ -125,9 +125,9 @@ fn ask_of_subcommand(
     ensures { IfOk result (λ r. ask_by_name name.now (rows_of (found_of matches.now)) ≡ option_map (λ p. (p.0, p.1.items)) r) }
 {
     match name {
-        "check" => Ok(Some((Ask::Check, database_with(alloc, matches, "CERT")?))),
+        "check" => Ok(Some((DeskAsk::Check, database_with(alloc, matches, "CERT")?))),
         "merge" => Ok(Some(merge(alloc, matches)?)),
-        "format" => Ok(Some((Ask::Format, database(alloc, matches)?))),
+        "format" => Ok(Some((DeskAsk::Format, database(alloc, matches)?))),
         "why" => Ok(Some(why(alloc, matches)?)),
         _ => over_layers_or_members(alloc, name, matches),
     }
@@ -151,7 +151,7 @@ fn refusal(alloc: Global, matches: &ArgMatches) -> Result<AskFault, AllocError> 
 /// Fails with `Refused` where the words name no subcommand or another count of values than it has,
 /// where a layer has no `=` or N is no key, or where they ask for help, as `help`, `--help` and `-h`, or for the version, as
 /// `--version` and `-V`; and with `OutOfMemory` for want of memory, which may come in place of any other answer.
-pub fn ask_of<'a>(alloc: Global, words: &'a [&'a str]) -> Result<(Ask, Vec<Words>), AskFault>
+pub fn ask_of<'a>(alloc: Global, words: &'a [&'a str]) -> Result<(DeskAsk, Vec<Words>), AskFault>
     ensures asks { IfOk result (λ r. ask_of (subcommand_of program (map (λ s. s.now) words.entry.now)) ≡ Some (r.0, r.1.items)) }
     ensures takes { takes program (map (λ s. s.now) words.entry.now) ≡ true
         → is_readable (subcommand_of program (map (λ s. s.now) words.entry.now)) ≡ true → IfErr result IsMemory }

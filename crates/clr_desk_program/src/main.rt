@@ -4,13 +4,13 @@
 //! It is safe; what it does with words, files, streams and statuses no contract says.
 #![tactic(auto)]
 
-use clr_desk::{Ask, AskFault, answer, ask_of, fault_place, take_layers};
-use clr_devices::Screen;
+use clr_desk::{AskFault, DeskAsk, answer, ask_of, fault_place, take_layers};
 use clr_office::{Port, RunFault, Sink, Words};
-use clr_reports::{
+use clr_office_reports::{
     BAD_WORDS, end_run, file_name, print_fault, print_input_remark, print_parser_message,
     read_files, text_at, texts_of_words, words,
 };
+use clr_streams::Screen;
 use std::io::ErrorKind;
 use std::process::ExitCode;
 
@@ -39,14 +39,14 @@ fn refuse_file(rt: &HostRuntime, name: &str, fault: RunFault) -> u8 {
 }
 
 /// Answers what the words ask of files, and gives the exit status.
-fn answer_files(rt: &HostRuntime, ask: &Ask, files: &[Words]) -> Result<u8, RunFault> {
+fn answer_files(rt: &HostRuntime, ask: &DeskAsk, files: &[Words]) -> Result<u8, RunFault> {
     let mut texts = match read_files(rt, files) {
         Ok(texts) => texts,
         Err(refused) => return Ok(refuse_file(rt, file_name(files, refused.file), refused.fault)),
     };
     let layers = take_layers(rt.alloc(), ask, &mut texts)?;
     let (office, second) = (text_at(&texts, 0), text_at(&texts, 1));
-    let is_read = matches!(ask, Ask::WorkOrder(..) | Ask::Why(_));
+    let is_read = matches!(ask, DeskAsk::WorkOrder(..) | DeskAsk::Why(_));
     let mut writer = Screen::new(rt.alloc(), Port::new(rt.stdout()), is_read);
     let mut notes = Screen::new(rt.alloc(), Port::new(rt.stderr()), true);
     let layers = layers.as_slice();

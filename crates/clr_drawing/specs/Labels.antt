@@ -1,7 +1,7 @@
 -- Labels of a picture, none of which covers another.
 use Rattle.std.specs.Prelude.{◌≡◌, ◌++◌, List, [], ◌∷◌, Option, Some, None}
-use Rattle.clr_views.specs.Areas.{CoversNone}
-use Rattle.clr_views.specs.declared.areas.Area.{Area}
+use Rattle.clr_viewports.specs.Areas.{CoversNone}
+use Rattle.clr_viewports.specs.declared.areas.Area.{Area}
 use Rattle.clr_drawing.specs.declared.labels.Placed.{Placed}
 
 -- a label covers no area that was taken, and its own is taken then; where there is no place for it, nothing is

@@ -6,48 +6,48 @@ use Rattle.clr_rows.specs.declared.places.Place.{Place}
 use Rattle.clr_rows.specs.declared.places.Shape.{Shape}
 use Rattle.clr_rows.specs.declared.places.Shape.TheVariants.{Bare, At, Line as Segment, Chain}
 use Rattle.clr_rows.specs.Parts.{part_of, parts_of}
-use Rattle.clr_svg.specs.declared.elements.Spot.{Spot}
-use Rattle.clr_svg.specs.declared.elements.Step.{Step}
-use Rattle.clr_svg.specs.declared.elements.Step.TheVariants.{Begin, Line, Close}
+use Rattle.clr_svg.specs.declared.elements.PagePoint.{PagePoint}
+use Rattle.clr_svg.specs.declared.elements.PathCommand.{PathCommand}
+use Rattle.clr_svg.specs.declared.elements.PathCommand.TheVariants.{Begin, Line, Close}
 use Rattle.clr_svg.specs.Lengths.{stopped}
-use Rattle.clr_views.specs.declared.views.View.{View}
-use Rattle.clr_views.specs.Views.{spot_on}
+use Rattle.clr_viewports.specs.declared.viewports.Viewport.{Viewport}
+use Rattle.clr_viewports.specs.Viewports.{spot_on}
 
-abbrev pub are_one : Spot → Spot → Bool
+abbrev pub are_one : PagePoint → PagePoint → Bool
 are_one a b = int_eq a.x.tenths b.x.tenths && int_eq a.y.tenths b.y.tenths
 
-abbrev pub leads_to : Spot → Option Step → Bool
+abbrev pub leads_to : PagePoint → Option PathCommand → Bool
 leads_to spot None = false
 leads_to spot (Some (Begin s)) = false
 leads_to spot (Some (Line s)) = are_one s spot
 leads_to spot (Some Close) = false
 
 -- the last step is a line to a spot
-abbrev pub ends_at : List Step → Spot → Bool
+abbrev pub ends_at : List PathCommand → PagePoint → Bool
 ends_at steps spot = leads_to spot (slice_get steps (length steps - 1))
 
 -- a figure begins, unless the last line led to its first spot
-abbrev pub beginning : List Step → Spot → List Step
+abbrev pub beginning : List PathCommand → PagePoint → List PathCommand
 beginning steps spot = if ends_at steps spot then steps else steps ++ Begin spot ∷ []
 
 -- a line from one spot to another, unless both are one
-unfoldable pub with_line : List Step → Spot → Spot → List Step
+unfoldable pub with_line : List PathCommand → PagePoint → PagePoint → List PathCommand
 with_line steps from to = if are_one from to then steps else beginning steps from ++ Line to ∷ []
 
 -- how many parts a shape has, up to the most that have numbers
 abbrev pub numbered_part_count : Shape → ℕ
 numbered_part_count shape = min (length (parts_of shape)) 65535
 
-abbrev pub with_line_of_part : View → List Step → Place × Place → List Step
+abbrev pub with_line_of_part : Viewport → List PathCommand → Place × Place → List PathCommand
 with_line_of_part v steps part = with_line steps (spot_on v part.0) (spot_on v part.1)
 
 -- a part, if there is one
-abbrev pub with_found : View → List Step → Option (Place × Place) → List Step
+abbrev pub with_found : Viewport → List PathCommand → Option (Place × Place) → List PathCommand
 with_found v steps None = steps
 with_found v steps (Some part) = with_line_of_part v steps part
 
 -- the lines of the parts of a shape, of which a point has none
-abbrev pub with_shape : View → List Step → Shape → List Step
+abbrev pub with_shape : Viewport → List PathCommand → Shape → List PathCommand
 with_shape v steps shape = fold (with_line_of_part v) steps (take (numbered_part_count shape) (parts_of shape))
 
 unfoldable pub halfway_number : ℤ → ℤ → ℤ

@@ -3,9 +3,9 @@ use Rattle.std.specs.Prelude.{◌≡◌, ℕ, ◌%◌, zero, suc, ℤ, pos, negs
 use Rattle.clr_svg.specs.declared.colours.Colour.{Colour}
 use Rattle.clr_svg.specs.declared.elements.Element.{Element}
 use Rattle.clr_svg.specs.declared.elements.Element.TheVariants.{Path, Circle, Rectangle, Words}
-use Rattle.clr_svg.specs.declared.elements.Spot.{Spot}
-use Rattle.clr_svg.specs.declared.elements.Step.{Step}
-use Rattle.clr_svg.specs.declared.elements.Step.TheVariants.{Begin, Line, Close}
+use Rattle.clr_svg.specs.declared.elements.PagePoint.{PagePoint}
+use Rattle.clr_svg.specs.declared.elements.PathCommand.{PathCommand}
+use Rattle.clr_svg.specs.declared.elements.PathCommand.TheVariants.{Begin, Line, Close}
 use Rattle.clr_svg.specs.declared.inks.Ink.{Ink}
 use Rattle.clr_svg.specs.declared.pixels.Pixels.{Pixels}
 use Rattle.clr_svg.specs.Inks.{drawn_ink}
@@ -30,14 +30,14 @@ abbrev pub hundredths : Pixels → ℤ → Pixels
 hundredths radius n = length_of (int_div (stopped (radius.tenths *ℤ n)) (pos 100))
 
 -- the spot that is away from a middle by shares of a radius
-abbrev pub away : Spot → Pixels → ℤ × ℤ → Spot
+abbrev pub away : PagePoint → Pixels → ℤ × ℤ → PagePoint
 away middle radius by = record { x = plus middle.x (hundredths radius by.0); y = plus middle.y (hundredths radius by.1) }
 
-abbrev pub line_to : Spot → Pixels → ℤ × ℤ → Step
+abbrev pub line_to : PagePoint → Pixels → ℤ × ℤ → PathCommand
 line_to middle radius by = Line (away middle radius by)
 
 -- from the first corner over the others, and back; corners are shares of a radius
-abbrev pub outline : Spot → Pixels → ℤ × ℤ → List (ℤ × ℤ) → List Step
+abbrev pub outline : PagePoint → Pixels → ℤ × ℤ → List (ℤ × ℤ) → List PathCommand
 outline middle radius first others = Begin (away middle radius first) ∷ map (line_to middle radius) others ++ Close ∷ []
 
 -- where a diamond and a triangle begin
@@ -59,12 +59,12 @@ abbrev pub hexagon : List (ℤ × ℤ)
 hexagon = (negsuc 54, negsuc 99) ∷ (pos 55, negsuc 99) ∷ (pos 110, pos 0) ∷ (pos 55, pos 100) ∷ (negsuc 54, pos 100) ∷ []
 
 -- a square reaches nine tenths of the radius to each side
-abbrev pub square_element : Spot → Pixels → Ink → Element
+abbrev pub square_element : PagePoint → Pixels → Ink → Element
 square_element middle radius ink =
     Rectangle (away middle radius (negsuc 89, negsuc 89)) (hundredths radius (pos 180)) (hundredths radius (pos 180)) (length_of (pos 0)) ink
 
 -- the element is a sign
-abbrev pub IsSign : Sign → Spot → Pixels → Ink → Element → Type 0
+abbrev pub IsSign : Sign → PagePoint → Pixels → Ink → Element → Type 0
 IsSign sign.Circle middle radius ink e = e ≡ Circle middle radius ink
 IsSign sign.Square middle radius ink e = e ≡ square_element middle radius ink
 IsSign sign.Diamond middle radius ink e = IsPath (outline middle radius top_corner diamond) ink e
@@ -72,16 +72,16 @@ IsSign sign.Triangle middle radius ink e = IsPath (outline middle radius top_cor
 IsSign sign.Hexagon middle radius ink e = IsPath (outline middle radius left_corner hexagon) ink e
 
 -- two strokes that cross
-abbrev pub cross_steps : Spot → Pixels → List Step
+abbrev pub cross_steps : PagePoint → Pixels → List PathCommand
 cross_steps middle radius =
     Begin (away middle radius (negsuc 99, negsuc 99)) ∷ Line (away middle radius (pos 100, pos 100))
     ∷ Begin (away middle radius (negsuc 99, pos 100)) ∷ Line (away middle radius (pos 100, negsuc 99)) ∷ []
 
-abbrev pub IsCross : Spot → Pixels → Colour → Pixels → Element → Type 0
+abbrev pub IsCross : PagePoint → Pixels → Colour → Pixels → Element → Type 0
 IsCross middle radius colour width e = IsPath (cross_steps middle radius) (drawn_ink colour width) e
 
 -- a broad cross, and a narrower one over it
-abbrev pub DrawsCross : Spot → Pixels → Colour → Colour → List Element → List Element → Type 0
+abbrev pub DrawsCross : PagePoint → Pixels → Colour → Colour → List Element → List Element → Type 0
 DrawsCross middle radius colour below old new =
     (b : Element) × (e : Element) × IsCross middle radius below (length_of (pos 54)) b × IsCross middle radius colour (length_of (pos 24)) e
     × (new ≡ old ++ b ∷ e ∷ [])

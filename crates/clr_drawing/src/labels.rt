@@ -1,11 +1,11 @@
 //! Places for labels, so that none lies over another.
 
 ghost use Rattle.std.specs.Prelude.{◌≡◌, ◌++◌, ◌∷◌, [], IfOk, IfSome, IsTrue, OnOk};
-ghost use Rattle.clr_views.specs.Areas.{CoversNone};
+ghost use Rattle.clr_viewports.specs.Areas.{CoversNone};
 ghost use Rattle.clr_drawing.specs.Labels.{TakesPlace};
 
-use clr_svg::{Pixels, Spot};
-use clr_views::Area;
+use clr_svg::{PagePoint, Pixels};
+use clr_viewports::Area;
 use std::alloc::{AllocError, Global};
 
 /// The most anchors that are tried for a label.
@@ -33,7 +33,7 @@ const COST_OF_A_SPOT: i64 = 120;
 #[derive(Clone, Copy)]
 pub struct Placed {
     pub area: Area,
-    pub anchor: Spot,
+    pub anchor: PagePoint,
     pub distance: i64,
 }
 
@@ -43,7 +43,7 @@ pub struct Labels {
     alloc: Global,
     frame: Area,
     taken: Vec<Area>,
-    busy: Vec<Spot>,
+    busy: Vec<PagePoint>,
 }
 
 impl Labels {
@@ -70,7 +70,7 @@ impl Labels {
     }
 
     /// Notes a spot that labels should leave free where they can.
-    pub fn avoid(&mut self, spot: Spot) -> Result<(), AllocError>
+    pub fn avoid(&mut self, spot: PagePoint) -> Result<(), AllocError>
         ensures { self.new.taken.items ≡ self.old.taken.items }
     {
         self.busy.push(spot)?;
@@ -81,7 +81,7 @@ impl Labels {
     /// is taken.
     fn place(
         &self,
-        anchors: &[Spot],
+        anchors: &[PagePoint],
         width: Pixels,
         height: Pixels,
         gap: Pixels,
@@ -101,7 +101,7 @@ impl Labels {
     /// nothing that was taken before. It is the one beneath which the fewest spots lie that should be left free, and of those the nearest.
     pub fn put(
         &mut self,
-        anchors: &[Spot],
+        anchors: &[PagePoint],
         width: Pixels,
         height: Pixels,
         gap: Pixels,
@@ -131,7 +131,7 @@ fn covers_none(taken: &[Area], area: Area) -> bool
 }
 
 /// Returns what it costs to cover these spots.
-fn cost_of(area: Area, busy: &[Spot]) -> i64 {
+fn cost_of(area: Area, busy: &[PagePoint]) -> i64 {
     let mut cost = 0i64;
     for spot in busy {
         if area.has(*spot) {
@@ -143,7 +143,12 @@ fn cost_of(area: Area, busy: &[Spot]) -> i64 {
 
 /// Returns the place in the frame that costs least, of those that overlap nothing that is taken, or
 /// none.
-fn cheapest_place(places: &[Placed], frame: Area, taken: &[Area], busy: &[Spot]) -> Option<Placed>
+fn cheapest_place(
+    places: &[Placed],
+    frame: Area,
+    taken: &[Area],
+    busy: &[PagePoint],
+) -> Option<Placed>
     ensures { IfSome result (λ placed. CoversNone taken.now placed.area) }
 {
     let mut best = None;
@@ -162,7 +167,7 @@ fn cheapest_place(places: &[Placed], frame: Area, taken: &[Area], busy: &[Spot])
 
 /// Returns the place of a label at a distance from its anchor in a direction.
 fn place_at(
-    anchor: Spot,
+    anchor: PagePoint,
     width: Pixels,
     height: Pixels,
     distance: i64,
@@ -170,7 +175,7 @@ fn place_at(
 ) -> Placed {
     let across = distance.saturating_add(width.tenths / 2);
     let along = distance.saturating_add(height.tenths / 2);
-    let middle = Spot {
+    let middle = PagePoint {
         x: anchor.x + Pixels::of_tenths(across.saturating_mul(direction.0) / 10),
         y: anchor.y + Pixels::of_tenths(along.saturating_mul(direction.1) / 10),
     };
@@ -183,7 +188,7 @@ fn place_at(
 
 fn add_ring(
     places: &mut Vec<Placed>,
-    anchor: Spot,
+    anchor: PagePoint,
     width: Pixels,
     height: Pixels,
     distance: i64,
@@ -196,7 +201,7 @@ fn add_ring(
 
 fn add_rings(
     places: &mut Vec<Placed>,
-    anchor: Spot,
+    anchor: PagePoint,
     width: Pixels,
     height: Pixels,
     gap: Pixels,
@@ -216,7 +221,7 @@ fn add_rings(
 /// Returns the places that are tried for a label near these spots.
 fn places_for(
     alloc: Global,
-    anchors: &[Spot],
+    anchors: &[PagePoint],
     width: Pixels,
     height: Pixels,
     gap: Pixels,

@@ -1,7 +1,7 @@
 //! What pictures of a network are drawn with: lines of shapes, ticks and scales, signs, colours and places for labels. Numbers are whole:
 //! millimetres of the world, and tenths of a pixel of the page. What would leave 64 bits stops at their limit.
 //!
-//! - `Area`, `View`, `Detail`, `extent_of`, `joined`, `grown` and `longer_side` are those of `clr_views`, handed on.
+//! - `Area`, `Viewport`, `Detail`, `extent_of`, `joined`, `grown` and `longer_side` are those of `clr_viewports`, handed on.
 //! - `ticks`, `round_metres`: exactly which multiples of a step are marked along an axis, and how a length is read in metres. `round_step` is at
 //!   least 1; that it is the greatest round number is tested.
 //! - `Sketch`, `add_line`, `add_shape`, `add_sign`, `add_cross`: exactly which element or which steps are drawn over those so far. `middle_of`,
@@ -21,7 +21,7 @@ mod signs;
 mod sketches;
 mod widths;
 
-pub use clr_views::{Area, Detail, View, extent_of, grow_box, join_boxes, longer_side};
+pub use clr_viewports::{Area, Detail, Viewport, extent_of, grow_box, join_boxes, longer_side};
 pub use labels::{Labels, Placed};
 pub use metres::round_metres;
 pub use palette::{

@@ -6,57 +6,61 @@ ghost use Rattle.clr_drawing.specs.Paths.{with_found, with_line, with_shape};
 
 use clr_rows::{Place, Shape};
 use clr_segments::{part, parts};
-use clr_svg::{Pixels, Spot, Step};
-use clr_views::View;
+use clr_svg::{PagePoint, PathCommand, Pixels};
+use clr_viewports::Viewport;
 use std::alloc::{AllocError, Global};
 
 /// The most spots that are taken along one part of a shape.
 const MOST_SPOTS: i64 = 60;
 
 /// Returns whether both spots are one.
-fn are_one(a: Spot, b: Spot) -> bool
+fn are_one(a: PagePoint, b: PagePoint) -> bool
     ensures { result ≡ are_one a b }
 {
     a.x.tenths == b.x.tenths && a.y.tenths == b.y.tenths
 }
 
 /// Returns whether the last step led to a spot.
-fn ends_at(steps: &[Step], spot: Spot) -> bool
+fn ends_at(steps: &[PathCommand], spot: PagePoint) -> bool
     ensures { result ≡ ends_at steps.now spot }
 {
     match steps.last() {
-        Some(Step::Line(last)) => are_one(*last, spot),
+        Some(PathCommand::Line(last)) => are_one(*last, spot),
         _ => false,
     }
 }
 
 /// Adds a step to the spot where a figure begins, unless the last line led there.
-fn add_beginning(steps: &mut Vec<Step>, spot: Spot) -> Result<(), AllocError>
+fn add_beginning(steps: &mut Vec<PathCommand>, spot: PagePoint) -> Result<(), AllocError>
     ensures { OnOk result (steps.new.items ≡ beginning steps.old.items spot) }
 {
     if !ends_at(steps.as_slice(), spot) {
-        steps.push(Step::Begin(spot))?;
+        steps.push(PathCommand::Begin(spot))?;
     }
     Ok(())
 }
 
 /// Adds a line from one spot to another, unless both are one.
 #[tactic(auto, unfolding(crate::specs::Paths::with_line))]
-pub fn add_line(steps: &mut Vec<Step>, from: Spot, to: Spot) -> Result<(), AllocError>
+pub fn add_line(
+    steps: &mut Vec<PathCommand>,
+    from: PagePoint,
+    to: PagePoint,
+) -> Result<(), AllocError>
     ensures { OnOk result (steps.new.items ≡ with_line steps.old.items from to) }
 {
     if are_one(from, to) {
         return Ok(());
     }
     add_beginning(steps, from)?;
-    steps.push(Step::Line(to))?;
+    steps.push(PathCommand::Line(to))?;
     Ok(())
 }
 
 /// Adds the line of a part, where there is one.
 fn add_part(
-    steps: &mut Vec<Step>,
-    view: &View,
+    steps: &mut Vec<PathCommand>,
+    view: &Viewport,
     part: Option<(Place, Place)>,
 ) -> Result<(), AllocError>
     ensures { OnOk result (steps.new.items ≡ with_found view.now steps.old.items part) }
@@ -68,7 +72,11 @@ fn add_part(
 }
 
 /// Adds the lines of a shape; a point has none.
-pub fn add_shape(steps: &mut Vec<Step>, view: &View, shape: &Shape) -> Result<(), AllocError>
+pub fn add_shape(
+    steps: &mut Vec<PathCommand>,
+    view: &Viewport,
+    shape: &Shape,
+) -> Result<(), AllocError>
     ensures { OnOk result (steps.new.items ≡ with_shape view.now steps.old.items shape.now) }
 {
     for at in 0..parts(shape) {
@@ -78,10 +86,10 @@ pub fn add_shape(steps: &mut Vec<Step>, view: &View, shape: &Shape) -> Result<()
 }
 
 /// Returns the spot that is this many parts of the way from one spot to another.
-fn spot_between(from: Spot, to: Spot, share: i64, of: i64) -> Spot {
+fn spot_between(from: PagePoint, to: PagePoint, share: i64, of: i64) -> PagePoint {
     let x = (to.x - from.x).tenths.saturating_mul(share);
     let y = (to.y - from.y).tenths.saturating_mul(share);
-    Spot {
+    PagePoint {
         x: from.x + Pixels::of_tenths(x.checked_div(of).unwrap_or(0)),
         y: from.y + Pixels::of_tenths(y.checked_div(of).unwrap_or(0)),
     }
@@ -89,10 +97,10 @@ fn spot_between(from: Spot, to: Spot, share: i64, of: i64) -> Spot {
 
 /// Adds spots along a line that are in the frame, this far apart.
 fn add_samples(
-    spots: &mut Vec<Spot>,
-    view: &View,
-    from: Spot,
-    to: Spot,
+    spots: &mut Vec<PagePoint>,
+    view: &Viewport,
+    from: PagePoint,
+    to: PagePoint,
     apart: i64,
 ) -> Result<(), AllocError> {
     let across = (to.x - from.x).tenths.unsigned_abs();
@@ -110,8 +118,8 @@ fn add_samples(
 
 /// Adds spots along the parts of a shape that are in the frame.
 fn add_part_samples(
-    spots: &mut Vec<Spot>,
-    view: &View,
+    spots: &mut Vec<PagePoint>,
+    view: &Viewport,
     shape: &Shape,
     apart: i64,
 ) -> Result<(), AllocError> {
@@ -127,10 +135,10 @@ fn add_part_samples(
 /// pixel, or farther where it is long.
 pub fn samples(
     alloc: Global,
-    view: &View,
+    view: &Viewport,
     shape: &Shape,
     apart: i64,
-) -> Result<Vec<Spot>, AllocError> {
+) -> Result<Vec<PagePoint>, AllocError> {
     let mut spots = Vec::new(alloc);
     if let Shape::At(place) = shape {
         let spot = view.spot(*place);

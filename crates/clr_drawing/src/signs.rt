@@ -5,7 +5,7 @@ ghost use Rattle.clr_drawing.specs.Sketches.{Draws, IsPath};
 ghost use Rattle.clr_drawing.specs.Signs.{DrawsCross, IsCross, IsSign, away, line_to, outline, sign_of, square_element};
 
 use crate::sketches::Sketch;
-use clr_svg::{Colour, Element, Ink, Pixels, Spot, Step};
+use clr_svg::{Colour, Element, Ink, PagePoint, PathCommand, Pixels};
 use std::alloc::{AllocError, Global};
 
 /// A sign.
@@ -50,10 +50,10 @@ pub fn sign_at(number: usize) -> Sign
 }
 
 /// Returns the spot at an offset in hundredths of a radius.
-fn offset(middle: Spot, radius: Pixels, by: (i64, i64)) -> Spot
+fn offset(middle: PagePoint, radius: Pixels, by: (i64, i64)) -> PagePoint
     ensures { result ≡ away middle radius by }
 {
-    Spot {
+    PagePoint {
         x: middle.x + Pixels::of_tenths(radius.tenths.saturating_mul(by.0) / 100),
         y: middle.y + Pixels::of_tenths(radius.tenths.saturating_mul(by.1) / 100),
     }
@@ -61,15 +61,15 @@ fn offset(middle: Spot, radius: Pixels, by: (i64, i64)) -> Spot
 
 /// Adds lines to these corners, in hundredths of a radius.
 fn add_lines(
-    steps: &mut Vec<Step>,
-    middle: Spot,
+    steps: &mut Vec<PathCommand>,
+    middle: PagePoint,
     radius: Pixels,
     corners: &[(i64, i64)],
 ) -> Result<(), AllocError>
     ensures { OnOk result (steps.new.items ≡ steps.old.items ++ map (line_to middle radius) corners.now) }
 {
     for corner in corners {
-        steps.push(Step::Line(offset(middle, radius, *corner)))?;
+        steps.push(PathCommand::Line(offset(middle, radius, *corner)))?;
     }
     Ok(())
 }
@@ -77,24 +77,24 @@ fn add_lines(
 /// Returns the steps of a figure with these corners, in hundredths of a radius.
 fn outline(
     alloc: Global,
-    middle: Spot,
+    middle: PagePoint,
     radius: Pixels,
     first: (i64, i64),
     others: &[(i64, i64)],
-) -> Result<Vec<Step>, AllocError>
+) -> Result<Vec<PathCommand>, AllocError>
     ensures { IfOk result (λ steps. steps.items ≡ outline middle radius first others.now) }
 {
     let mut steps = Vec::new(alloc);
-    steps.push(Step::Begin(offset(middle, radius, first)))?;
+    steps.push(PathCommand::Begin(offset(middle, radius, first)))?;
     add_lines(&mut steps, middle, radius, others)?;
-    steps.push(Step::Close)?;
+    steps.push(PathCommand::Close)?;
     Ok(steps)
 }
 
 /// Draws a figure with these corners, in hundredths of a radius.
 fn add_figure(
     sketch: &mut Sketch,
-    middle: Spot,
+    middle: PagePoint,
     radius: Pixels,
     first: (i64, i64),
     others: &[(i64, i64)],
@@ -106,7 +106,12 @@ fn add_figure(
     sketch.add(Element::Path { steps, ink })
 }
 
-fn add_square(sketch: &mut Sketch, middle: Spot, radius: Pixels, ink: Ink) -> Result<(), AllocError>
+fn add_square(
+    sketch: &mut Sketch,
+    middle: PagePoint,
+    radius: Pixels,
+    ink: Ink,
+) -> Result<(), AllocError>
     ensures { OnOk result (sketch.new.elements.items ≡ sketch.old.elements.items ++ square_element middle radius ink ∷ []) }
 {
     let side = Pixels::of_tenths(radius.tenths.saturating_mul(2 * SQUARE) / 100);
@@ -123,7 +128,7 @@ fn add_square(sketch: &mut Sketch, middle: Spot, radius: Pixels, ink: Ink) -> Re
 pub fn add_sign(
     sketch: &mut Sketch,
     sign: Sign,
-    middle: Spot,
+    middle: PagePoint,
     radius: Pixels,
     ink: Ink,
 ) -> Result<(), AllocError>
@@ -145,7 +150,7 @@ pub fn add_sign(
 /// Draws a cross of lines of this width.
 fn add_strokes(
     sketch: &mut Sketch,
-    middle: Spot,
+    middle: PagePoint,
     radius: Pixels,
     colour: Colour,
     width: Pixels,
@@ -153,10 +158,10 @@ fn add_strokes(
     ensures { OnOk result (Draws (IsCross middle radius colour width) sketch.old.elements.items sketch.new.elements.items) }
 {
     let mut steps = Vec::with_capacity(sketch.allocator(), 4)?;
-    steps.push(Step::Begin(offset(middle, radius, (-100, -100))))?;
-    steps.push(Step::Line(offset(middle, radius, (100, 100))))?;
-    steps.push(Step::Begin(offset(middle, radius, (-100, 100))))?;
-    steps.push(Step::Line(offset(middle, radius, (100, -100))))?;
+    steps.push(PathCommand::Begin(offset(middle, radius, (-100, -100))))?;
+    steps.push(PathCommand::Line(offset(middle, radius, (100, 100))))?;
+    steps.push(PathCommand::Begin(offset(middle, radius, (-100, 100))))?;
+    steps.push(PathCommand::Line(offset(middle, radius, (100, -100))))?;
     sketch.add(Element::Path {
         steps,
         ink: Ink::of_line(colour, width),
@@ -166,7 +171,7 @@ fn add_strokes(
 /// Draws a cross in a colour over a broader one in another.
 pub fn add_cross(
     sketch: &mut Sketch,
-    middle: Spot,
+    middle: PagePoint,
     radius: Pixels,
     colour: Colour,
     below: Colour,

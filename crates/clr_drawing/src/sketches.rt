@@ -4,8 +4,10 @@ ghost use Rattle.std.specs.Prelude.{◌≡◌, ◌++◌, ◌∷◌, [], Some, No
 ghost use Rattle.clr_svg.specs.declared.elements.Element.TheVariants.{Circle};
 ghost use Rattle.clr_drawing.specs.Sketches.{Draws, DrawsPath, DrawsWords, IsPath, IsWords, line_steps, rectangle_of, window_of};
 
-use clr_svg::{Anchor, Colour, Element, Ink, Label, Layer, Pixels, Spot, Step, Weight, Window};
-use clr_views::Area;
+use clr_svg::{
+    Anchor, Colour, Element, Ink, Label, Layer, PagePoint, PathCommand, Pixels, Weight, Window,
+};
+use clr_viewports::Area;
 use std::alloc::{AllocError, Global};
 
 /// Elements in the order in which they are drawn.
@@ -19,7 +21,7 @@ pub struct Sketch {
 fn label_of(
     alloc: Global,
     words: &str,
-    at: Spot,
+    at: PagePoint,
     size: Pixels,
     colour: Colour,
     anchor: Anchor,
@@ -65,7 +67,7 @@ impl Sketch {
     }
 
     /// Draws a path, unless it has no steps.
-    pub fn add_path(&mut self, steps: Vec<Step>, ink: Ink) -> Result<(), AllocError>
+    pub fn add_path(&mut self, steps: Vec<PathCommand>, ink: Ink) -> Result<(), AllocError>
         ensures { OnOk result (DrawsPath steps.items ink self.old.elements.items self.new.elements.items) }
     {
         if steps.is_empty() {
@@ -75,17 +77,22 @@ impl Sketch {
     }
 
     /// Draws a line from one spot to another.
-    pub fn add_line(&mut self, from: Spot, to: Spot, ink: Ink) -> Result<(), AllocError>
+    pub fn add_line(&mut self, from: PagePoint, to: PagePoint, ink: Ink) -> Result<(), AllocError>
         ensures { OnOk result (Draws (IsPath (line_steps from to) ink) self.old.elements.items self.new.elements.items) }
     {
         let mut steps = Vec::with_capacity(self.alloc, 2)?;
-        steps.push(Step::Begin(from))?;
-        steps.push(Step::Line(to))?;
+        steps.push(PathCommand::Begin(from))?;
+        steps.push(PathCommand::Line(to))?;
         self.add(Element::Path { steps, ink })
     }
 
     /// Draws a circle.
-    pub fn add_circle(&mut self, middle: Spot, radius: Pixels, ink: Ink) -> Result<(), AllocError>
+    pub fn add_circle(
+        &mut self,
+        middle: PagePoint,
+        radius: Pixels,
+        ink: Ink,
+    ) -> Result<(), AllocError>
         ensures { OnOk result (self.new.elements.items ≡ self.old.elements.items ++ Circle middle radius ink ∷ []) }
     {
         self.add(Element::Circle {
@@ -112,7 +119,7 @@ impl Sketch {
     pub fn add_words(
         &mut self,
         words: &str,
-        at: Spot,
+        at: PagePoint,
         size: Pixels,
         colour: Colour,
         anchor: Anchor,

@@ -19,7 +19,7 @@ use Rattle.clr_finders.specs.RowMaps.{FiledRows}
 use Rattle.clr_needs.specs.declared.needs.VersionId.{VersionId}
 use Rattle.clr_needs.specs.Members.{after_in, after_of, setting}
 use Rattle.clr_needs.specs.Settings.{Lived, changer, held_row, new_row, new_version, old_version, version}
-use Rattle.clr_versions.specs.Versions.{FitsSetting}
+use Rattle.clr_row_versions.specs.Versions.{FitsSetting}
 use Rattle.clr_workspaces.specs.Workspaces.{Workspace}
 use Rattle.clr_grid.specs.Finders.{IsFinderAt, IsFinderOf}
 use Rattle.clr_engine.specs.KeptContents.{kept_content}

@@ -6,8 +6,8 @@ use Rattle.clr_rows.specs.declared.tables.TableDef.{TableDef}
 use Rattle.clr_deltas.specs.Differing.{delta_from}
 use Rattle.clr_deltas.specs.Deltas.{Delta}
 use Rattle.clr_workspaces.specs.Workspaces.{Workspace}
-use Rattle.clr_parts.specs.Parts.{workspace_of}
-use Rattle.clr_parts.specs.declared.parts.Part.{Part}
+use Rattle.clr_workspace_parts.specs.Parts.{workspace_of}
+use Rattle.clr_workspace_parts.specs.declared.parts.Part.{Part}
 use Rattle.clr_rules.specs.declared.rules.Rule.{Rule}
 use Rattle.clr_rules.specs.declared.needs.Broken.{Broken}
 use Rattle.clr_engine.specs.declared.drafts.AdmitFault.{AdmitFault}

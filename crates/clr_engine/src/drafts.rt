@@ -3,7 +3,7 @@
 ghost use Rattle.std.specs.Prelude.{◌≡◌, None, option_map, IfOk, IfErr, OnOk};
 ghost use Rattle.clr_steps.specs.Offices.{office_of};
 ghost use Rattle.clr_steps.specs.Readings.{name_at};
-ghost use Rattle.clr_parts.specs.Parts.{first_fault, IsFirstPartFault};
+ghost use Rattle.clr_workspace_parts.specs.Parts.{first_fault, IsFirstPartFault};
 ghost use Rattle.clr_engine.specs.Fitting.{IsFitting};
 ghost use Rattle.clr_engine.specs.Drafts.{IsUnheld, office_of_parts, unheld_in};
 

@@ -8,9 +8,9 @@ use Rattle.clr_rules.specs.Books.{FitsBook}
 use Rattle.clr_rules.specs.declared.rules.Rule.{Rule}
 use Rattle.clr_workspaces.specs.Marks.{mark_at, saved_content}
 use Rattle.clr_workspaces.specs.Workspaces.{workspace_at}
-use Rattle.clr_parts.specs.Parts.{marks_of, workspace_of}
-use Rattle.clr_parts.specs.declared.parts.MarkPart.{MarkPart}
-use Rattle.clr_parts.specs.declared.parts.Part.{Part}
+use Rattle.clr_workspace_parts.specs.Parts.{marks_of, workspace_of}
+use Rattle.clr_workspace_parts.specs.declared.parts.MarkPart.{MarkPart}
+use Rattle.clr_workspace_parts.specs.declared.parts.Part.{Part}
 use Rattle.clr_steps.specs.Invariants.{WorkspaceFits}
 use Rattle.clr_steps.proofs.FitLemmas.{none_fits}
 use Rattle.clr_engine.specs.Fitting.{IsFitting}

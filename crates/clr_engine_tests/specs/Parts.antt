@@ -3,9 +3,9 @@ use Rattle.std.specs.Prelude.{◌≡◌}
 use Rattle.std.specs.List.{AllByRecursion}
 use Rattle.clr_rows.specs.Contents.{no_rows}
 use Rattle.clr_workspaces.specs.Marks.{saved_content}
-use Rattle.clr_parts.specs.Parts.{mark_of}
-use Rattle.clr_parts.specs.declared.parts.MarkPart.{MarkPart}
-use Rattle.clr_parts.specs.declared.parts.Part.{Part}
+use Rattle.clr_workspace_parts.specs.Parts.{mark_of}
+use Rattle.clr_workspace_parts.specs.declared.parts.MarkPart.{MarkPart}
+use Rattle.clr_workspace_parts.specs.declared.parts.Part.{Part}
 
 abbrev pub SavesNoRows : MarkPart → Type 0
 SavesNoRows mark = saved_content (mark_of mark) ≡ no_rows

@@ -1,8 +1,8 @@
 //! Drafts in which a rule doesn't hold: what is said of them, and that they are given back.
 
-use clr_drafts::read_office;
 use clr_engine::{AdmitFault, Draft};
 use clr_lines::{add_need, rows_lines};
+use clr_office_texts::read_office;
 use std::alloc::{AllocError, Global};
 
 /// A table of codes of which no two may be the same, up to the rows of LIVE.

@@ -2,14 +2,14 @@
 
 ghost use Rattle.std.specs.Prelude.{IfOk};
 ghost use Rattle.std.specs.List.{AllByRecursion};
-ghost use Rattle.clr_office_text.specs.Fits.{FitsOffice};
-ghost use Rattle.clr_office_text.specs.Offices.{office_read};
+ghost use Rattle.clr_office_reading.specs.Fits.{FitsOffice};
+ghost use Rattle.clr_office_reading.specs.Offices.{office_read};
 ghost use Rattle.clr_engine_tests.specs.Parts.{HasNoRows, SavesNoRows};
 
 use clr_call_test_kit::{Hoard, refusals};
 use clr_engine::{Draft, MarkPart, Part, PartFault};
+use clr_office_reading::{OfficeParts, read_office};
 use clr_office_test_kit::{network, picture};
-use clr_office_text::{OfficeParts, read_office};
 use clr_rows::{Sheet, Words};
 use std::alloc::{AllocError, Global};
 use std::test::Fail;

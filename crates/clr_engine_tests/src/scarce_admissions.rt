@@ -1,9 +1,9 @@
 //! Admissions of drafts while memory is wanting.
 
 use clr_call_test_kit::{Hoard, refusals};
-use clr_drafts::read_office;
 use clr_engine::{AdmitFault, Draft, Office};
 use clr_office_test_kit::picture;
+use clr_office_texts::read_office;
 use std::alloc::Global;
 use std::test::Fail;
 

@@ -8,8 +8,8 @@ ghost use Rattle.clr_merge_sets.specs.Certificates.{merge_set_of};
 
 use clr_cert::Certificate;
 use clr_check::{Verdict, check};
-use clr_drafts::{read_office, write_office};
 use clr_engine::{Command, Office, Reply};
+use clr_office_texts::{read_office, write_office};
 use clr_plan::{Plan, plan};
 use clr_rows::{LIVE, Words};
 use std::alloc::{AllocError, Global};

@@ -1,11 +1,11 @@
 -- What is found of the workspaces of a text as a whole.
 use Rattle.std.proofs.Common.{◌≡◌, ◌≢◌, ℕ, List, Option, Some, None, Ok, Err, refl}
-use Rattle.clr_parts.specs.Parts.{IsFirstPartFault}
-use Rattle.clr_parts.specs.declared.parts.PartFault.{PartFault}
-use Rattle.clr_parts.specs.declared.parts.PartFault.TheVariants as part
+use Rattle.clr_workspace_parts.specs.Parts.{IsFirstPartFault}
+use Rattle.clr_workspace_parts.specs.declared.parts.PartFault.{PartFault}
+use Rattle.clr_workspace_parts.specs.declared.parts.PartFault.TheVariants as part
 use Rattle.clr_readings.specs.Readings.{Fails}
 use Rattle.clr_rule_text.specs.Fields.{text_lacks_memory}
-use Rattle.clr_office_text.specs.Offices.{OfficeText, office_in}
+use Rattle.clr_office_reading.specs.Offices.{OfficeText, office_in}
 use Rattle.clr_rule_text.specs.declared.faults.TextFault.{TextFault}
 use Rattle.clr_rule_text.specs.declared.faults.TextFault.TheVariants as fault
 use Rattle.clr_faults.proofs.Lost.{fails_exactly}

@@ -4,8 +4,8 @@ use Rattle.serde_json.specs.Data.{Data}
 use Rattle.clr_rule_text.specs.declared.faults.TextFault.{TextFault}
 use Rattle.clr_readings.specs.Readings.{◌>>=◌}
 use Rattle.clr_faults.specs.Stages.{list_item_of}
-use Rattle.clr_faults.specs.declared.spots.Spot.{Spot}
-use Rattle.clr_faults.specs.declared.spots.Spot.TheVariants.{Whole, Table, Rule, Live, Workspace, Base, Row, Mark, Saved}
+use Rattle.clr_faults.specs.declared.spots.FaultyItem.{FaultyItem}
+use Rattle.clr_faults.specs.declared.spots.FaultyItem.TheVariants.{Whole, Table, Rule, Live, Workspace, Base, Row, Mark, Saved}
 
 abbrev pub item_in_workspace : ℕ → List ℕ → ℕ → Data → Result Data TextFault
 item_in_workspace at key item d = list_item_of (codes "workspaces") at d >>= list_item_of key item
@@ -13,7 +13,7 @@ item_in_workspace at key item d = list_item_of (codes "workspaces") at d >>= lis
 abbrev pub saved_item : ℕ → ℕ → ℕ → Data → Result Data TextFault
 saved_item at mark cell d = item_in_workspace at (codes "marks") mark d >>= list_item_of (codes "rows") cell
 
-abbrev pub item_at_spot : Spot → Data → Result Data TextFault
+abbrev pub item_at_spot : FaultyItem → Data → Result Data TextFault
 item_at_spot Whole d = Ok d
 item_at_spot (Table at) d = list_item_of (codes "tables") at d
 item_at_spot (Rule at) d = list_item_of (codes "rules") at d

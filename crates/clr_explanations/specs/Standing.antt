@@ -1,11 +1,11 @@
 -- What is said of an office text whose workspaces can't stand as a whole.
 use Rattle.std.specs.Prelude.{◌≡◌, ◌≤◌, ℕ, List, length, string_bytes, Option, Some, None, Ok}
 use Rattle.clr_deltas.specs.Deltas.{workspaces_over}
-use Rattle.clr_parts.specs.Parts.{workspaces_fault}
-use Rattle.clr_parts.specs.declared.parts.PartFault.{PartFault}
-use Rattle.clr_office_text.specs.Offices.{OfficeText, office_in}
+use Rattle.clr_workspace_parts.specs.Parts.{workspaces_fault}
+use Rattle.clr_workspace_parts.specs.declared.parts.PartFault.{PartFault}
+use Rattle.clr_office_reading.specs.Offices.{OfficeText, office_in}
 use Rattle.clr_item_explanations.specs.FaultNames.{BeginsWithName, part_fault_name}
-use Rattle.clr_faults.specs.declared.spots.Spot.TheVariants as spot
+use Rattle.clr_faults.specs.declared.spots.FaultyItem.TheVariants as spot
 use Rattle.clr_fault_lines.specs.declared.remarks.Remark.{Remark}
 use Rattle.clr_explanations.specs.Places.{BeginsWithPath}
 

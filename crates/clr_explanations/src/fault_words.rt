@@ -2,7 +2,7 @@
 ghost use Rattle.std.specs.Prelude.{◌≡◌};
 ghost use Rattle.clr_explanations.specs.FaultWords.{office_fault_words};
 
-use clr_office_text::TextFault;
+use clr_office_reading::TextFault;
 
 /// Returns the word `office`, and the number and the name of a fault of an office text.
 pub fn office_fault_words(fault: TextFault) -> &'static str

@@ -3,12 +3,12 @@
 use crate::inner_slips::slip_or_unknown;
 use crate::items::item_at;
 use crate::readings::{format_in, schema_in};
-use clr_faults::Spot;
+use clr_faults::FaultyItem;
 use clr_item_explanations::{
     Slip, Wanted, Within, explain_fields, explain_mark, explain_row, explain_rule, explain_table,
     explain_workspace,
 };
-use clr_places::{Key, Step};
+use clr_text_positions::{Key, PathStep};
 use serde_json::Value as Json;
 use std::alloc::{AllocError, Global};
 
@@ -19,7 +19,7 @@ fn slip_of_text(alloc: Global, json: &Json) -> Result<Option<Slip>, AllocError> 
         return Ok(Some(slip));
     }
     if format_in(json)?.is_none() {
-        let steps = [Step::Key(Key::Format)];
+        let steps = [PathStep::Key(Key::Format)];
         return Ok(Some(Slip::of_words(alloc, &steps, "the format is 1, 2 or 3")?));
     }
     let lists = [
@@ -56,24 +56,24 @@ fn slip_of_row(
 fn slip_of_item(
     alloc: Global,
     json: &Json,
-    spot: Spot,
+    spot: FaultyItem,
     item: &Json,
 ) -> Result<Option<Slip>, AllocError> {
     match spot {
-        Spot::Whole => slip_of_text(alloc, json),
-        Spot::Table(_) => slip_of_table(alloc, json, item),
-        Spot::Rule(_) => explain_rule(alloc, item),
-        Spot::Live(_) => slip_of_row(alloc, json, item, Within::Live),
-        Spot::Workspace(at) => explain_workspace(alloc, json, at),
-        Spot::Mark(_, _) => explain_mark(alloc, item),
-        Spot::Base(_, _) | Spot::Row(_, _) | Spot::Saved(_, _, _) => {
+        FaultyItem::Whole => slip_of_text(alloc, json),
+        FaultyItem::Table(_) => slip_of_table(alloc, json, item),
+        FaultyItem::Rule(_) => explain_rule(alloc, item),
+        FaultyItem::Live(_) => slip_of_row(alloc, json, item, Within::Live),
+        FaultyItem::Workspace(at) => explain_workspace(alloc, json, at),
+        FaultyItem::Mark(_, _) => explain_mark(alloc, item),
+        FaultyItem::Base(_, _) | FaultyItem::Row(_, _) | FaultyItem::Saved(_, _, _) => {
             slip_of_row(alloc, json, item, Within::Workspace)
         }
     }
 }
 
 /// Returns what is wrong with the fields of the item at which a fault stands.
-pub fn field_slip(alloc: Global, json: &Json, spot: Spot) -> Result<Slip, AllocError> {
+pub fn field_slip(alloc: Global, json: &Json, spot: FaultyItem) -> Result<Slip, AllocError> {
     match item_at(json, spot)? {
         Some(item) => slip_or_unknown(alloc, slip_of_item(alloc, json, spot, item)?),
         None => slip_or_unknown(alloc, None),

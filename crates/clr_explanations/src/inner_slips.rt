@@ -6,12 +6,12 @@ ghost use Rattle.clr_explanations.specs.Remarks.{NamesRowFault, NamesRuleFault, 
 
 use crate::items::item_at;
 use crate::readings::{format_in, schema_in};
-use clr_faults::{Spot, row_fault_at, rule_fault_of, schema_fault_of};
+use clr_faults::{FaultyItem, row_fault_at, rule_fault_of, schema_fault_of};
 use clr_item_explanations::{
     Slip, explain_row_fault, explain_rule_fault, explain_schema, explain_unknown_name,
     explain_unknown_table,
 };
-use clr_office_text::formats::Format;
+use clr_office_reading::formats::Format;
 use clr_rows::Schema;
 use serde_json::Value as Json;
 use std::alloc::{AllocError, Global};
@@ -37,7 +37,7 @@ fn slip_of_tables(alloc: Global, json: &Json, format: Format) -> Result<Slip, Al
 
 /// Returns why the tables of a text make no schema.
 #[tactic(auto, using(crate::proofs::NamedFaults::names_bad_schema, crate::proofs::NamedFaults::no_format))]
-pub fn schema_slip(alloc: Global, json: &Json, spot: Spot) -> Result<Slip, AllocError>
+pub fn schema_slip(alloc: Global, json: &Json, spot: FaultyItem) -> Result<Slip, AllocError>
     ensures { IfOk result (λ slip. TellsDroppedFault (view json.now) text_fault.BadSchema spot (string_bytes slip.sentence)) }
 {
     let _spot = spot;
@@ -51,7 +51,7 @@ pub fn schema_slip(alloc: Global, json: &Json, spot: Spot) -> Result<Slip, Alloc
 fn slip_of_name(
     alloc: Global,
     json: &Json,
-    spot: Spot,
+    spot: FaultyItem,
     schema: &Schema,
 ) -> Result<Slip, AllocError> {
     match item_at(json, spot)? {
@@ -62,7 +62,12 @@ fn slip_of_name(
 
 /// Returns why a rule can't stand in a book over a schema.
 #[tactic(auto, using(crate::proofs::NamedFaults::names_rule_fault, crate::proofs::NamedFaults::no_rule_fault))]
-fn slip_of_rule(alloc: Global, json: &Json, spot: Spot, schema: &Schema) -> Result<Slip, AllocError>
+fn slip_of_rule(
+    alloc: Global,
+    json: &Json,
+    spot: FaultyItem,
+    schema: &Schema,
+) -> Result<Slip, AllocError>
     ensures { IfOk result (λ slip. NamesRuleFault schema.now (view json.now) (string_bytes slip.sentence)) }
 {
     match rule_fault_of(alloc, json, schema)? {
@@ -73,7 +78,7 @@ fn slip_of_rule(alloc: Global, json: &Json, spot: Spot, schema: &Schema) -> Resu
 
 /// Returns why a rule can't stand over the schema.
 #[tactic(auto, using(crate::proofs::NamedFaults::names_bad_rule, crate::proofs::NamedFaults::no_tables))]
-pub fn rule_slip(alloc: Global, json: &Json, spot: Spot) -> Result<Slip, AllocError>
+pub fn rule_slip(alloc: Global, json: &Json, spot: FaultyItem) -> Result<Slip, AllocError>
     ensures { IfOk result (λ slip. TellsDroppedFault (view json.now) text_fault.BadRule spot (string_bytes slip.sentence)) }
 {
     match schema_in(alloc, json)? {
@@ -95,7 +100,7 @@ fn slip_of_row(alloc: Global, item: &Json, schema: &Schema) -> Result<Slip, Allo
 
 /// Returns why the row at an item can't stand in its table.
 #[tactic(auto, using(crate::proofs::NamedFaults::names_bad_row, crate::proofs::NamedFaults::no_tables_of_row, crate::proofs::NamedFaults::no_item))]
-pub fn row_slip(alloc: Global, json: &Json, spot: Spot) -> Result<Slip, AllocError>
+pub fn row_slip(alloc: Global, json: &Json, spot: FaultyItem) -> Result<Slip, AllocError>
     ensures { IfOk result (λ slip. TellsDroppedFault (view json.now) text_fault.BadRow spot (string_bytes slip.sentence)) }
 {
     let Some(schema) = schema_in(alloc, json)? else {

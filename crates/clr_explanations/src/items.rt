@@ -3,7 +3,7 @@ ghost use Rattle.std.specs.Prelude.{◌≡◌, Ok, IfOk, IsErr, MatchOption};
 ghost use Rattle.serde_json.specs.View.{view};
 ghost use Rattle.clr_explanations.specs.Items.{item_at_spot, item_in_workspace, saved_item};
 
-use clr_faults::{Spot, item_in};
+use clr_faults::{FaultyItem, item_in};
 use serde_json::Value as Json;
 use std::alloc::AllocError;
 
@@ -39,18 +39,18 @@ fn saved_item<'a>(
 }
 
 /// Returns the item at which a fault stands, or none where there is no such item.
-pub fn item_at(json: &Json, spot: Spot) -> Result<Option<&Json>, AllocError>
+pub fn item_at(json: &Json, spot: FaultyItem) -> Result<Option<&Json>, AllocError>
     ensures { let meant = item_at_spot spot (view json.now) in IfOk result (λ found. MatchOption found (IsErr meant) (λ v. meant ≡ Ok (view v.now))) }
 {
     match spot {
-        Spot::Whole => Ok(Some(json)),
-        Spot::Table(at) => item_in(json, "tables", at),
-        Spot::Rule(at) => item_in(json, "rules", at),
-        Spot::Live(at) => item_in(json, "live", at),
-        Spot::Workspace(at) => item_in(json, "workspaces", at),
-        Spot::Base(at, cell) => item_in_workspace(json, at, "base", cell),
-        Spot::Row(at, cell) => item_in_workspace(json, at, "rows", cell),
-        Spot::Mark(at, mark) => item_in_workspace(json, at, "marks", mark),
-        Spot::Saved(at, mark, cell) => saved_item(json, at, mark, cell),
+        FaultyItem::Whole => Ok(Some(json)),
+        FaultyItem::Table(at) => item_in(json, "tables", at),
+        FaultyItem::Rule(at) => item_in(json, "rules", at),
+        FaultyItem::Live(at) => item_in(json, "live", at),
+        FaultyItem::Workspace(at) => item_in(json, "workspaces", at),
+        FaultyItem::Base(at, cell) => item_in_workspace(json, at, "base", cell),
+        FaultyItem::Row(at, cell) => item_in_workspace(json, at, "rows", cell),
+        FaultyItem::Mark(at, mark) => item_in_workspace(json, at, "marks", mark),
+        FaultyItem::Saved(at, mark, cell) => saved_item(json, at, mark, cell),
     }
 }

@@ -1,8 +1,8 @@
 //! The lists that items stand in.
 
-use clr_faults::Spot;
+use clr_faults::FaultyItem;
 use clr_item_explanations::items_at;
-use clr_places::Key;
+use clr_text_positions::Key;
 use serde_json::Value as Json;
 
 /// Returns the items of a list of a workspace, or none.
@@ -22,31 +22,31 @@ fn saved_items(json: &Json, at: usize, mark: usize) -> &[Json] {
 }
 
 /// Returns the items of the list that an item stands in.
-pub fn items_beside(json: &Json, spot: Spot) -> &[Json] {
+pub fn items_beside(json: &Json, spot: FaultyItem) -> &[Json] {
     match spot {
-        Spot::Whole => &[],
-        Spot::Table(_) => items_at(json, Key::Tables),
-        Spot::Rule(_) => items_at(json, Key::Rules),
-        Spot::Live(_) => items_at(json, Key::Live),
-        Spot::Workspace(_) => items_at(json, Key::Workspaces),
-        Spot::Base(at, _) => items_in_workspace(json, at, Key::Base),
-        Spot::Row(at, _) => items_in_workspace(json, at, Key::Rows),
-        Spot::Mark(at, _) => items_in_workspace(json, at, Key::Marks),
-        Spot::Saved(at, mark, _) => saved_items(json, at, mark),
+        FaultyItem::Whole => &[],
+        FaultyItem::Table(_) => items_at(json, Key::Tables),
+        FaultyItem::Rule(_) => items_at(json, Key::Rules),
+        FaultyItem::Live(_) => items_at(json, Key::Live),
+        FaultyItem::Workspace(_) => items_at(json, Key::Workspaces),
+        FaultyItem::Base(at, _) => items_in_workspace(json, at, Key::Base),
+        FaultyItem::Row(at, _) => items_in_workspace(json, at, Key::Rows),
+        FaultyItem::Mark(at, _) => items_in_workspace(json, at, Key::Marks),
+        FaultyItem::Saved(at, mark, _) => saved_items(json, at, mark),
     }
 }
 
 /// Returns another item of the list that an item stands in.
-pub fn beside(spot: Spot, item: usize) -> Spot {
+pub fn beside(spot: FaultyItem, item: usize) -> FaultyItem {
     match spot {
-        Spot::Whole => Spot::Whole,
-        Spot::Table(_) => Spot::Table(item),
-        Spot::Rule(_) => Spot::Rule(item),
-        Spot::Live(_) => Spot::Live(item),
-        Spot::Workspace(_) => Spot::Workspace(item),
-        Spot::Base(at, _) => Spot::Base(at, item),
-        Spot::Row(at, _) => Spot::Row(at, item),
-        Spot::Mark(at, _) => Spot::Mark(at, item),
-        Spot::Saved(at, mark, _) => Spot::Saved(at, mark, item),
+        FaultyItem::Whole => FaultyItem::Whole,
+        FaultyItem::Table(_) => FaultyItem::Table(item),
+        FaultyItem::Rule(_) => FaultyItem::Rule(item),
+        FaultyItem::Live(_) => FaultyItem::Live(item),
+        FaultyItem::Workspace(_) => FaultyItem::Workspace(item),
+        FaultyItem::Base(at, _) => FaultyItem::Base(at, item),
+        FaultyItem::Row(at, _) => FaultyItem::Row(at, item),
+        FaultyItem::Mark(at, _) => FaultyItem::Mark(at, item),
+        FaultyItem::Saved(at, mark, _) => FaultyItem::Saved(at, mark, item),
     }
 }

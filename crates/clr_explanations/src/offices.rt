@@ -1,7 +1,7 @@
 //! What is said of an office text that can't be read.
 ghost use Rattle.std.specs.Prelude.{◌≡◌, ◌≤◌, length, string_bytes, Err, IfOk, IfNone, IfSome, IsOk};
 ghost use Rattle.serde_json.specs.View.{view};
-ghost use Rattle.clr_office_text.specs.Offices.{office_in};
+ghost use Rattle.clr_office_reading.specs.Offices.{office_in};
 ghost use Rattle.clr_explanations.specs.Places.{IsPlaceOf};
 ghost use Rattle.clr_faults.specs.Spots.{IsFoundIn};
 ghost use Rattle.clr_explanations.specs.Remarks.{IsOfficeRemark, TellsDroppedFault, TellsDroppedFaultIn};
@@ -11,10 +11,10 @@ use crate::inner_slips::{row_slip, rule_slip, schema_slip, slip_or_unknown};
 use crate::places::remark_of;
 use crate::repeated::repeated_slip;
 use clr_fault_lines::Remark;
-use clr_faults::{Found, Spot, find_fault};
+use clr_faults::{FaultyItem, Found, find_fault};
 use clr_hints::json_fault;
 use clr_item_explanations::{Slip, explain_workspace};
-use clr_office_text::TextFault;
+use clr_office_reading::TextFault;
 use serde_json::Value as Json;
 use std::alloc::{AllocError, Global};
 
@@ -26,9 +26,9 @@ pub struct OfficeFault {
 }
 
 /// Returns why a workspace can't stand behind those before it.
-fn workspace_slip(alloc: Global, json: &Json, spot: Spot) -> Result<Slip, AllocError> {
+fn workspace_slip(alloc: Global, json: &Json, spot: FaultyItem) -> Result<Slip, AllocError> {
     match spot {
-        Spot::Workspace(at) => slip_or_unknown(alloc, explain_workspace(alloc, json, at)?),
+        FaultyItem::Workspace(at) => slip_or_unknown(alloc, explain_workspace(alloc, json, at)?),
         _ => slip_or_unknown(alloc, None),
     }
 }

@@ -5,17 +5,17 @@ ghost use Rattle.clr_explanations.specs.Places.{BeginsWithPath, IsPlaceOf};
 use crate::items::item_at;
 use crate::spots::{spot_path, spot_steps};
 use clr_fault_lines::Remark;
-use clr_faults::Spot;
+use clr_faults::FaultyItem;
 use clr_item_explanations::Slip;
-use clr_places::{Step, value_at};
+use clr_text_positions::{PathStep, value_at};
 use serde_json::Value as Json;
 use std::alloc::{AllocError, Global};
 
 /// Adds a step, as `.v` or `[1]`; the first one of a path without its point.
-fn add_step(path: &mut String, step: Step, is_first: bool) -> Result<(), AllocError> {
+fn add_step(path: &mut String, step: PathStep, is_first: bool) -> Result<(), AllocError> {
     match step {
-        Step::At(at) => write!(path, "[{at}]"),
-        Step::Key(key) => {
+        PathStep::At(at) => write!(path, "[{at}]"),
+        PathStep::Key(key) => {
             if !is_first {
                 path.push('.')?;
             }
@@ -39,12 +39,12 @@ fn add_cell(said: &mut String, item: &Json) -> Result<(), AllocError> {
 fn behind_path(
     alloc: Global,
     json: &Json,
-    spot: Spot,
-    steps: &[Step],
+    spot: FaultyItem,
+    steps: &[PathStep],
 ) -> Result<String, AllocError> {
     let mut said = String::new(alloc);
     for (at, step) in steps.iter().enumerate() {
-        add_step(&mut said, *step, at == 0 && spot == Spot::Whole)?;
+        add_step(&mut said, *step, at == 0 && spot == FaultyItem::Whole)?;
     }
     if let Some(item) = item_at(json, spot)? {
         add_cell(&mut said, item)?;
@@ -53,7 +53,12 @@ fn behind_path(
 }
 
 /// Returns the path of an item, and what follows it.
-fn path_words(alloc: Global, json: &Json, spot: Spot, steps: &[Step]) -> Result<String, AllocError>
+fn path_words(
+    alloc: Global,
+    json: &Json,
+    spot: FaultyItem,
+    steps: &[PathStep],
+) -> Result<String, AllocError>
     ensures { IfOk result (λ said. BeginsWithPath spot (string_bytes said)) }
 {
     let path = spot_path(alloc, spot)?;
@@ -64,25 +69,35 @@ fn path_words(alloc: Global, json: &Json, spot: Spot, steps: &[Step]) -> Result<
 
 /// Returns what is said of the place of a value of an item: its path, and the cell where the item is a row; nothing of the
 /// whole text.
-fn place_words(alloc: Global, json: &Json, spot: Spot, steps: &[Step]) -> Result<String, AllocError>
+fn place_words(
+    alloc: Global,
+    json: &Json,
+    spot: FaultyItem,
+    steps: &[PathStep],
+) -> Result<String, AllocError>
     ensures { IfOk result (λ said. IsPlaceOf spot (string_bytes said)) }
 {
     match spot {
-        Spot::Whole if steps.is_empty() => Ok(String::new(alloc)),
-        Spot::Whole
-        | Spot::Table(_)
-        | Spot::Rule(_)
-        | Spot::Live(_)
-        | Spot::Workspace(_)
-        | Spot::Base(_, _)
-        | Spot::Row(_, _)
-        | Spot::Mark(_, _)
-        | Spot::Saved(_, _, _) => path_words(alloc, json, spot, steps),
+        FaultyItem::Whole if steps.is_empty() => Ok(String::new(alloc)),
+        FaultyItem::Whole
+        | FaultyItem::Table(_)
+        | FaultyItem::Rule(_)
+        | FaultyItem::Live(_)
+        | FaultyItem::Workspace(_)
+        | FaultyItem::Base(_, _)
+        | FaultyItem::Row(_, _)
+        | FaultyItem::Mark(_, _)
+        | FaultyItem::Saved(_, _, _) => path_words(alloc, json, spot, steps),
     }
 }
 
 /// Returns where the value at steps from an item begins, or else the item, or else the text.
-fn offset_of(alloc: Global, text: &[u8], spot: Spot, steps: &[Step]) -> Result<usize, AllocError>
+fn offset_of(
+    alloc: Global,
+    text: &[u8],
+    spot: FaultyItem,
+    steps: &[PathStep],
+) -> Result<usize, AllocError>
     ensures { IfOk result (λ offset. offset ≤ length text.now) }
 {
     let mut path = spot_steps(alloc, spot)?;
@@ -100,7 +115,7 @@ pub fn remark_of(
     alloc: Global,
     text: &[u8],
     json: &Json,
-    spot: Spot,
+    spot: FaultyItem,
     slip: Slip,
 ) -> Result<Remark, AllocError>
     ensures within { IfOk result (λ remark. remark.offset ≤ length text.now) }

@@ -1,12 +1,12 @@
 //! The format and the schema of an office text.
 ghost use Rattle.std.specs.Prelude.{◌≡◌, Ok, IfOk, IsErr, MatchOption};
 ghost use Rattle.serde_json.specs.View.{view};
-ghost use Rattle.clr_office_text.specs.Offices.{format_of};
+ghost use Rattle.clr_office_reading.specs.Offices.{format_of};
 ghost use Rattle.clr_explanations.specs.Remarks.{tables_in};
 
 use clr_faults::unless_lost;
-use clr_office_text::formats::{Format, read_format};
-use clr_office_text::reading::schema;
+use clr_office_reading::formats::{Format, read_format};
+use clr_office_reading::reading::schema;
 use clr_rows::Schema;
 use serde_json::Value as Json;
 use std::alloc::{AllocError, Global};

@@ -3,9 +3,9 @@
 use crate::items::item_at;
 use crate::lists::{beside, items_beside};
 use crate::spots::{spot_path, spot_steps};
-use clr_faults::Spot;
+use clr_faults::FaultyItem;
 use clr_item_explanations::{Slip, text_at};
-use clr_places::{Key, place_of, value_at};
+use clr_text_positions::{Key, place_of, value_at};
 use serde_json::Value as Json;
 use std::alloc::{AllocError, Global};
 
@@ -30,7 +30,7 @@ fn first_with_cell(items: &[Json], item: &Json) -> Option<usize> {
 }
 
 /// Returns the line, the column and the path of an item.
-fn place_in_words(alloc: Global, text: &[u8], spot: Spot) -> Result<String, AllocError> {
+fn place_in_words(alloc: Global, text: &[u8], spot: FaultyItem) -> Result<String, AllocError> {
     let path = spot_path(alloc, spot)?;
     let steps = spot_steps(alloc, spot)?;
     match value_at(text, steps.as_slice()) {
@@ -45,7 +45,7 @@ fn place_in_words(alloc: Global, text: &[u8], spot: Spot) -> Result<String, Allo
 }
 
 /// Returns the first item of the list that an item stands in with the cell of that item.
-fn first_beside(json: &Json, spot: Spot) -> Result<Option<usize>, AllocError> {
+fn first_beside(json: &Json, spot: FaultyItem) -> Result<Option<usize>, AllocError> {
     match item_at(json, spot)? {
         Some(item) => Ok(first_with_cell(items_beside(json, spot), item)),
         None => Ok(None),
@@ -57,7 +57,7 @@ pub fn repeated_slip(
     alloc: Global,
     text: &[u8],
     json: &Json,
-    spot: Spot,
+    spot: FaultyItem,
 ) -> Result<Slip, AllocError> {
     match first_beside(json, spot)? {
         Some(first) => {

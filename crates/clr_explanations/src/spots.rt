@@ -2,8 +2,8 @@
 ghost use Rattle.std.specs.Prelude.{◌≡◌, codes, string_bytes, IfOk};
 ghost use Rattle.clr_explanations.specs.Places.{list_item_path, spot_path, steps_in_workspace, steps_to, workspace_path};
 
-use clr_faults::Spot;
-use clr_places::{Key, Step};
+use clr_faults::FaultyItem;
+use clr_text_positions::{Key, PathStep};
 use std::alloc::{AllocError, Global};
 
 /// Returns the path of a workspace.
@@ -45,19 +45,19 @@ fn saved_path(alloc: Global, at: usize, mark: usize, cell: usize) -> Result<Stri
 }
 
 /// Returns the path of an item, as `workspaces[0].rows[3]`; of the whole text, none.
-pub fn spot_path(alloc: Global, spot: Spot) -> Result<String, AllocError>
+pub fn spot_path(alloc: Global, spot: FaultyItem) -> Result<String, AllocError>
     ensures { IfOk result (λ path. string_bytes path ≡ spot_path spot) }
 {
     match spot {
-        Spot::Whole => Ok(String::new(alloc)),
-        Spot::Table(at) => format!(in alloc; "tables[{at}]"),
-        Spot::Rule(at) => format!(in alloc; "rules[{at}]"),
-        Spot::Live(at) => format!(in alloc; "live[{at}]"),
-        Spot::Workspace(at) => workspace_path(alloc, at),
-        Spot::Base(at, cell) => path_in_workspace(alloc, at, "base", cell),
-        Spot::Row(at, cell) => path_in_workspace(alloc, at, "rows", cell),
-        Spot::Mark(at, mark) => path_in_workspace(alloc, at, "marks", mark),
-        Spot::Saved(at, mark, cell) => saved_path(alloc, at, mark, cell),
+        FaultyItem::Whole => Ok(String::new(alloc)),
+        FaultyItem::Table(at) => format!(in alloc; "tables[{at}]"),
+        FaultyItem::Rule(at) => format!(in alloc; "rules[{at}]"),
+        FaultyItem::Live(at) => format!(in alloc; "live[{at}]"),
+        FaultyItem::Workspace(at) => workspace_path(alloc, at),
+        FaultyItem::Base(at, cell) => path_in_workspace(alloc, at, "base", cell),
+        FaultyItem::Row(at, cell) => path_in_workspace(alloc, at, "rows", cell),
+        FaultyItem::Mark(at, mark) => path_in_workspace(alloc, at, "marks", mark),
+        FaultyItem::Saved(at, mark, cell) => saved_path(alloc, at, mark, cell),
     }
 }
 
@@ -67,39 +67,48 @@ fn steps_in_workspace(
     at: usize,
     key: Key,
     item: usize,
-) -> Result<Vec<Step>, AllocError>
+) -> Result<Vec<PathStep>, AllocError>
     ensures { IfOk result (λ steps. steps.items ≡ steps_in_workspace at key item) }
 {
     Vec::from_slice(
         alloc,
         &[
-            Step::Key(Key::Workspaces),
-            Step::At(at),
-            Step::Key(key),
-            Step::At(item),
+            PathStep::Key(Key::Workspaces),
+            PathStep::At(at),
+            PathStep::Key(key),
+            PathStep::At(item),
         ],
     )
 }
 
 /// Returns the steps from the whole text to an item.
-pub fn spot_steps(alloc: Global, spot: Spot) -> Result<Vec<Step>, AllocError>
+pub fn spot_steps(alloc: Global, spot: FaultyItem) -> Result<Vec<PathStep>, AllocError>
     ensures { IfOk result (λ steps. steps.items ≡ steps_to spot) }
 {
     match spot {
-        Spot::Whole => Ok(Vec::new(alloc)),
-        Spot::Table(at) => Vec::from_slice(alloc, &[Step::Key(Key::Tables), Step::At(at)]),
-        Spot::Rule(at) => Vec::from_slice(alloc, &[Step::Key(Key::Rules), Step::At(at)]),
-        Spot::Live(at) => Vec::from_slice(alloc, &[Step::Key(Key::Live), Step::At(at)]),
-        Spot::Workspace(at) => {
-            Vec::from_slice(alloc, &[Step::Key(Key::Workspaces), Step::At(at)])
+        FaultyItem::Whole => Ok(Vec::new(alloc)),
+        FaultyItem::Table(at) => Vec::from_slice(
+            alloc,
+            &[PathStep::Key(Key::Tables), PathStep::At(at)],
+        ),
+        FaultyItem::Rule(at) => Vec::from_slice(
+            alloc,
+            &[PathStep::Key(Key::Rules), PathStep::At(at)],
+        ),
+        FaultyItem::Live(at) => Vec::from_slice(
+            alloc,
+            &[PathStep::Key(Key::Live), PathStep::At(at)],
+        ),
+        FaultyItem::Workspace(at) => {
+            Vec::from_slice(alloc, &[PathStep::Key(Key::Workspaces), PathStep::At(at)])
         }
-        Spot::Base(at, cell) => steps_in_workspace(alloc, at, Key::Base, cell),
-        Spot::Row(at, cell) => steps_in_workspace(alloc, at, Key::Rows, cell),
-        Spot::Mark(at, mark) => steps_in_workspace(alloc, at, Key::Marks, mark),
-        Spot::Saved(at, mark, cell) => {
+        FaultyItem::Base(at, cell) => steps_in_workspace(alloc, at, Key::Base, cell),
+        FaultyItem::Row(at, cell) => steps_in_workspace(alloc, at, Key::Rows, cell),
+        FaultyItem::Mark(at, mark) => steps_in_workspace(alloc, at, Key::Marks, mark),
+        FaultyItem::Saved(at, mark, cell) => {
             let mut steps = steps_in_workspace(alloc, at, Key::Marks, mark)?;
-            steps.push(Step::Key(Key::Rows))?;
-            steps.push(Step::At(cell))?;
+            steps.push(PathStep::Key(Key::Rows))?;
+            steps.push(PathStep::At(cell))?;
             Ok(steps)
         }
     }

@@ -6,10 +6,10 @@ ghost use Rattle.clr_item_explanations.specs.FaultNames.{BeginsWithName, part_fa
 
 use crate::places::remark_of;
 use clr_fault_lines::Remark;
-use clr_faults::{Spot, unless_lost};
+use clr_faults::{FaultyItem, unless_lost};
 use clr_item_explanations::{Slip, explain_part, items_at};
-use clr_office_text::read_office;
-use clr_places::Key;
+use clr_office_reading::read_office;
+use clr_text_positions::Key;
 use clr_tree::{PartFault, Tree};
 use serde_json::Value as Json;
 use std::alloc::{AllocError, Global};
@@ -59,14 +59,14 @@ fn remark_on_part(
     fault: PartFault,
 ) -> Result<Remark, AllocError>
     ensures within { IfOk result (λ remark. remark.offset ≤ length text.now) }
-    ensures place { IfOk result (λ remark. BeginsWithPath (Spot.Workspace at) (string_bytes remark.place)) }
+    ensures place { IfOk result (λ remark. BeginsWithPath (FaultyItem.Workspace at) (string_bytes remark.place)) }
     ensures named { IfOk result (λ remark. BeginsWithName (part_fault_name fault) (string_bytes remark.sentence)) }
 {
     let Ok(json) = Json::from_slice(alloc, text) else {
         return Err(AllocError);
     };
     let slip = slip_of_part(alloc, &json, at, fault)?;
-    remark_of(alloc, text, &json, Spot::Workspace(at), slip)
+    remark_of(alloc, text, &json, FaultyItem::Workspace(at), slip)
 }
 
 /// Returns what is said of a text that can be read and whose workspaces can't stand as a whole: the first that can't, and why;

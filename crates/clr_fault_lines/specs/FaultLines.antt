@@ -1,7 +1,7 @@
 -- The lines of a fault.
 use Rattle.std.specs.Prelude.{◌≡◌, ◌+◌, ℕ, List, [], ◌++◌, Option, Some, None, codes, decimal, take, count_by, String, string_bytes}
 use Rattle.std.specs.declared.alloc.Global.{Global}
-use Rattle.clr_places.specs.Places.{begins_character, is_line_end, last_line}
+use Rattle.clr_text_positions.specs.Places.{begins_character, is_line_end, last_line}
 use Rattle.clr_fault_lines.specs.declared.remarks.Remark.{Remark}
 
 -- the line of a byte, counted from 1

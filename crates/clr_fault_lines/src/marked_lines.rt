@@ -1,7 +1,7 @@
 //! The line of a text that a byte stands in, with a mark under that byte.
 ghost use Rattle.std.specs.Prelude.{◌≤◌, length};
 
-use clr_places::{line_around, place_of};
+use clr_text_positions::{line_around, place_of};
 use std::alloc::{AllocError, Global};
 
 /// The most characters of a line that are shown.

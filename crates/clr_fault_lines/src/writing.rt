@@ -4,7 +4,7 @@ ghost use Rattle.clr_fault_lines.specs.FaultLines.{AreFaultLines, hint_line, pla
 
 use crate::marked_lines::marked_line;
 use crate::remarks::Remark;
-use clr_places::place_of;
+use clr_text_positions::place_of;
 use std::alloc::{AllocError, Global};
 
 /// Returns `at line L, column C`, and what else is said of the place.

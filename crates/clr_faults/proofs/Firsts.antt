@@ -14,10 +14,10 @@ use Rattle.clr_deltas.specs.Deltas.{Delta}
 use Rattle.clr_deltas.specs.declared.stored_parts.StoredPart.{StoredPart}
 use Rattle.clr_rule_text.specs.declared.faults.TextFault.{TextFault}
 use Rattle.clr_rule_text.specs.declared.faults.TextFault.TheVariants as fault
-use Rattle.clr_office_text.specs.declared.formats.Format.{Format}
+use Rattle.clr_office_reading.specs.declared.formats.Format.{Format}
 use Rattle.clr_readings.specs.Readings.{Fails}
 use Rattle.clr_rule_text.specs.Fields.{text_lacks_memory}
-use Rattle.clr_office_text.specs.Workspaces.{delta_of}
+use Rattle.clr_office_reading.specs.Workspaces.{delta_of}
 use Rattle.clr_readings.proofs.FaultTurns.{fails_with}
 use Rattle.clr_faults.specs.FirstFaults.{fault_or, first_fault_from}
 use Rattle.clr_faults.specs.Readings.{deltas_with}

@@ -5,11 +5,11 @@ use Rattle.std.proofs.lemmas.Str.{IsUtf8-from_is_utf8, is_utf8-from_IsUtf8}
 use Rattle.serde_json.specs.Data.{Data}
 use Rattle.serde_json.specs.Read.{read}
 use Rattle.clr_rule_text.specs.declared.faults.TextFault.{TextFault}
-use Rattle.clr_faults.specs.declared.spots.Spot.{Spot}
-use Rattle.clr_faults.specs.declared.spots.Spot.TheVariants.{Whole}
+use Rattle.clr_faults.specs.declared.spots.FaultyItem.{FaultyItem}
+use Rattle.clr_faults.specs.declared.spots.FaultyItem.TheVariants.{Whole}
 use Rattle.clr_faults.specs.Spots.{IsFaultAt, IsFoundIn, value_in}
 
-pub found_in_value : (bytes : List ℕ) (d : Data) (e : TextFault) (spot : Spot) → IsUtf8 bytes → read bytes ≡ Some d → IsFaultAt d e spot →
+pub found_in_value : (bytes : List ℕ) (d : Data) (e : TextFault) (spot : FaultyItem) → IsUtf8 bytes → read bytes ≡ Some d → IsFaultAt d e spot →
     IsFoundIn bytes e spot
 unfolding value_in
 found_in_value bytes d e spot utf8 is found = rw (is_utf8-from_IsUtf8 bytes utf8, is) found

@@ -3,12 +3,12 @@ use Rattle.std.specs.Prelude.{◌≡◌, ℕ, List, codes, Ok, IsOk}
 use Rattle.serde_json.specs.Data.{Data}
 use Rattle.clr_rows.specs.declared.tables.TableDef.{TableDef}
 use Rattle.clr_rule_text.specs.declared.faults.TextFault.{TextFault}
-use Rattle.clr_office_text.specs.declared.formats.Format.{Format}
-use Rattle.clr_office_text.specs.Cells.{live_of}
-use Rattle.clr_office_text.specs.Offices.{format_of, schema_of}
-use Rattle.clr_office_text.specs.Patches.{differences_at}
+use Rattle.clr_office_reading.specs.declared.formats.Format.{Format}
+use Rattle.clr_office_reading.specs.Cells.{live_of}
+use Rattle.clr_office_reading.specs.Offices.{format_of, schema_of}
+use Rattle.clr_office_reading.specs.Patches.{differences_at}
 use Rattle.clr_rule_text.specs.Rules.{rules_of}
-use Rattle.clr_office_text.specs.Workspaces.{head_of}
+use Rattle.clr_office_reading.specs.Workspaces.{head_of}
 use Rattle.clr_faults.specs.Spots.{HasFirst, HasNone}
 use Rattle.clr_faults.specs.Stages.{base_faults, list_item_of, live_faults, mark_faults, row_faults, rule_faults, table_faults, workspace_faults}
 

@@ -8,13 +8,13 @@ use Rattle.clr_rows.specs.Schemas.{schema_fault}
 use Rattle.clr_rules.specs.declared.books.faults.RuleFault.{RuleFault}
 use Rattle.clr_rules.specs.Books.{book_fault}
 use Rattle.clr_rule_text.specs.declared.faults.TextFault.{TextFault}
-use Rattle.clr_office_text.specs.declared.formats.Format.{Format}
-use Rattle.clr_office_text.specs.Cells.{cell_of}
+use Rattle.clr_office_reading.specs.declared.formats.Format.{Format}
+use Rattle.clr_office_reading.specs.Cells.{cell_of}
 use Rattle.clr_readings.specs.Readings.{◌>>=◌}
 use Rattle.clr_rule_text.specs.Fields.{each_in}
-use Rattle.clr_office_text.specs.Patches.{named_cell_of, put_fault}
+use Rattle.clr_office_reading.specs.Patches.{named_cell_of, put_fault}
 use Rattle.clr_rule_text.specs.Rules.{named_rules_of, rule_over}
-use Rattle.clr_office_text.specs.Tables.{tables_of}
+use Rattle.clr_office_reading.specs.Tables.{tables_of}
 
 -- what a text that can be read has, if anything
 abbrev pub if_read : {A : Type 0} → Result (Option A) TextFault → Option A

@@ -6,12 +6,12 @@ use Rattle.clr_rows.specs.Contents.{Content}
 use Rattle.clr_deltas.specs.Differences.{Differences}
 use Rattle.clr_deltas.specs.Deltas.{Delta}
 use Rattle.clr_rule_text.specs.declared.faults.TextFault.{TextFault}
-use Rattle.clr_office_text.specs.declared.formats.Format.{Format}
-use Rattle.clr_office_text.specs.Cells.{named_row_of, with_named_row}
+use Rattle.clr_office_reading.specs.declared.formats.Format.{Format}
+use Rattle.clr_office_reading.specs.Cells.{named_row_of, with_named_row}
 use Rattle.clr_readings.specs.Readings.{◌>>=◌}
-use Rattle.clr_office_text.specs.Patches.{named_cell_of, with_cell}
+use Rattle.clr_office_reading.specs.Patches.{named_cell_of, with_cell}
 use Rattle.clr_rule_text.specs.Rules.{named_rule_of, rule_over}
-use Rattle.clr_office_text.specs.Workspaces.{delta_of, mark_over, named_mark_of}
+use Rattle.clr_office_reading.specs.Workspaces.{delta_of, mark_over, named_mark_of}
 
 -- whether a value can be read, whatever it means
 abbrev pub readable : {A : Type 0} → Result A TextFault → Result Unit TextFault

@@ -4,8 +4,8 @@ use Rattle.std.specs.Str.{is_utf8}
 use Rattle.serde_json.specs.Data.{Data}
 use Rattle.serde_json.specs.Read.{read}
 use Rattle.clr_rule_text.specs.declared.faults.TextFault.{TextFault}
-use Rattle.clr_faults.specs.declared.spots.Spot.{Spot}
-use Rattle.clr_faults.specs.declared.spots.Spot.TheVariants.{Whole, Table, Rule, Live, Workspace, Base, Row, Mark, Saved}
+use Rattle.clr_faults.specs.declared.spots.FaultyItem.{FaultyItem}
+use Rattle.clr_faults.specs.declared.spots.FaultyItem.TheVariants.{Whole, Table, Rule, Live, Workspace, Base, Row, Mark, Saved}
 use Rattle.clr_faults.specs.Stages.{base_faults, live_faults, mark_faults, row_faults, rule_faults, saved_faults, table_faults, workspace_faults}
 
 -- the first fault of a list is this one, at this place
@@ -17,7 +17,7 @@ abbrev pub HasNone : Result (Option (ℕ × TextFault)) TextFault → TextFault 
 HasNone faults e = (at : ℕ) → faults ≢ Ok (Some (at, e))
 
 -- the item, and each item that it stands in, is the first of its list whose own reading answers the fault; no item within it answers it
-abbrev pub IsFaultAt : Data → TextFault → Spot → Type 0
+abbrev pub IsFaultAt : Data → TextFault → FaultyItem → Type 0
 IsFaultAt d e Whole = HasNone (table_faults d) e × HasNone (rule_faults d) e × HasNone (live_faults d) e × HasNone (workspace_faults d) e
 IsFaultAt d e (Table at) = HasFirst (table_faults d) e at
 IsFaultAt d e (Rule at) = HasFirst (rule_faults d) e at
@@ -35,5 +35,5 @@ unfoldable pub value_in : List ℕ → Option Data
 value_in bytes = if is_utf8 bytes then read bytes else None
 
 -- where in some bytes a fault is: in the value that they are, or, where they are none, in the whole text
-abbrev pub IsFoundIn : List ℕ → TextFault → Spot → Type 0
+abbrev pub IsFoundIn : List ℕ → TextFault → FaultyItem → Type 0
 IsFoundIn bytes e spot = MatchOption (value_in bytes) (spot ≡ Whole) (λ d. IsFaultAt d e spot)

@@ -5,14 +5,14 @@ use Rattle.serde_json.specs.Find.{get}
 use Rattle.clr_rows.specs.declared.tables.TableDef.{TableDef}
 use Rattle.clr_rule_text.specs.declared.faults.TextFault.{TextFault}
 use Rattle.clr_rule_text.specs.declared.faults.TextFault.TheVariants.{BadField}
-use Rattle.clr_office_text.specs.declared.formats.Format.{Format}
-use Rattle.clr_office_text.specs.Cells.{live_of}
+use Rattle.clr_office_reading.specs.declared.formats.Format.{Format}
+use Rattle.clr_office_reading.specs.Cells.{live_of}
 use Rattle.clr_readings.specs.Readings.{◌>>=◌}
 use Rattle.clr_rule_text.specs.Fields.{list_or_none, or_bad_field, words_at}
-use Rattle.clr_office_text.specs.Offices.{format_of, schema_of}
-use Rattle.clr_office_text.specs.Patches.{differences_at}
+use Rattle.clr_office_reading.specs.Offices.{format_of, schema_of}
+use Rattle.clr_office_reading.specs.Patches.{differences_at}
 use Rattle.clr_rule_text.specs.Rules.{rules_of}
-use Rattle.clr_office_text.specs.Workspaces.{head_of}
+use Rattle.clr_office_reading.specs.Workspaces.{head_of}
 use Rattle.clr_faults.specs.FirstFaults.{item_at}
 use Rattle.clr_faults.specs.Parts.{cell_fault_at, live_fault, mark_fault, first_rule_fault, table_fault, workspace_fault}
 

@@ -2,17 +2,17 @@
 
 ghost use Rattle.std.specs.Prelude.{◌≡◌, Err, IfOk, IfSome, IfNone, IsOk};
 ghost use Rattle.serde_json.specs.View.{view};
-ghost use Rattle.clr_office_text.specs.Offices.{office_in};
+ghost use Rattle.clr_office_reading.specs.Offices.{office_in};
 ghost use Rattle.clr_faults.specs.Behind.{BehindLive, BehindRules, BehindTables};
 ghost use Rattle.clr_faults.specs.Spots.{IsFaultAt, IsFoundIn};
 
 use crate::memory::unless_lost;
 use crate::parts::{live_fault, rule_fault, table_fault, workspace_fault};
 use crate::read_parts::{has_live, has_rules, known_format, known_schema};
-use crate::spots::Spot;
+use crate::spots::FaultyItem;
 use crate::texts::{FaultyText, place_with};
 use crate::workspaces::spot_at_workspace;
-use clr_office_text::{TextFault, read_office};
+use clr_office_reading::{TextFault, read_office};
 use serde_json::Value as Json;
 use std::alloc::{AllocError, Global};
 
@@ -20,65 +20,65 @@ use std::alloc::{AllocError, Global};
 #[derive(Clone, Copy, Debug, PartialEq, Eq)]
 pub struct Found {
     pub fault: TextFault,
-    pub spot: Spot,
+    pub spot: FaultyItem,
 }
 
 /// Returns the workspace that has the fault, an item of it, or the whole text.
-fn spot_in_workspaces(alloc: Global, text: FaultyText) -> Result<Spot, AllocError>
+fn spot_in_workspaces(alloc: Global, text: FaultyText) -> Result<FaultyItem, AllocError>
     requires { BehindLive (view text.json.now) text.fault text.format text.schema.now }
     ensures { IfOk result (IsFaultAt (view text.entry.json.now) text.entry.fault) }
 {
     let first = workspace_fault(alloc, text.json, text.format, text.schema)?;
     match place_with(first, text.fault) {
         Some(at) => spot_at_workspace(alloc, text, at),
-        None => Ok(Spot::Whole),
+        None => Ok(FaultyItem::Whole),
     }
 }
 
 /// Returns the row of LIVE that has the fault, or what comes behind LIVE.
-fn spot_behind_rules(alloc: Global, text: FaultyText) -> Result<Spot, AllocError>
+fn spot_behind_rules(alloc: Global, text: FaultyText) -> Result<FaultyItem, AllocError>
     requires { BehindRules (view text.json.now) text.fault text.format text.schema.now }
     ensures { IfOk result (IsFaultAt (view text.entry.json.now) text.entry.fault) }
 {
     let first = live_fault(alloc, text.json, text.schema)?;
     if let Some(at) = place_with(first, text.fault) {
-        return Ok(Spot::Live(at));
+        return Ok(FaultyItem::Live(at));
     }
     if has_live(alloc, text.json, text.schema)? {
         spot_in_workspaces(alloc, text)
     } else {
-        Ok(Spot::Whole)
+        Ok(FaultyItem::Whole)
     }
 }
 
 /// Returns the rule that has the fault, or what comes behind the rules.
-fn spot_behind_tables(alloc: Global, text: FaultyText) -> Result<Spot, AllocError>
+fn spot_behind_tables(alloc: Global, text: FaultyText) -> Result<FaultyItem, AllocError>
     requires { BehindTables (view text.json.now) text.fault text.format text.schema.now }
     ensures { IfOk result (IsFaultAt (view text.entry.json.now) text.entry.fault) }
 {
     let first = rule_fault(alloc, text.json, text.schema)?;
     if let Some(at) = place_with(first, text.fault) {
-        return Ok(Spot::Rule(at));
+        return Ok(FaultyItem::Rule(at));
     }
     if has_rules(alloc, text.json, text.schema)? {
         spot_behind_rules(alloc, text)
     } else {
-        Ok(Spot::Whole)
+        Ok(FaultyItem::Whole)
     }
 }
 
 /// Returns the item of a text that has the fault.
-fn find_spot(alloc: Global, json: &Json, fault: TextFault) -> Result<Spot, AllocError>
+fn find_spot(alloc: Global, json: &Json, fault: TextFault) -> Result<FaultyItem, AllocError>
     ensures { IfOk result (IsFaultAt (view json.now) fault) }
 {
     let Some(format) = known_format(json)? else {
-        return Ok(Spot::Whole);
+        return Ok(FaultyItem::Whole);
     };
     if let Some(at) = place_with(table_fault(alloc, json, format)?, fault) {
-        return Ok(Spot::Table(at));
+        return Ok(FaultyItem::Table(at));
     }
     let Some(schema) = known_schema(alloc, json, format)? else {
-        return Ok(Spot::Whole);
+        return Ok(FaultyItem::Whole);
     };
     let text = FaultyText {
         json,
@@ -112,7 +112,7 @@ pub fn find_fault(alloc: Global, bytes: &[u8]) -> Result<Option<Found>, AllocErr
             if refused.is_memory() {
                 return Err(AllocError);
             }
-            let spot = Spot::Whole;
+            let spot = FaultyItem::Whole;
             Ok(Some(Found { fault, spot }))
         }
     }

@@ -6,7 +6,7 @@ ghost use Rattle.clr_faults.specs.FirstFaults.{alone, first_fault_from};
 
 use crate::item_kinds::Item;
 use crate::memory::unless_lost;
-use clr_office_text::TextFault;
+use clr_office_reading::TextFault;
 use serde_json::Value as Json;
 use std::alloc::{AllocError, Global};
 

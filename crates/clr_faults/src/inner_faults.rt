@@ -2,16 +2,16 @@
 
 ghost use Rattle.std.specs.Prelude.{◌≡◌, IfOk};
 ghost use Rattle.serde_json.specs.View.{view};
-ghost use Rattle.clr_office_text.specs.Patches.{put_fault};
+ghost use Rattle.clr_office_reading.specs.Patches.{put_fault};
 ghost use Rattle.clr_faults.specs.InnerFaults.{book_fault_of, put_fault_of, tables_fault_of};
 
 use crate::memory::unless_lost;
-use clr_office_text::formats::Format;
-use clr_office_text::live::cell;
-use clr_office_text::named_cells::named_cell;
-use clr_office_text::named_rules::named_rules;
-use clr_office_text::rules::each_rule;
-use clr_office_text::tables::tables;
+use clr_office_reading::formats::Format;
+use clr_office_reading::live::cell;
+use clr_office_reading::named_cells::named_cell;
+use clr_office_reading::named_rules::named_rules;
+use clr_office_reading::rules::each_rule;
+use clr_office_reading::tables::tables;
 use clr_rows::{CellId, Row, RowFault, Schema, SchemaFault};
 use clr_rules::{RuleBook, RuleFault};
 use serde_json::Value as Json;

@@ -5,7 +5,7 @@ ghost use Rattle.serde_json.specs.View.{view};
 ghost use Rattle.clr_faults.specs.Stages.{list_item_of};
 
 use crate::memory::unless_lost;
-use clr_office_text::fields::optional_list;
+use clr_office_reading::fields::optional_list;
 use serde_json::Value as Json;
 use std::alloc::AllocError;
 

@@ -34,4 +34,4 @@ pub use inner_faults::{row_fault_at, rule_fault_of, schema_fault_of};
 pub use items::item_in;
 pub use laws::first_faults_are_first;
 pub use memory::unless_lost;
-pub use spots::Spot;
+pub use spots::FaultyItem;

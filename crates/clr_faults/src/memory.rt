@@ -2,7 +2,7 @@
 
 ghost use Rattle.std.specs.Prelude.{◌≡◌, ◌≢◌, IfOk};
 
-use clr_office_text::TextFault;
+use clr_office_reading::TextFault;
 use std::alloc::AllocError;
 
 /// Returns the answer that goes with a fault. Fails where the fault is want of memory.

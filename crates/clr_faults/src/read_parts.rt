@@ -2,21 +2,21 @@
 
 ghost use Rattle.std.specs.Prelude.{◌≡◌, IfOk, is_ok};
 ghost use Rattle.serde_json.specs.View.{view};
-ghost use Rattle.clr_office_text.specs.Cells.{live_of};
-ghost use Rattle.clr_office_text.specs.Offices.{format_of, schema_of};
-ghost use Rattle.clr_office_text.specs.Patches.{differences_at};
+ghost use Rattle.clr_office_reading.specs.Cells.{live_of};
+ghost use Rattle.clr_office_reading.specs.Offices.{format_of, schema_of};
+ghost use Rattle.clr_office_reading.specs.Patches.{differences_at};
 ghost use Rattle.clr_rule_text.specs.Rules.{rules_of};
-ghost use Rattle.clr_office_text.specs.Workspaces.{head_of};
+ghost use Rattle.clr_office_reading.specs.Workspaces.{head_of};
 ghost use Rattle.clr_faults.specs.Stages.{known, savepoint_of};
 
 use crate::memory::unless_lost;
-use clr_office_text::fields::words_in;
-use clr_office_text::formats::{Format, read_format};
-use clr_office_text::live::live;
-use clr_office_text::patches::differences_in;
-use clr_office_text::reading::schema;
-use clr_office_text::rules::read_rules;
-use clr_office_text::workspaces::read_head;
+use clr_office_reading::fields::words_in;
+use clr_office_reading::formats::{Format, read_format};
+use clr_office_reading::live::live;
+use clr_office_reading::patches::differences_in;
+use clr_office_reading::reading::schema;
+use clr_office_reading::rules::read_rules;
+use clr_office_reading::workspaces::read_head;
 use clr_rows::Schema;
 use serde_json::Value as Json;
 use std::alloc::{AllocError, Global};

@@ -3,7 +3,7 @@
 /// An item of a list of an office text, by its place from 0 in each list that it stands in; or the
 /// whole text, where the fault is of no item.
 #[derive(Clone, Copy, Debug, PartialEq, Eq)]
-pub enum Spot {
+pub enum FaultyItem {
     /// The whole text.
     Whole,
     /// A table.

@@ -3,8 +3,8 @@
 ghost use Rattle.std.specs.Prelude.{◌≡◌, ◌≢◌, ℕ, Some, MatchOption};
 
 use crate::first_faults::FirstFault;
-use clr_office_text::TextFault;
-use clr_office_text::formats::Format;
+use clr_office_reading::TextFault;
+use clr_office_reading::formats::Format;
 use clr_rows::Schema;
 use serde_json::Value as Json;
 

@@ -9,19 +9,24 @@ use crate::items::item_in;
 use crate::marks::spot_at_mark;
 use crate::parts::{cell_fault_at, mark_fault};
 use crate::read_parts::{has_cells, has_head};
-use crate::spots::Spot;
+use crate::spots::FaultyItem;
 use crate::texts::{FaultyText, place_with};
 use serde_json::Value as Json;
 use std::alloc::{AllocError, Global};
 
 /// Returns the mark of a workspace that has the fault, a cell of it, or the workspace.
-fn spot_in_marks(alloc: Global, text: FaultyText, at: usize, one: &Json) -> Result<Spot, AllocError>
+fn spot_in_marks(
+    alloc: Global,
+    text: FaultyText,
+    at: usize,
+    one: &Json,
+) -> Result<FaultyItem, AllocError>
     requires { BehindRows (view text.json.now) text.fault text.format text.schema.now at (view one.now) }
     ensures { IfOk result (IsFaultAt (view text.entry.json.now) text.entry.fault) }
 {
     match place_with(mark_fault(alloc, one, text.schema)?, text.fault) {
         Some(mark) => spot_at_mark(alloc, text, at, one, mark),
-        None => Ok(Spot::Workspace(at)),
+        None => Ok(FaultyItem::Workspace(at)),
     }
 }
 
@@ -31,18 +36,18 @@ fn spot_behind_base(
     text: FaultyText,
     at: usize,
     one: &Json,
-) -> Result<Spot, AllocError>
+) -> Result<FaultyItem, AllocError>
     requires { BehindBase (view text.json.now) text.fault text.format text.schema.now at (view one.now) }
     ensures { IfOk result (IsFaultAt (view text.entry.json.now) text.entry.fault) }
 {
     let first = cell_fault_at(alloc, one, "rows", text.schema)?;
     if let Some(cell) = place_with(first, text.fault) {
-        return Ok(Spot::Row(at, cell));
+        return Ok(FaultyItem::Row(at, cell));
     }
     if has_cells(alloc, one, "rows", text.schema)? {
         spot_in_marks(alloc, text, at, one)
     } else {
-        Ok(Spot::Workspace(at))
+        Ok(FaultyItem::Workspace(at))
     }
 }
 
@@ -52,32 +57,36 @@ fn spot_behind_head(
     text: FaultyText,
     at: usize,
     one: &Json,
-) -> Result<Spot, AllocError>
+) -> Result<FaultyItem, AllocError>
     requires { BehindHead (view text.json.now) text.fault text.format text.schema.now at (view one.now) }
     ensures { IfOk result (IsFaultAt (view text.entry.json.now) text.entry.fault) }
 {
     let first = cell_fault_at(alloc, one, "base", text.schema)?;
     if let Some(cell) = place_with(first, text.fault) {
-        return Ok(Spot::Base(at, cell));
+        return Ok(FaultyItem::Base(at, cell));
     }
     if has_cells(alloc, one, "base", text.schema)? {
         spot_behind_base(alloc, text, at, one)
     } else {
-        Ok(Spot::Workspace(at))
+        Ok(FaultyItem::Workspace(at))
     }
 }
 
 /// Returns the item of a workspace that has the fault, or the workspace.
-pub fn spot_at_workspace(alloc: Global, text: FaultyText, at: usize) -> Result<Spot, AllocError>
+pub fn spot_at_workspace(
+    alloc: Global,
+    text: FaultyText,
+    at: usize,
+) -> Result<FaultyItem, AllocError>
     requires { HasWorkspace (view text.json.now) text.fault text.format text.schema.now at }
     ensures { IfOk result (IsFaultAt (view text.entry.json.now) text.entry.fault) }
 {
     let Some(one) = item_in(text.json, "workspaces", at)? else {
-        return Ok(Spot::Workspace(at));
+        return Ok(FaultyItem::Workspace(at));
     };
     if has_head(alloc, one, text.format)? {
         spot_behind_head(alloc, text, at, one)
     } else {
-        Ok(Spot::Workspace(at))
+        Ok(FaultyItem::Workspace(at))
     }
 }

@@ -29,11 +29,11 @@ use Rattle.clr_needs.proofs.NeedSubjects.{subjects_once}
 use Rattle.clr_needs.proofs.PickLaws.{lasting_told, least_as, told_lasting}
 use Rattle.clr_foot.specs.declared.first_servers.Sought.{Sought}
 use Rattle.clr_foot.specs.declared.first_servers.Sought.TheVariants.{Living, Lasting}
-use Rattle.clr_versions.specs.declared.versions.Version.{Version}
+use Rattle.clr_row_versions.specs.declared.versions.Version.{Version}
 use Rattle.clr_foot.specs.FirstServers.{IsFirstAt, IsFoundCell, IsServerSought, IsServingSought, IsToldServer, is_sought}
 use Rattle.clr_foot.specs.Touches.{IsNeighbour}
 use Rattle.clr_foot.specs.NewRows.{AreNewRowsFiled}
-use Rattle.clr_versions.specs.Versions.{IsNamed, IsNamedIfAny, row_and_life, row_of, version_of}
+use Rattle.clr_row_versions.specs.Versions.{IsNamed, IsNamedIfAny, row_and_life, row_of, version_of}
 use Rattle.clr_foot.proofs.ServerLaws.{first_row, serving_same}
 use Rattle.clr_foot.proofs.SharingLaws.{may_serve_there, near_server, server_near}
 use Rattle.clr_foot.proofs.VersionLists.{new_cell_found, old_cell_found}

@@ -10,21 +10,21 @@ use Rattle.clr_rules.specs.declared.rules.Rule.{Rule}
 use Rattle.clr_rules.proofs.Elements.{contained}
 use Rattle.clr_needs.specs.declared.needs.Need.{Need}
 use Rattle.clr_needs.specs.declared.needs.VersionId.{VersionId}
-use Rattle.clr_versions.specs.declared.versions.Version.{Version}
-use Rattle.clr_versions.specs.Candidates.{IsNeedServedBy, IsNeedWith}
+use Rattle.clr_row_versions.specs.declared.versions.Version.{Version}
+use Rattle.clr_row_versions.specs.Candidates.{IsNeedServedBy, IsNeedWith}
 use Rattle.clr_needs.specs.Independence.{AreDependent, Involves, Names, NamesIfAny}
 use Rattle.clr_foot.specs.Involvement.{IsInvolving, IsToldInvolving}
-use Rattle.clr_versions.specs.Naming.{names, names_at, names_by}
+use Rattle.clr_row_versions.specs.Naming.{names, names_at, names_by}
 use Rattle.clr_needs.specs.Members.{after_at, setting}
 use Rattle.clr_needs.specs.Needs.{AreServers, IsBesideIfAny, IsPossible, IsPossibleNeed, Lists}
 use Rattle.clr_needs.specs.Orders.{need_cmp}
 use Rattle.clr_needs.specs.Settings.{Setting, Lifetime, Always, With, Without, Lived, changer, version}
-use Rattle.clr_versions.specs.Versions.{IsAt, row_and_life}
+use Rattle.clr_row_versions.specs.Versions.{IsAt, row_and_life}
 use Rattle.clr_needs.proofs.NeedSubjects.{subjects_once}
 use Rattle.clr_needs.proofs.Reading.{all_taken, one_more, read_of}
 use Rattle.clr_needs.proofs.Lives.{named_by_old, new_is, old_is, version_by, version_by_changer}
 use Rattle.clr_needs.proofs.Merges.{IsChanger, changer_is}
-use Rattle.clr_versions.proofs.SharedCells.{key_among}
+use Rattle.clr_row_versions.proofs.SharedCells.{key_among}
 use Rattle.clr_foot.proofs.TouchLaws.{lived_is}
 
 -- ---- lives and names

@@ -30,7 +30,7 @@ use Rattle.clr_needs.proofs.BreakLaws.{broken_by, holds_after, unserved_is_broke
 use Rattle.clr_needs.proofs.NeedOrder.{need_total}
 use Rattle.clr_needs.proofs.Placing.{PlaceOf, after, before, here, place_of}
 use Rattle.clr_needs.proofs.Reading.{all_taken}
-use Rattle.clr_versions.specs.Gains.{IsListedOrPassed}
+use Rattle.clr_row_versions.specs.Gains.{IsListedOrPassed}
 use Rattle.clr_new_pairs.specs.NewPairs.{BreaksAtOnce, Passes, is_unserved, is_unserved_by, is_unserved_under}
 use Rattle.clr_foot.specs.Touches.{ListsTouched}
 use Rattle.clr_foot.proofs.TouchSteps.{changed_is_old}

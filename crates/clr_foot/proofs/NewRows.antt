@@ -17,9 +17,9 @@ use Rattle.clr_finders.specs.Sharing.{Pending, Settled, next_at, next_of, row_sp
 use Rattle.clr_needs.specs.Members.{ChangesCell, after_of, changed_cells, positions}
 use Rattle.clr_needs.specs.Settings.{Lived, first_changer, new_row, new_version}
 use Rattle.clr_foot.specs.NewRows.{AreNewRowsFiled}
-use Rattle.clr_versions.specs.Versions.{new_version_at}
+use Rattle.clr_row_versions.specs.Versions.{new_version_at}
 use Rattle.clr_needs.proofs.Reading.{none_taken, one_more, all_taken}
-use Rattle.clr_versions.proofs.SharedCells.{changed_is_listed}
+use Rattle.clr_row_versions.proofs.SharedCells.{changed_is_listed}
 
 -- ---- cells with a new version are changed
 

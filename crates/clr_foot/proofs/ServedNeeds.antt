@@ -2,12 +2,12 @@
 use Rattle.std.proofs.Common.{◌≡◌, ◌∙◌, ◌<◌, ◌≤◌, ◌+◌, ℕ, List, ◌⊎◌, inl, inr, Some, None, Contains, get_or, length, take, sym, subst}
 use Rattle.clr_rules.specs.declared.rules.Rule.{Rule}
 use Rattle.clr_needs.specs.declared.needs.Need.{Need}
-use Rattle.clr_versions.specs.declared.versions.Version.{Version}
-use Rattle.clr_versions.specs.Candidates.{IsNeedAmong, IsNeedOf}
-use Rattle.clr_versions.specs.Gains.{Gains, GainsSome}
+use Rattle.clr_row_versions.specs.declared.versions.Version.{Version}
+use Rattle.clr_row_versions.specs.Candidates.{IsNeedAmong, IsNeedOf}
+use Rattle.clr_row_versions.specs.Gains.{Gains, GainsSome}
 use Rattle.clr_foot.specs.Touches.{IsNeedServedAmong}
 use Rattle.clr_needs.proofs.Reading.{all_taken, item_in, none_taken, one_more}
-use Rattle.clr_versions.proofs.Gaining.{gains_as, gains_both, gains_none, then_none, then_some}
+use Rattle.clr_row_versions.proofs.Gaining.{gains_as, gains_both, gains_none, then_none, then_some}
 
 module _ (rules : List Rule) (number : ℕ) (r : Version) (near : List Version) where
   abbrev Served : List Version → Need → Type 0

@@ -9,13 +9,13 @@ use Rattle.clr_rules.proofs.AskLemmas.{rule_there}
 use Rattle.clr_rules.proofs.Elements.{among}
 use Rattle.clr_needs.specs.declared.needs.Need.{Need}
 use Rattle.clr_needs.specs.declared.needs.VersionId.{VersionId}
-use Rattle.clr_versions.specs.declared.versions.Version.{Version}
-use Rattle.clr_versions.specs.Candidates.{IsServerAmong}
-use Rattle.clr_versions.specs.Gains.{Gains}
+use Rattle.clr_row_versions.specs.declared.versions.Version.{Version}
+use Rattle.clr_row_versions.specs.Candidates.{IsServerAmong}
+use Rattle.clr_row_versions.specs.Gains.{Gains}
 use Rattle.clr_needs.specs.Needs.{IsBesideIfAny, IsPossible, IsPossibleNeed, IsServing, ask_of, held_if_any}
 use Rattle.clr_needs.specs.Settings.{Setting, Lived, held_row, version}
 use Rattle.clr_foot.specs.Touches.{IsNeighbour, IsServerOf}
-use Rattle.clr_versions.specs.Versions.{AreAt, Finds, HasVersion, IsAtIfAny, IsNamed, IsNamedIfAny, row_and_life, row_of, version_of}
+use Rattle.clr_row_versions.specs.Versions.{AreAt, Finds, HasVersion, IsAtIfAny, IsNamed, IsNamedIfAny, row_and_life, row_of, version_of}
 use Rattle.clr_foot.proofs.SharingLaws.{may_serve_there, near_server, server_near}
 use Rattle.clr_foot.proofs.TouchLaws.{lived_is}
 

@@ -6,9 +6,9 @@ use Rattle.clr_rules.proofs.Elements.{contained}
 use Rattle.clr_needs.proofs.Reading.{all_taken, alone, item_in, none_taken, one_more}
 use Rattle.clr_needs.specs.declared.needs.VersionId.{VersionId}
 use Rattle.clr_needs.specs.Settings.{Setting, Lived, held_row, version}
-use Rattle.clr_versions.specs.declared.versions.Version.{Version}
-use Rattle.clr_versions.specs.Serving.{IsNeverServed}
-use Rattle.clr_versions.specs.Versions.{FindsAll, HasVersion, row_of}
+use Rattle.clr_row_versions.specs.declared.versions.Version.{Version}
+use Rattle.clr_row_versions.specs.Serving.{IsNeverServed}
+use Rattle.clr_row_versions.specs.Versions.{FindsAll, HasVersion, row_of}
 use Rattle.clr_foot.specs.Serving.{MayBeServed}
 use Rattle.clr_foot.specs.Touches.{IsNeighbour}
 use Rattle.clr_foot.proofs.TouchLaws.{lived_is}

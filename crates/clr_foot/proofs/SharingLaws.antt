@@ -33,9 +33,9 @@ use Rattle.clr_finders.proofs.PassingCells.{in_passes, passes_in}
 use Rattle.clr_finders.proofs.SharingLemmas.{found_servers, found_sharing}
 use Rattle.clr_needs.specs.Settings.{Setting}
 use Rattle.clr_foot.specs.Touches.{IsNeighbour, has_subjects_in, is_of_table, may_be_subject}
-use Rattle.clr_versions.specs.Versions.{FitsSetting}
+use Rattle.clr_row_versions.specs.Versions.{FitsSetting}
 use Rattle.clr_rules.proofs.CallLaws.{called_by}
-use Rattle.clr_versions.proofs.AskLaws.{IsRule, served_by}
+use Rattle.clr_row_versions.proofs.AskLaws.{IsRule, served_by}
 
 rule_shares : (rules : List Rule) (number : ℕ) (rule : Rule) (s t : Held) → IsRule rules number rule → has_role_in rule s ≡ true → has_role_in rule t ≡ true
     → share rule s t ≡ true → are_sharing rules number s t ≡ true

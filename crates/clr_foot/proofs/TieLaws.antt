@@ -18,12 +18,12 @@ use Rattle.clr_needs.specs.Needs.{IsBesideIfAny, IsChanged, IsPossible, Lists, a
 use Rattle.clr_needs.specs.Orders.{need_cmp}
 use Rattle.clr_needs.specs.Settings.{Setting, Lived, changer, held_row, version}
 use Rattle.clr_needs.proofs.Lives.{new_is, old_is, version_by, version_by_changer}
-use Rattle.clr_versions.specs.declared.versions.Version.{Version}
-use Rattle.clr_versions.specs.Candidates.{IsNeedAmong, IsNeedOf, IsNeedServedBy, IsNeedWith, may_be_paired}
-use Rattle.clr_versions.specs.Gains.{Gains, OfSome}
-use Rattle.clr_versions.specs.Naming.{names}
-use Rattle.clr_versions.specs.Versions.{Finds, FindsAll, FitsSetting, HasVersion, IsAt, row_and_life, row_of, version_of}
-use Rattle.clr_versions.proofs.Gaining.{gains_as, gains_both, gains_none, gains_one}
+use Rattle.clr_row_versions.specs.declared.versions.Version.{Version}
+use Rattle.clr_row_versions.specs.Candidates.{IsNeedAmong, IsNeedOf, IsNeedServedBy, IsNeedWith, may_be_paired}
+use Rattle.clr_row_versions.specs.Gains.{Gains, OfSome}
+use Rattle.clr_row_versions.specs.Naming.{names}
+use Rattle.clr_row_versions.specs.Versions.{Finds, FindsAll, FitsSetting, HasVersion, IsAt, row_and_life, row_of, version_of}
+use Rattle.clr_row_versions.proofs.Gaining.{gains_as, gains_both, gains_none, gains_one}
 use Rattle.clr_foot.specs.Involvement.{IsInvolving}
 use Rattle.clr_foot.specs.declared.ties.TieKind.{TieKind}
 use Rattle.clr_foot.specs.declared.ties.TieKind.TheVariants.{Any, Touching, Other}

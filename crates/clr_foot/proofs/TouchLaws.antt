@@ -9,16 +9,16 @@ use Rattle.clr_rows.specs.Held.{Held}
 use Rattle.clr_rows.specs.Cells.{cell_cmp}
 use Rattle.clr_needs.specs.declared.needs.Need.{Need}
 use Rattle.clr_needs.specs.declared.needs.VersionId.{VersionId}
-use Rattle.clr_versions.specs.declared.versions.Version.{Version}
-use Rattle.clr_versions.specs.Candidates.{IsNeedAmong, IsNeedBetween, IsNeedOf, IsNeedOfPair, IsNeedServedBy, IsNeedWith, id_of, may_be_paired, serves_if_any}
+use Rattle.clr_row_versions.specs.declared.versions.Version.{Version}
+use Rattle.clr_row_versions.specs.Candidates.{IsNeedAmong, IsNeedBetween, IsNeedOf, IsNeedOfPair, IsNeedServedBy, IsNeedWith, id_of, may_be_paired, serves_if_any}
 use Rattle.clr_needs.specs.Needs.{AreOpposed, IsBeside, IsBesideIfAny, IsPossible, Serves, ask_of, held_if_any}
 use Rattle.clr_needs.specs.Settings.{Setting, Lived, held_row, version}
-use Rattle.clr_versions.specs.Serving.{IsNeverServed}
+use Rattle.clr_row_versions.specs.Serving.{IsNeverServed}
 use Rattle.clr_foot.specs.Serving.{MayBeServed}
 use Rattle.clr_foot.specs.Touches.{IsNeighbour, IsNeedServedAmong, may_be_subject}
-use Rattle.clr_versions.specs.Versions.{AreAt, FindsAll, FitsSetting, HasVersion, IsAt, row_and_life, row_of}
-use Rattle.clr_versions.proofs.CandidateLaws.{they_call}
-use Rattle.clr_versions.proofs.CandidateLaws.{both_paired}
+use Rattle.clr_row_versions.specs.Versions.{AreAt, FindsAll, FitsSetting, HasVersion, IsAt, row_and_life, row_of}
+use Rattle.clr_row_versions.proofs.CandidateLaws.{they_call}
+use Rattle.clr_row_versions.proofs.CandidateLaws.{both_paired}
 use Rattle.clr_foot.proofs.SharingLaws.{is_second_subject, is_subject, may_serve_there, near_all, server_near, server_near_second, subjects_near}
 
 held_named : (t : Option Version) → held_if_any (option_map id_of t) (option_map row_and_life t) ≡ option_map row_of t

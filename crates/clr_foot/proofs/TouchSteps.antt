@@ -16,9 +16,9 @@ use Rattle.clr_rules.proofs.Elements.{Among, among, among_either, contained}
 use Rattle.clr_finders.specs.Sharing.{may_serve_under}
 use Rattle.clr_needs.specs.declared.needs.Need.{Need}
 use Rattle.clr_needs.specs.declared.needs.VersionId.{VersionId}
-use Rattle.clr_versions.specs.declared.versions.Version.{Version}
-use Rattle.clr_versions.specs.Candidates.{IsNeedAmong, IsNeedAt, IsNeedBesideOld, IsNeedOf, IsNeedServedBy, IsNeedWith, may_be_paired}
-use Rattle.clr_versions.specs.Gains.{Gains, GainsSome, IsListedOrPassed, OfSome, Reaches}
+use Rattle.clr_row_versions.specs.declared.versions.Version.{Version}
+use Rattle.clr_row_versions.specs.Candidates.{IsNeedAmong, IsNeedAt, IsNeedBesideOld, IsNeedOf, IsNeedServedBy, IsNeedWith, may_be_paired}
+use Rattle.clr_row_versions.specs.Gains.{Gains, GainsSome, IsListedOrPassed, OfSome, Reaches}
 use Rattle.clr_needs.specs.Broken.{is_living}
 use Rattle.clr_needs.specs.Members.{ChangesCell, changed_cells, setting}
 use Rattle.clr_needs.specs.Needs.{AreTouchedNeeds, IsBeside, IsBesideIfAny, IsChanged, IsTouched, IsTouchedBy, ask_of, held_if_any, is_fresh}
@@ -27,14 +27,14 @@ use Rattle.clr_needs.specs.Settings.{Setting, Lifetime, Always, With, Without, L
 use Rattle.clr_foot.specs.Serving.{MayBeServed}
 use Rattle.clr_new_pairs.specs.NewPairs.{IsNeedOfTwo, Passes}
 use Rattle.clr_foot.specs.Touches.{IsInCells, IsNeighbour, IsNeedOfChanged, IsNeedOfNew, IsNeedServedAmong, IsTouchedOf, ListsTouched}
-use Rattle.clr_versions.specs.Versions.{Finds, FindsAll, FitsSetting, HasVersion, IsAt, row_and_life, row_of, version_of}
-use Rattle.clr_versions.proofs.ChangerSteps.{changed_key}
-use Rattle.clr_versions.proofs.Gaining.{gains_as, gains_both, gains_none, gains_reach, reaches_as, reaches_both, some_as, then_none, then_some}
+use Rattle.clr_row_versions.specs.Versions.{Finds, FindsAll, FitsSetting, HasVersion, IsAt, row_and_life, row_of, version_of}
+use Rattle.clr_row_versions.proofs.ChangerSteps.{changed_key}
+use Rattle.clr_row_versions.proofs.Gaining.{gains_as, gains_both, gains_none, gains_reach, reaches_as, reaches_both, some_as, then_none, then_some}
 use Rattle.clr_needs.proofs.Lives.{new_is, old_is}
 use Rattle.clr_needs.proofs.Merges.{IsChanger, changer_is}
 use Rattle.clr_foot.proofs.NewRows.{brought_is_listed}
 use Rattle.clr_needs.proofs.PositionLaws.{range_has}
-use Rattle.clr_versions.proofs.SharedCells.{changed_is_listed}
+use Rattle.clr_row_versions.proofs.SharedCells.{changed_is_listed}
 use Rattle.clr_foot.proofs.TouchLaws.{alone_of_one, alone_with, among_served, among_with, need_between, not_served, pair_possible, served_found, with_found}
 
 -- ---- changed cells

@@ -12,12 +12,12 @@ use Rattle.clr_rules.specs.declared.rules.Rule.{Rule}
 use Rattle.clr_rules.proofs.Elements.{among, contained}
 use Rattle.clr_finders.specs.declared.row_spots.RuleSpots.{RuleSpots}
 use Rattle.clr_finders.specs.Sharing.{IsSettledFor, Settled, found_cells, row_spots, rule_spots}
-use Rattle.clr_versions.specs.declared.versions.Version.{Version}
+use Rattle.clr_row_versions.specs.declared.versions.Version.{Version}
 use Rattle.clr_needs.specs.declared.needs.VersionId.{VersionId}
 use Rattle.clr_needs.specs.Members.{setting}
 use Rattle.clr_needs.specs.Settings.{Setting, Lived, changer, held_row, version}
 use Rattle.clr_foot.specs.Touches.{IsInCells, IsLookedUpIn, IsNeighbour, is_looked_up}
-use Rattle.clr_versions.specs.Versions.{AreAt, Finds, FindsAll, HasVersion, IsAt, IsNamed, row_and_life, row_of, version_of}
+use Rattle.clr_row_versions.specs.Versions.{AreAt, Finds, FindsAll, HasVersion, IsAt, IsNamed, row_and_life, row_of, version_of}
 use Rattle.clr_foot.specs.NewRows.{AreNewRowsFiled}
 use Rattle.clr_needs.proofs.Reading.{all_taken, none_taken, one_more}
 use Rattle.clr_needs.proofs.Lives.{old_is}

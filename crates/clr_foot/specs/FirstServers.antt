@@ -11,9 +11,9 @@ use Rattle.clr_needs.specs.Settings.{Setting, version}
 use Rattle.clr_needs.specs.Witnesses.{lasts_at}
 use Rattle.clr_foot.specs.declared.first_servers.Sought.{Sought}
 use Rattle.clr_foot.specs.declared.first_servers.Sought.TheVariants.{Living, Lasting}
-use Rattle.clr_versions.specs.declared.versions.Version.{Version}
+use Rattle.clr_row_versions.specs.declared.versions.Version.{Version}
 use Rattle.clr_foot.specs.Touches.{IsServerOf}
-use Rattle.clr_versions.specs.Versions.{version_of}
+use Rattle.clr_row_versions.specs.Versions.{version_of}
 
 -- the version stands after the merge of the one member; or it lives always, or as long as a subject of the need
 abbrev pub is_sought : Sought → Setting ℕ → Need → VersionId → Bool

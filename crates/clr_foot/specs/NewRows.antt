@@ -6,7 +6,7 @@ use Rattle.clr_rows.specs.declared.cells.CellId.{CellId}
 use Rattle.clr_rows.specs.Contents.{Changes}
 use Rattle.clr_rules.specs.declared.rules.Rule.{Rule}
 use Rattle.clr_finders.specs.Sharing.{Settled, row_spots}
-use Rattle.clr_versions.specs.Versions.{new_version_at}
+use Rattle.clr_row_versions.specs.Versions.{new_version_at}
 
 -- the rows that members bring are filed by their spots, and no others
 abbrev pub AreNewRowsFiled : Settled → List Rule → List Changes → Type 0

@@ -8,7 +8,7 @@ use Rattle.clr_foot.specs.declared.scenes.Scene.{Scene}
 use Rattle.clr_needs.specs.Members.{setting}
 use Rattle.clr_needs.specs.Parts.{sets_at}
 use Rattle.clr_needs.specs.Settings.{Setting}
-use Rattle.clr_versions.specs.Versions.{FitsSetting}
+use Rattle.clr_row_versions.specs.Versions.{FitsSetting}
 
 pub record SceneModel (F : Type 0) : Type 0 where
   pub rules : List Rule

@@ -3,7 +3,7 @@ use Rattle.std.specs.Prelude.{ℕ, Bool, true, false, List, Option, Some, slice_
 use Rattle.clr_rules.specs.declared.rules.Rule.TheVariants.{Crossing}
 use Rattle.clr_rows.specs.Held.{Held}
 use Rattle.clr_rules.specs.declared.rules.Rule.{Rule}
-use Rattle.clr_versions.specs.Serving.{IsNeverServed}
+use Rattle.clr_row_versions.specs.Serving.{IsNeverServed}
 use Rattle.clr_foot.specs.Touches.{IsNeighbour}
 
 -- the row is near the server, and may be a subject of a need that it serves

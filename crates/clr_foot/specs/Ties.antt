@@ -8,9 +8,9 @@ use Rattle.clr_needs.specs.declared.needs.VersionId.{VersionId}
 use Rattle.clr_needs.specs.Independence.{Names}
 use Rattle.clr_needs.specs.Needs.{IsChanged, IsTouched}
 use Rattle.clr_needs.specs.Settings.{Setting, Lived, changer, version}
-use Rattle.clr_versions.specs.declared.versions.Version.{Version}
-use Rattle.clr_versions.specs.Candidates.{IsNeedServedBy, IsNeedWith}
-use Rattle.clr_versions.specs.Versions.{AreAt, HasVersion, row_and_life}
+use Rattle.clr_row_versions.specs.declared.versions.Version.{Version}
+use Rattle.clr_row_versions.specs.Candidates.{IsNeedServedBy, IsNeedWith}
+use Rattle.clr_row_versions.specs.Versions.{AreAt, HasVersion, row_and_life}
 use Rattle.clr_foot.specs.declared.ties.TieKind.{TieKind}
 use Rattle.clr_foot.specs.declared.ties.TieKind.TheVariants.{Any, Touching, Other}
 use Rattle.clr_foot.specs.Involvement.{IsInvolving}

@@ -13,15 +13,15 @@ use Rattle.clr_spots.specs.Spots.{are_sharing}
 use Rattle.clr_finders.specs.Sharing.{may_serve_under}
 use Rattle.clr_needs.specs.declared.needs.Need.{Need}
 use Rattle.clr_needs.specs.declared.needs.VersionId.{VersionId}
-use Rattle.clr_versions.specs.declared.versions.Version.{Version}
-use Rattle.clr_versions.specs.Candidates.{IsNeedAmong, IsNeedBesideOld, IsNeedOf, IsNeedServedBy}
-use Rattle.clr_versions.specs.Gains.{IsListedOrPassed}
+use Rattle.clr_row_versions.specs.declared.versions.Version.{Version}
+use Rattle.clr_row_versions.specs.Candidates.{IsNeedAmong, IsNeedBesideOld, IsNeedOf, IsNeedServedBy}
+use Rattle.clr_row_versions.specs.Gains.{IsListedOrPassed}
 use Rattle.clr_new_pairs.specs.NewPairs.{Passes}
 use Rattle.clr_needs.specs.Broken.{is_living}
 use Rattle.clr_needs.specs.Needs.{IsTouched}
 use Rattle.clr_needs.specs.Orders.{need_cmp}
 use Rattle.clr_needs.specs.Settings.{Setting, Lived, held_row, version}
-use Rattle.clr_versions.specs.Versions.{row_and_life, row_of}
+use Rattle.clr_row_versions.specs.Versions.{row_and_life, row_of}
 
 abbrev pub IsInCells : List CellId → Held → Type 0
 IsInCells cells s = Contains cells s.0

@@ -4,14 +4,14 @@ ghost use Rattle.std.specs.Prelude.{◌≡◌, ◌<◌, length};
 ghost use Rattle.std.specs.Option.{option_copied};
 ghost use Rattle.clr_finders.specs.Sharing.{may_serve_under};
 ghost use Rattle.clr_foot.specs.Touches.{is_looked_up, is_of_table, may_be_subject};
-ghost use Rattle.clr_versions.specs.Candidates.{may_be_paired};
-ghost use Rattle.clr_versions.specs.Versions.{row_of};
+ghost use Rattle.clr_row_versions.specs.Candidates.{may_be_paired};
+ghost use Rattle.clr_row_versions.specs.Versions.{row_of};
 
 use crate::scenes::Scene;
 use clr_finders::{RowFinder, may_serve};
+use clr_row_versions::{Version, may_be_paired};
 use clr_rows::{CellId, RowView};
 use clr_rules::Side;
-use clr_versions::{Version, may_be_paired};
 
 /// Returns whether there is a side, and a cell is of its table.
 fn is_of_table(side: Option<&Side>, cell: CellId) -> bool

@@ -11,9 +11,9 @@ use crate::first_servers::Sought;
 use crate::scenes::Scene;
 use clr_finders::RowFinder;
 use clr_needs::Need;
+use clr_row_versions::{RootVersions, broken_of};
 use clr_rows::RowView;
 use clr_rules::Broken;
-use clr_versions::{RootVersions, broken_of};
 use std::alloc::AllocError;
 
 impl<V: RowView, F: RowFinder> Scene<'_, V, F> {

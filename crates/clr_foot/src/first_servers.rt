@@ -9,13 +9,13 @@ ghost use Rattle.clr_needs.specs.Picks.{IsLeastVersion};
 ghost use Rattle.clr_needs.specs.Witnesses.{lasts_at};
 ghost use Rattle.clr_foot.specs.FirstServers.{IsFirstAt, IsFoundCell, IsServerSought, IsServingSought, IsToldServer, is_sought};
 ghost use Rattle.clr_foot.specs.Scenes.{IsReady, model_of, setting_in, setting_of};
-ghost use Rattle.clr_versions.specs.Versions.{FitsSetting, IsAt, IsAtIfAny, row_of};
+ghost use Rattle.clr_row_versions.specs.Versions.{FitsSetting, IsAt, IsAtIfAny, row_of};
 
 use crate::scenes::Scene;
 use clr_finders::{RowFinder, RuleSpots, lesser_cell};
 use clr_needs::{Need, VersionId};
+use clr_row_versions::{RootVersions, Version, is_living};
 use clr_rows::{CellId, RowView};
-use clr_versions::{RootVersions, Version, is_living};
 use std::alloc::AllocError;
 
 /// How many cells are looked at one by one before a search ends. Where so many have no version that

@@ -9,8 +9,8 @@ ghost use Rattle.clr_foot.specs.Scenes.{IsReady, model_of, setting_in, setting_o
 use crate::scenes::Scene;
 use clr_finders::RowFinder;
 use clr_needs::Need;
+use clr_row_versions::RootVersions;
 use clr_rows::RowView;
-use clr_versions::RootVersions;
 use std::alloc::AllocError;
 
 impl<V: RowView, F: RowFinder> Scene<'_, V, F> {

@@ -7,13 +7,13 @@ ghost use Rattle.clr_needs.specs.Settings.{version};
 ghost use Rattle.clr_rows.specs.Held.{Held as OneRow};
 ghost use Rattle.clr_foot.specs.Scenes.{IsReady, model_of, setting_in};
 ghost use Rattle.clr_foot.specs.Touches.{IsInCells, IsLookedUpIn, IsNeighbour, is_looked_up};
-ghost use Rattle.clr_versions.specs.Versions.{Finds, FindsAll, IsAt, IsNamed, row_of};
+ghost use Rattle.clr_row_versions.specs.Versions.{Finds, FindsAll, IsAt, IsNamed, row_of};
 
 use crate::scenes::Scene;
 use clr_finders::{RowFinder, RowSpots, RuleSpots};
 use clr_needs::VersionId;
+use clr_row_versions::Version;
 use clr_rows::{CellId, RowView};
-use clr_versions::Version;
 use std::alloc::AllocError;
 
 impl<V: RowView, F: RowFinder> Scene<'_, V, F> {

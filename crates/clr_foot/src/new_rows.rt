@@ -4,16 +4,16 @@ ghost use Rattle.std.specs.Prelude.{◌≡◌, ◌<◌, length, map, IfOk, OnOk}
 ghost use Rattle.clr_foot.specs.NewRows.{AreNewRowsFiled};
 ghost use Rattle.clr_foot.specs.Scenes.{setting_in};
 ghost use Rattle.clr_new_pairs.specs.NewPairs.{IsNeedOfTwo, Passes};
-ghost use Rattle.clr_versions.specs.Gains.{Reaches};
-ghost use Rattle.clr_versions.specs.Versions.{AreAt, FitNewRows, FitsSetting};
+ghost use Rattle.clr_row_versions.specs.Gains.{Reaches};
+ghost use Rattle.clr_row_versions.specs.Versions.{AreAt, FitNewRows, FitsSetting};
 
 use crate::scenes::Scene;
 use clr_finders::RowFinder;
 use clr_needs::Need;
 use clr_new_pairs::NewPairs;
+use clr_row_versions::{Members, RootVersions, Version};
 use clr_rows::RowView;
 use clr_rules::RuleBook;
-use clr_versions::{Members, RootVersions, Version};
 use std::alloc::{AllocError, Global};
 
 /// Returns the rows that members bring, filed by their spots.

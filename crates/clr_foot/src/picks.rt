@@ -9,8 +9,8 @@ use crate::first_servers::Sought;
 use crate::scenes::Scene;
 use clr_finders::RowFinder;
 use clr_needs::{Need, VersionId};
+use clr_row_versions::RootVersions;
 use clr_rows::RowView;
-use clr_versions::RootVersions;
 use std::alloc::AllocError;
 
 impl<V: RowView, F: RowFinder> Scene<'_, V, F> {

@@ -5,16 +5,16 @@ ghost use Rattle.clr_needs.specs.declared.limits.TheConstants.{MOST_MEMBERS};
 ghost use Rattle.clr_needs.specs.Members.{AreApart, IsSceneFault, lifetime, setting};
 ghost use Rattle.clr_foot.specs.Scenes.{model_of, setting_in, setting_of};
 ghost use Rattle.clr_needs.specs.Settings.{version};
-ghost use Rattle.clr_versions.specs.Versions.{FitsSetting, IsNamed};
+ghost use Rattle.clr_row_versions.specs.Versions.{FitsSetting, IsNamed};
 
 use crate::new_rows::file_new_rows;
 use crate::scenes::Scene;
 use clr_change::ChangeSet;
 use clr_finders::RowFinder;
 use clr_needs::{Life, SceneFault, VersionId};
+use clr_row_versions::{Members, RootVersions, Version};
 use clr_rows::RowView;
 use clr_rules::RuleBook;
-use clr_versions::{Members, RootVersions, Version};
 use std::alloc::Global;
 
 impl<'a, V: RowView, F: RowFinder> Scene<'a, V, F> {

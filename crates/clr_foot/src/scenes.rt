@@ -4,8 +4,8 @@ ghost use Rattle.std.specs.Prelude.{map};
 ghost use Rattle.clr_foot.specs.NewRows.{AreNewRowsFiled};
 
 use clr_finders::RowFinder;
+use clr_row_versions::Members;
 use clr_rules::RuleBook;
-use clr_versions::Members;
 use std::alloc::Global;
 
 /// A root's rows with what each member changes there, and a finder of those rows. A scene copies no

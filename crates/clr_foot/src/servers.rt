@@ -6,15 +6,15 @@ ghost use Rattle.clr_needs.specs.Needs.{AreServers, IsPossibleNeed, IsServing, L
 ghost use Rattle.clr_needs.specs.Orders.{version_cmp};
 ghost use Rattle.clr_foot.specs.Scenes.{IsReady, model_of, setting_in, setting_of};
 ghost use Rattle.clr_foot.specs.Touches.{IsServerOf};
-ghost use Rattle.clr_versions.specs.Versions.{IsAt, IsAtIfAny, IsNamedIfAny, row_of};
+ghost use Rattle.clr_row_versions.specs.Versions.{IsAt, IsAtIfAny, IsNamedIfAny, row_of};
 
 use crate::scenes::Scene;
 use clr_finders::RowFinder;
 use clr_needs::{Need, VersionId};
+use clr_row_versions::{RootVersions, Version};
 use clr_rows::RowView;
 use clr_rules::Ask;
 use clr_spots::put_in_order;
-use clr_versions::{RootVersions, Version};
 use std::alloc::AllocError;
 
 impl<V: RowView, F: RowFinder> Scene<'_, V, F> {

@@ -3,13 +3,13 @@
 ghost use Rattle.std.specs.Prelude.{◌≡◌, ◌<◌, length, IfOk};
 ghost use Rattle.clr_foot.specs.Scenes.{IsReady, model_of, setting_in};
 ghost use Rattle.clr_foot.specs.Serving.{MayBeServed, is_crossing_under};
-ghost use Rattle.clr_versions.specs.Versions.{FindsAll, IsAt, row_of};
+ghost use Rattle.clr_row_versions.specs.Versions.{FindsAll, IsAt, row_of};
 
 use crate::scenes::Scene;
 use clr_finders::RowFinder;
+use clr_row_versions::{RootVersions, Version};
 use clr_rows::RowView;
 use clr_rules::Rule;
-use clr_versions::{RootVersions, Version};
 use std::alloc::AllocError;
 
 impl<V: RowView, F: RowFinder> Scene<'_, V, F> {

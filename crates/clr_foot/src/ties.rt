@@ -10,9 +10,9 @@ ghost use Rattle.clr_needs.specs.Orders.{need_cmp};
 ghost use Rattle.clr_needs.specs.Settings.{changer};
 ghost use Rattle.clr_rows.specs.declared.cells.CellId.{CellId as Cell};
 ghost use Rattle.clr_rows.specs.Held.{Held as OneRow};
-ghost use Rattle.clr_versions.specs.Candidates.{IsNeedWith};
-ghost use Rattle.clr_versions.specs.Gains.{Gains, OfSome};
-ghost use Rattle.clr_versions.specs.Versions.{AreAt, Finds, IsAt};
+ghost use Rattle.clr_row_versions.specs.Candidates.{IsNeedWith};
+ghost use Rattle.clr_row_versions.specs.Gains.{Gains, OfSome};
+ghost use Rattle.clr_row_versions.specs.Versions.{AreAt, Finds, IsAt};
 ghost use Rattle.clr_foot.specs.Involvement.{IsInvolving};
 ghost use Rattle.clr_foot.specs.Scenes.{IsReady, model_of, setting_in, setting_of};
 ghost use Rattle.clr_foot.specs.declared.ties.TieKind.TheVariants.{Other, Touching};
@@ -21,9 +21,9 @@ ghost use Rattle.clr_foot.specs.Ties.{AreTiesOf, AreVersionsOf, FindsTies, IsCha
 use crate::scenes::Scene;
 use clr_finders::{RowFinder, RuleSpots};
 use clr_needs::Need;
+use clr_row_versions::{RootVersions, Version, add_cells, is_named};
 use clr_rows::{CellId, RowView};
 use clr_spots::put_in_order;
-use clr_versions::{RootVersions, Version, add_cells, is_named};
 use std::alloc::AllocError;
 
 /// Which needs of a member's versions are listed: all, those by which the member touches something, or

@@ -2,20 +2,20 @@
 //! and each changed one is tried as a server of versions that share with it.
 
 ghost use Rattle.std.specs.Prelude.{◌≡◌, ◌<◌, false, true, length, IfOk, OnErr, OnOk};
-ghost use Rattle.clr_versions.specs.Candidates.{IsNeedBesideOld, IsNeedServedBy, IsNeedWith};
-ghost use Rattle.clr_versions.specs.Gains.{Gains, GainsSome, OfSome, Reaches};
+ghost use Rattle.clr_row_versions.specs.Candidates.{IsNeedBesideOld, IsNeedServedBy, IsNeedWith};
+ghost use Rattle.clr_row_versions.specs.Gains.{Gains, GainsSome, OfSome, Reaches};
 ghost use Rattle.clr_new_pairs.specs.NewPairs.{Passes};
 ghost use Rattle.clr_needs.specs.Needs.{AreTouchedNeeds, IsTouched};
 ghost use Rattle.clr_foot.specs.Scenes.{IsReady, model_of, setting_in, setting_of};
 ghost use Rattle.clr_foot.specs.Touches.{IsInCells, IsNeedOfChanged, IsNeedOfNew, IsNeedServedAmong, IsTouchedOf, ListsTouched};
-ghost use Rattle.clr_versions.specs.Versions.{AreAt, Finds, FitsSetting, IsAt};
+ghost use Rattle.clr_row_versions.specs.Versions.{AreAt, Finds, FitsSetting, IsAt};
 
 use crate::scenes::Scene;
 use clr_finders::RowFinder;
 use clr_needs::Need;
+use clr_row_versions::{RootVersions, Version, is_living};
 use clr_rows::RowView;
 use clr_spots::put_in_order;
-use clr_versions::{RootVersions, Version, is_living};
 use std::alloc::AllocError;
 
 impl<V: RowView, F: RowFinder> Scene<'_, V, F> {
@@ -111,7 +111,7 @@ impl<V: RowView, F: RowFinder> Scene<'_, V, F> {
 
     /// Adds the possible needs that a version serves. If memory runs out, the list keeps what stood
     /// in it, and besides that it has only some of these needs.
-    #[tactic(auto, using(clr_versions::proofs::Gaining::none_gained))]
+    #[tactic(auto, using(clr_row_versions::proofs::Gaining::none_gained))]
     pub(crate) fn add_served_by(
         &self,
         rule: u16,

@@ -10,7 +10,7 @@ use Rattle.clr_finders.specs.Sharing.{Settled}
 use Rattle.clr_needs.specs.declared.limits.TheConstants.{MOST_MEMBERS}
 use Rattle.clr_needs.specs.Members.{AreApart}
 use Rattle.clr_foot.specs.Scenes.{model_at, IsReady, SceneModel, setting_of}
-use Rattle.clr_versions.specs.Versions.{FitsSetting}
+use Rattle.clr_row_versions.specs.Versions.{FitsSetting}
 use Rattle.clr_needs.proofs.BlockerLaws.{member_below}
 use Rattle.clr_needs.proofs.Reading.{item_in}
 use Rattle.clr_needs.proofs.PartLaws.{IsPart, up}

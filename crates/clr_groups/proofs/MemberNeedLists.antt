@@ -14,9 +14,9 @@ use Rattle.clr_needs.specs.Orders.{need_cmp}
 use Rattle.clr_needs.specs.Settings.{Setting, Lived, changer, version}
 use Rattle.clr_needs.proofs.Lives.{names_changer, new_is, old_is, version_by, version_by_changer}
 use Rattle.clr_needs.proofs.NeedOrder.{both_tie, need_exact}
-use Rattle.clr_versions.specs.Candidates.{IsSubject}
-use Rattle.clr_versions.specs.Gains.{Gains, OfSome}
-use Rattle.clr_versions.proofs.Gaining.{gains_as, gains_both, gains_none, gains_one}
+use Rattle.clr_row_versions.specs.Candidates.{IsSubject}
+use Rattle.clr_row_versions.specs.Gains.{Gains, OfSome}
+use Rattle.clr_row_versions.proofs.Gaining.{gains_as, gains_both, gains_none, gains_one}
 use Rattle.clr_foot.specs.Involvement.{IsInvolving}
 use Rattle.clr_foot.specs.declared.ties.TieKind.TheVariants.{Touching, Other}
 use Rattle.clr_foot.specs.Ties.{FindsTies}

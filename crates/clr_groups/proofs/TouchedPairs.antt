@@ -9,7 +9,7 @@ use Rattle.std.proofs.lemmas.Map.Lookups.{exact_unsigned}
 use Rattle.clr_rows.specs.Contents.{Changes, Content}
 use Rattle.clr_rules.specs.declared.rules.Rule.{Rule}
 use Rattle.clr_rules.proofs.Elements.{among}
-use Rattle.clr_versions.specs.Gains.{Gains, OfSome}
+use Rattle.clr_row_versions.specs.Gains.{Gains, OfSome}
 use Rattle.clr_needs.specs.Members.{AreApart, setting}
 use Rattle.clr_needs.specs.Needs.{IsTouched, Lists}
 use Rattle.clr_needs.specs.Orders.{need_cmp}
@@ -17,7 +17,7 @@ use Rattle.clr_needs.specs.Parts.{setting_at}
 use Rattle.clr_needs.specs.Settings.{Setting}
 use Rattle.clr_needs.proofs.Reading.{read_in}
 use Rattle.clr_needs.proofs.NeedOrder.{both_tie, need_exact}
-use Rattle.clr_versions.proofs.Gaining.{gains_as, gains_none, gains_one, of_all, of_one_more}
+use Rattle.clr_row_versions.proofs.Gaining.{gains_as, gains_none, gains_one, of_all, of_one_more}
 use Rattle.clr_groups.specs.Groups.{AreGroups}
 use Rattle.clr_groups.specs.GroupNeeds.{IsOfPlace, IsPlaceOf, IsTouchedAt, group_need_cmp}
 use Rattle.clr_groups.specs.Laws.{SplitNeeds}

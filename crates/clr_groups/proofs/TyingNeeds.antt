@@ -17,8 +17,8 @@ use Rattle.clr_needs.specs.Settings.{Setting, Lifetime, Always, With, Without, L
 use Rattle.clr_needs.proofs.BlockerLaws.{member_below}
 use Rattle.clr_needs.proofs.Lives.{names_member, new_is, old_is, version_by, version_by_changer}
 use Rattle.clr_needs.proofs.NeedSubjects.{involved_member}
-use Rattle.clr_versions.specs.Candidates.{IsSubject}
-use Rattle.clr_versions.specs.Gains.{Gains}
+use Rattle.clr_row_versions.specs.Candidates.{IsSubject}
+use Rattle.clr_row_versions.specs.Gains.{Gains}
 use Rattle.clr_foot.specs.Involvement.{IsInvolving}
 use Rattle.clr_foot.specs.declared.ties.TieKind.{TieKind}
 use Rattle.clr_foot.specs.declared.ties.TieKind.TheVariants.{Touching, Other}

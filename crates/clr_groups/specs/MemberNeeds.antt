@@ -13,7 +13,7 @@ use Rattle.clr_needs.specs.Independence.{Names}
 use Rattle.clr_needs.specs.Needs.{IsTouched}
 use Rattle.clr_needs.specs.Orders.{need_cmp}
 use Rattle.clr_needs.specs.Settings.{Setting, Lived, changer, version}
-use Rattle.clr_versions.specs.Candidates.{IsSubject}
+use Rattle.clr_row_versions.specs.Candidates.{IsSubject}
 use Rattle.clr_groups.specs.declared.member_needs.MemberNeed.{MemberNeed}
 
 -- pairs of a need and a member are ordered by need, then by member, then by whether the member touches the need

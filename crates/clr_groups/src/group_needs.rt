@@ -3,7 +3,7 @@
 ghost use Rattle.std.specs.Prelude.{◌≡◌, ◌<◌, ◌≤◌, ℕ, List, map, length, get_or, slice_get, Contains, IfOk, OnOk};
 ghost use Rattle.std.specs.List.Sorted.{IsStrictlySortedBy};
 ghost use Rattle.std.specs.Ordering.{nat_cmp};
-ghost use Rattle.clr_versions.specs.Gains.{Gains, OfSome};
+ghost use Rattle.clr_row_versions.specs.Gains.{Gains, OfSome};
 ghost use Rattle.clr_needs.specs.declared.limits.TheConstants.{MOST_MEMBERS};
 ghost use Rattle.clr_needs.specs.Members.{AreApart};
 ghost use Rattle.clr_needs.specs.Needs.{Lists};

@@ -2,7 +2,7 @@
 //! involve, and with whether the member touches the need.
 
 ghost use Rattle.std.specs.Prelude.{◌<◌, length, Contains, IfOk, OnOk};
-ghost use Rattle.clr_versions.specs.Gains.{Gains, OfSome};
+ghost use Rattle.clr_row_versions.specs.Gains.{Gains, OfSome};
 ghost use Rattle.clr_needs.specs.Needs.{IsTouched};
 ghost use Rattle.clr_needs.specs.declared.needs.Need.{Need as OneNeed};
 ghost use Rattle.clr_foot.specs.Scenes.{IsReady, model_of, setting_in};

@@ -2,7 +2,7 @@
 use Rattle.std.proofs.Common.{◌≡◌, ◌∙◌, ℕ, suc, ◌+◌, ◌<◌, Bool, true, false, cond, not, ◌&&◌, ◌||◌, List, [], ◌∷◌}
 use Rattle.std.proofs.Common.{drop, filter, length, get_or, refl, ap, arith}
 use Rattle.std.proofs.Math.Seq.{drop-cons}
-use Rattle.clr_places.specs.Places.{is_line_end}
+use Rattle.clr_text_positions.specs.Places.{is_line_end}
 use Rattle.clr_hints.specs.BlankLines.{is_carriage_return, repeats_line_end}
 
 abbrev without_returns : List ℕ → List ℕ

@@ -3,7 +3,7 @@ use Rattle.std.proofs.Common.{◌≡◌, ◌∙◌, ℕ, zero, suc, ◌+◌, ◌
 use Rattle.std.proofs.Common.{Option, Some, None, append-nil, refl, sym, ap, arith}
 use Rattle.std.specs.List.{last_or}
 use Rattle.std.proofs.lemmas.List.Elements.{filter_more}
-use Rattle.clr_places.specs.Places.{next_line_length}
+use Rattle.clr_text_positions.specs.Places.{next_line_length}
 use Rattle.clr_hints.specs.JsonFaults.{behind_line_ends, is_space, last_byte}
 
 nothing_behind : (count : ℕ) → behind_line_ends count [] ≡ []

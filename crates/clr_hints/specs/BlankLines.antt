@@ -1,6 +1,6 @@
 -- Blank lines of a text, which are no records.
 use Rattle.std.specs.Prelude.{ℕ, ◌==◌, Bool, false, not, ◌&&◌, ◌||◌, List, [], ◌∷◌, filter, Option, Some, None, codes, if◌then◌else◌}
-use Rattle.clr_places.specs.Places.{is_line_end}
+use Rattle.clr_text_positions.specs.Places.{is_line_end}
 
 abbrev pub is_carriage_return : ℕ → Bool
 is_carriage_return byte = byte == 13

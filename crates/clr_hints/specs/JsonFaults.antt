@@ -3,7 +3,7 @@ use Rattle.std.specs.Prelude.{◌≡◌, ℕ, zero, suc, ◌+◌, ◌-◌, ◌==
 use Rattle.std.specs.Prelude.{List, length, take, drop, filter, Option, Some, None, slice_get, codes, if◌then◌else◌}
 use Rattle.std.specs.List.{last_or}
 use Rattle.std.specs.Option.{option_map}
-use Rattle.clr_places.specs.Places.{next_line_length}
+use Rattle.clr_text_positions.specs.Places.{next_line_length}
 use Rattle.clr_hints.specs.declared.json_faults.JsonFault.{JsonFault}
 use Rattle.clr_hints.specs.Encodings.{IsEncodingFault, has_mark}
 use Rattle.clr_hints.specs.QuotedTexts.{quoted_fault_from, quoted_hint, quoted_sentence}

@@ -1,7 +1,7 @@
 //! Blank lines among the records of a text.
 
 ghost use Rattle.std.specs.Prelude.{◌≡◌, ◌&&◌, not, option_map, string_bytes, IfOk};
-ghost use Rattle.clr_places.specs.Places.{is_line_end};
+ghost use Rattle.clr_text_positions.specs.Places.{is_line_end};
 ghost use Rattle.clr_hints.specs.BlankLines.{blank_lines_hint, is_carriage_return};
 
 use std::alloc::{AllocError, Global};

@@ -1,12 +1,12 @@
 //! Where a text stops being JSON, and why.
 ghost use Rattle.std.specs.Prelude.{◌≡◌, ◌+◌, ◌<◌, ◌≤◌, drop, length, IfSome};
-ghost use Rattle.clr_places.specs.Places.{next_line_length};
+ghost use Rattle.clr_text_positions.specs.Places.{next_line_length};
 ghost use Rattle.clr_hints.specs.JsonFaults.{IsJsonFault, behind_line_ends, is_space, last_byte, may_begin_quoted, offset_at, quoted_fault_at, sentence_at};
 ghost use Rattle.clr_hints.specs.JsonFaults.{sentence_of, told, told_at};
 
 use crate::encodings::{encoding_fault, has_byte_order_mark};
 use crate::quoted_texts::{QuotedFault, quoted_fault, quoted_hint, quoted_sentence};
-use clr_places::{first_line_end, first_line_length};
+use clr_text_positions::{first_line_end, first_line_length};
 
 /// Where a text stops being JSON: the offset of the byte, a sentence, and a hint where one helps.
 #[derive(Drop)]

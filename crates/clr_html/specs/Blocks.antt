@@ -4,7 +4,7 @@ use Rattle.clr_html.specs.declared.blocks.Block.{Block}
 use Rattle.clr_html.specs.declared.blocks.Block.TheVariants as block
 use Rattle.clr_html.specs.declared.blocks.Tone.{Tone}
 use Rattle.clr_html.specs.declared.blocks.Tone.TheVariants.{Good, Bad, Neither}
-use Rattle.clr_html.specs.declared.texts.Text.{Text}
+use Rattle.clr_html.specs.declared.texts.InlineText.{InlineText}
 use Rattle.clr_html.specs.Tables.{fold_text, framed_text, framed_texts, table_text}
 use Rattle.clr_html.specs.Texts.{between}
 
@@ -16,7 +16,7 @@ tone_mark Neither = codes "<h1><b>"
 abbrev pub html_verdict_text : Tone → List ℕ → List ℕ → List ℕ
 html_verdict_text tone word about = between (tone_mark tone) word (codes "</b>") ++ between (codes " <small>") about (codes "</small></h1>\n")
 
-abbrev pub points_text : List Text → List ℕ
+abbrev pub points_text : List InlineText → List ℕ
 points_text points = codes "<ul>\n" ++ framed_texts (codes "<li>") (codes "</li>\n") points ++ codes "</ul>\n"
 
 abbrev pub folded_lines_text : List ℕ → List ℕ → List ℕ

@@ -2,18 +2,18 @@
 use Rattle.std.specs.Prelude.{ℕ, Bool, true, false, List, map}
 use Rattle.clr_html.specs.declared.blocks.Block.{Block}
 use Rattle.clr_html.specs.declared.blocks.Block.TheVariants as block
-use Rattle.clr_html.specs.declared.tables.Row.{Row}
-use Rattle.clr_html.specs.declared.texts.Text.{Text}
-use Rattle.clr_html.specs.declared.texts.Text.TheVariants.{Plain, Strong, Soft, Named}
+use Rattle.clr_html.specs.declared.tables.TableRow.{TableRow}
+use Rattle.clr_html.specs.declared.texts.InlineText.{InlineText}
+use Rattle.clr_html.specs.declared.texts.InlineText.TheVariants.{Plain, Strong, Soft, Named}
 
-abbrev pub words_of_text : Text → List ℕ
+abbrev pub words_of_text : InlineText → List ℕ
 words_of_text (Plain words) = words.items
 words_of_text (Strong words) = words.items
 words_of_text (Soft words) = words.items
 words_of_text (Named colour words) = words.items
 
 -- the words of each cell
-abbrev pub words_of_row : Row → List (List ℕ)
+abbrev pub words_of_row : TableRow → List (List ℕ)
 words_of_row row = map words_of_text row.cells.items
 
 -- each text of a block is escaped; only a picture goes out as it is

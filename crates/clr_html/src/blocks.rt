@@ -4,7 +4,7 @@ ghost use Rattle.std.specs.Prelude.{◌≡◌, ◌++◌, codes, OnOk};
 ghost use Rattle.clr_html.specs.Blocks.{block_text, folded_lines_text, html_verdict_text, points_text, tone_mark};
 
 use crate::tables::{Fold, Table, add_each_framed, add_fold, add_framed, add_table};
-use crate::texts::{Text, add_between};
+use crate::texts::{InlineText, add_between};
 use std::alloc::AllocError;
 
 /// Whether a verdict is welcome.
@@ -25,9 +25,9 @@ pub enum Block {
         about: Vec<u8>,
     },
     Heading(Vec<u8>),
-    Paragraph(Text),
+    Paragraph(InlineText),
     /// Points of a list.
-    Points(Vec<Text>),
+    Points(Vec<InlineText>),
     Table(Table),
     /// A table that is folded.
     Fold(Fold),
@@ -59,7 +59,7 @@ fn add_verdict(page: &mut Vec<u8>, tone: Tone, word: &[u8], about: &[u8]) -> Res
     add_between(page, " <small>", about, "</small></h1>\n")
 }
 
-fn add_points(page: &mut Vec<u8>, points: &[Text]) -> Result<(), AllocError>
+fn add_points(page: &mut Vec<u8>, points: &[InlineText]) -> Result<(), AllocError>
     ensures { OnOk result (page.new.items ≡ page.old.items ++ points_text points.now) }
 {
     page.extend_from_slice(b"<ul>\n")?;

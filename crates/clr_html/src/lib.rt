@@ -13,7 +13,7 @@ mod texts;
 
 pub use blocks::{Block, Tone};
 pub use marks::marks_of_pages;
-pub use pages::{Page, Section, write_page};
+pub use pages::{HtmlPage, Section, write_page};
 pub use styles::frame_of_pages;
-pub use tables::{Fold, Row, Table};
-pub use texts::Text;
+pub use tables::{Fold, Table, TableRow};
+pub use texts::InlineText;

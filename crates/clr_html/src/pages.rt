@@ -17,7 +17,7 @@ pub struct Section {
 
 /// A page: its title in UTF-8, and its sections.
 #[derive(Drop)]
-pub struct Page {
+pub struct HtmlPage {
     pub title: Vec<u8>,
     pub sections: Vec<Section>,
 }
@@ -53,7 +53,7 @@ fn add_sections(page: &mut Vec<u8>, sections: &[Section]) -> Result<(), AllocErr
 /// Returns the text of a page, which is HTML in UTF-8: one file that loads nothing and runs no script. Each text is escaped, and a
 /// picture goes out as it is.
 #[tactic(auto, unfolding(crate::specs::Pages::html_page_text))]
-pub fn write_page(alloc: Global, page: &Page) -> Result<Vec<u8>, AllocError>
+pub fn write_page(alloc: Global, page: &HtmlPage) -> Result<Vec<u8>, AllocError>
     ensures written { IfOk result (λ text. text.items ≡ html_page_text page.now) }
 {
     let mut text = Vec::new(alloc);

@@ -5,26 +5,26 @@ ghost use Rattle.std.specs.List.{flat_map};
 ghost use Rattle.clr_html.specs.Tables.{fold_text, framed_text, framed_texts, heads_text, html_rows_text, row_text, summary_text, table_text};
 
 use crate::marks::{END_OF_HEADS, END_OF_TABLE, HEADS};
-use crate::texts::{Text, add_between, add_text};
+use crate::texts::{InlineText, add_between, add_text};
 use std::alloc::AllocError;
 
 /// The cells of a row, in the order of the table's columns.
 #[derive(Drop)]
-pub struct Row {
-    pub cells: Vec<Text>,
+pub struct TableRow {
+    pub cells: Vec<InlineText>,
 }
 
 /// A table: the heads of its columns, and its rows.
 #[derive(Drop)]
 pub struct Table {
-    pub heads: Vec<Text>,
-    pub rows: Vec<Row>,
+    pub heads: Vec<InlineText>,
+    pub rows: Vec<TableRow>,
 }
 
 /// A table that is folded: what is seen of it until it is unfolded is a name and a few words.
 #[derive(Drop)]
 pub struct Fold {
-    pub name: Text,
+    pub name: InlineText,
     pub words: Vec<u8>,
     pub table: Table,
 }
@@ -34,7 +34,7 @@ pub struct Fold {
 pub(crate) fn add_framed(
     page: &mut Vec<u8>,
     begin: &str,
-    text: &Text,
+    text: &InlineText,
     end: &str,
 ) -> Result<(), AllocError>
     ensures { OnOk result (page.new.items ≡ page.old.items ++ framed_text begin.now end.now text.now) }
@@ -49,7 +49,7 @@ pub(crate) fn add_framed(
 pub(crate) fn add_each_framed(
     page: &mut Vec<u8>,
     begin: &str,
-    texts: &[Text],
+    texts: &[InlineText],
     end: &str,
 ) -> Result<(), AllocError>
     ensures { OnOk result (page.new.items ≡ page.old.items ++ framed_texts begin.now end.now texts.now) }
@@ -60,7 +60,7 @@ pub(crate) fn add_each_framed(
     Ok(())
 }
 
-fn add_row(page: &mut Vec<u8>, row: &Row) -> Result<(), AllocError>
+fn add_row(page: &mut Vec<u8>, row: &TableRow) -> Result<(), AllocError>
     ensures { OnOk result (page.new.items ≡ page.old.items ++ row_text row.now) }
 {
     page.extend_from_slice(b"<tr>")?;
@@ -69,7 +69,7 @@ fn add_row(page: &mut Vec<u8>, row: &Row) -> Result<(), AllocError>
 }
 
 #[tactic(auto, unfolding(crate::specs::Tables::html_rows_text))]
-fn add_rows(page: &mut Vec<u8>, rows: &[Row]) -> Result<(), AllocError>
+fn add_rows(page: &mut Vec<u8>, rows: &[TableRow]) -> Result<(), AllocError>
     ensures { OnOk result (page.new.items ≡ page.old.items ++ html_rows_text rows.now) }
 {
     for row in rows {
@@ -78,7 +78,7 @@ fn add_rows(page: &mut Vec<u8>, rows: &[Row]) -> Result<(), AllocError>
     Ok(())
 }
 
-fn add_heads(page: &mut Vec<u8>, heads: &[Text]) -> Result<(), AllocError>
+fn add_heads(page: &mut Vec<u8>, heads: &[InlineText]) -> Result<(), AllocError>
     ensures { OnOk result (page.new.items ≡ page.old.items ++ heads_text heads.now) }
 {
     page.extend_from_slice(HEADS.as_bytes())?;

@@ -8,7 +8,7 @@ use std::alloc::AllocError;
 
 /// A text in UTF-8, and how it looks.
 #[derive(Drop)]
-pub enum Text {
+pub enum InlineText {
     Plain(Vec<u8>),
     /// In bold letters.
     Strong(Vec<u8>),
@@ -42,13 +42,13 @@ fn add_named(page: &mut Vec<u8>, colour: Colour, words: &[u8]) -> Result<(), All
 }
 
 /// Adds a text.
-pub(crate) fn add_text(page: &mut Vec<u8>, text: &Text) -> Result<(), AllocError>
+pub(crate) fn add_text(page: &mut Vec<u8>, text: &InlineText) -> Result<(), AllocError>
     ensures { OnOk result (page.new.items ≡ page.old.items ++ text_text text.now) }
 {
     match text {
-        Text::Plain(words) => add_escaped(page, words.as_slice()),
-        Text::Strong(words) => add_between(page, "<b>", words.as_slice(), "</b>"),
-        Text::Soft(words) => add_between(page, "<small>", words.as_slice(), "</small>"),
-        Text::Named(colour, words) => add_named(page, *colour, words.as_slice()),
+        InlineText::Plain(words) => add_escaped(page, words.as_slice()),
+        InlineText::Strong(words) => add_between(page, "<b>", words.as_slice(), "</b>"),
+        InlineText::Soft(words) => add_between(page, "<small>", words.as_slice(), "</small>"),
+        InlineText::Named(colour, words) => add_named(page, *colour, words.as_slice()),
     }
 }

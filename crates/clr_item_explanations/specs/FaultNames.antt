@@ -4,8 +4,8 @@ use Rattle.clr_rows.specs.declared.faults.SchemaFault.{SchemaFault}
 use Rattle.clr_rows.specs.declared.faults.SchemaFault.TheVariants as unfit
 use Rattle.clr_rules.specs.declared.books.faults.RuleFault.{RuleFault}
 use Rattle.clr_rules.specs.declared.books.faults.RuleFault.TheVariants as unruly
-use Rattle.clr_parts.specs.declared.parts.PartFault.{PartFault}
-use Rattle.clr_parts.specs.declared.parts.PartFault.TheVariants as unfit_part
+use Rattle.clr_workspace_parts.specs.declared.parts.PartFault.{PartFault}
+use Rattle.clr_workspace_parts.specs.declared.parts.PartFault.TheVariants as unfit_part
 
 abbrev pub rule_fault_name : RuleFault → List ℕ
 rule_fault_name unruly.NoTable = codes "NoTable"

@@ -2,7 +2,7 @@
 
 use crate::slips::Slip;
 use clr_hints::{metres_hint, name_hint, shorten_value};
-use clr_places::{Key, Step};
+use clr_text_positions::{Key, PathStep};
 use serde_json::Value as Json;
 use std::alloc::{AllocError, Global};
 
@@ -110,7 +110,7 @@ pub fn explain_field(
     let word = key.as_str();
     match json.get(word) {
         Some(value) => match explain_value(alloc, value, wanted)? {
-            Some(slip) => Ok(Some(slip.below(alloc, &[Step::Key(key)])?)),
+            Some(slip) => Ok(Some(slip.below(alloc, &[PathStep::Key(key)])?)),
             None => Ok(None),
         },
         None if wanted.is_optional() => Ok(None),
@@ -164,7 +164,7 @@ pub fn explain_word_at(
 ) -> Result<Option<Slip>, AllocError> {
     match json.get(key.as_str()) {
         Some(value) => match explain_word(alloc, value, words)? {
-            Some(slip) => Ok(Some(slip.below(alloc, &[Step::Key(key)])?)),
+            Some(slip) => Ok(Some(slip.below(alloc, &[PathStep::Key(key)])?)),
             None => Ok(None),
         },
         None => explain_field(alloc, json, key, Wanted::Text),

@@ -10,10 +10,10 @@ use clr_hints::{
     column_names, join_names, kind_of, name_hint, shorten_value, table_names, table_of,
 };
 use clr_lines::row_fault_word;
-use clr_places::{Key, Step};
 use clr_rows::{
     GREATEST_COORDINATE, GREATEST_KEY, Kind, MOST_TEXT_BYTES, RowFault, Schema, TableDef,
 };
+use clr_text_positions::{Key, PathStep};
 use serde_json::Value as Json;
 use std::alloc::{AllocError, Global};
 
@@ -41,7 +41,7 @@ fn wrong_count(alloc: Global, json: &Json, table: &TableDef) -> Result<Slip, All
     } else {
         format!(in alloc; "{count} values; the columns of table {name} are {names}")?
     };
-    Slip::new(alloc, &[Step::Key(Key::V)], sentence)
+    Slip::new(alloc, &[PathStep::Key(Key::V)], sentence)
 }
 
 /// Returns the slip that a value is of another kind than its column.
@@ -55,12 +55,12 @@ fn wrong_kind(alloc: Global, json: &Json, table: &TableDef) -> Result<Slip, Allo
             let wanted = kind_word(kind);
             let is = kind_of(value);
             let sentence = format!(in alloc; "column {name} is {wanted}, and {text} is {is}")?;
-            return Slip::new(alloc, &[Step::Key(Key::V), Step::At(at)], sentence);
+            return Slip::new(alloc, &[PathStep::Key(Key::V), PathStep::At(at)], sentence);
         }
     }
     Slip::of_words(
         alloc,
-        &[Step::Key(Key::V)],
+        &[PathStep::Key(Key::V)],
         "a value is of another kind than its column",
     )
 }
@@ -73,10 +73,10 @@ fn words_too_long(alloc: Global, json: &Json) -> Result<Slip, AllocError> {
             let sentence = format!(in alloc;
                 "a text of {bytes} bytes; at most {MOST_TEXT_BYTES} may stand here"
             )?;
-            return Slip::new(alloc, &[Step::Key(Key::V), Step::At(at)], sentence);
+            return Slip::new(alloc, &[PathStep::Key(Key::V), PathStep::At(at)], sentence);
         }
     }
-    Slip::of_words(alloc, &[Step::Key(Key::V)], "a text is too long")
+    Slip::of_words(alloc, &[PathStep::Key(Key::V)], "a text is too long")
 }
 
 /// Returns the slip that the shape isn't the table's.
@@ -85,7 +85,7 @@ fn wrong_shape(alloc: Global, json: &Json, table: &TableDef) -> Result<Slip, All
     let wanted = coordinates_of(Some(table.shape));
     let name = table.name.as_str();
     let sentence = format!(in alloc; "{count} coordinates in table {name}; {wanted}")?;
-    Slip::new(alloc, &[Step::Key(Key::S)], sentence)
+    Slip::new(alloc, &[PathStep::Key(Key::S)], sentence)
 }
 
 /// Returns the key of a cell, where it is beyond its limits.
@@ -102,7 +102,7 @@ fn far_key(json: &Json) -> Option<i64> {
 fn out_of_range(alloc: Global, json: &Json) -> Result<Slip, AllocError> {
     if let Some(key) = far_key(json) {
         let sentence = format!(in alloc; "the key {key} isn't from 1 to {GREATEST_KEY}")?;
-        return Slip::new(alloc, &[Step::Key(Key::K)], sentence);
+        return Slip::new(alloc, &[PathStep::Key(Key::K)], sentence);
     }
     for (at, value) in items_at(json, Key::S).iter().enumerate() {
         let number = value.as_i64().unwrap_or(0);
@@ -110,7 +110,7 @@ fn out_of_range(alloc: Global, json: &Json) -> Result<Slip, AllocError> {
             let sentence = format!(in alloc;
                 "the coordinate {number} is beyond {GREATEST_COORDINATE} millimetres"
             )?;
-            return Slip::new(alloc, &[Step::Key(Key::S), Step::At(at)], sentence);
+            return Slip::new(alloc, &[PathStep::Key(Key::S), PathStep::At(at)], sentence);
         }
     }
     Slip::of_words(alloc, &[], "the key or a coordinate is out of range")
@@ -122,7 +122,7 @@ fn no_table(alloc: Global, json: &Json, schema: &Schema) -> Result<Slip, AllocEr
     let names = table_names(alloc, schema)?;
     let sentence = format!(in alloc; "no table is called '{name}'")?;
     let hint = name_hint(alloc, name, names.as_slice())?;
-    Ok(Slip::new(alloc, &[Step::Key(Key::T)], sentence)?.with_hint(hint))
+    Ok(Slip::new(alloc, &[PathStep::Key(Key::T)], sentence)?.with_hint(hint))
 }
 
 /// Returns why a row can't stand in its table.
@@ -140,11 +140,15 @@ fn of_fault(
         RowFault::NoTable | RowFault::OutOfRange => out_of_range(alloc, json),
         RowFault::ZeroSegment => Slip::of_words(
             alloc,
-            &[Step::Key(Key::S)],
+            &[PathStep::Key(Key::S)],
             "two vertices that follow one another are one place",
         ),
         RowFault::BadPath => {
-            Slip::of_words(alloc, &[Step::Key(Key::S)], "a path has 2 to 32 vertices")
+            Slip::of_words(
+                alloc,
+                &[PathStep::Key(Key::S)],
+                "a path has 2 to 32 vertices",
+            )
         }
     }
 }

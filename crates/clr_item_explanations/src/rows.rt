@@ -3,8 +3,8 @@
 use crate::fields::{Wanted, explain_coordinate, explain_fields, explain_value, items_at, text_at};
 use crate::slips::Slip;
 use clr_hints::table_of;
-use clr_places::{Key, Step};
 use clr_rows::{Form, Schema};
+use clr_text_positions::{Key, PathStep};
 use serde_json::Value as Json;
 use std::alloc::{AllocError, Global};
 
@@ -32,7 +32,7 @@ fn form_at(schema: &Schema, json: &Json) -> Option<Form> {
 fn explain_values(alloc: Global, json: &Json) -> Result<Option<Slip>, AllocError> {
     for (at, value) in items_at(json, Key::V).iter().enumerate() {
         if let Some(slip) = explain_value(alloc, value, Wanted::Value)? {
-            return Ok(Some(slip.below(alloc, &[Step::Key(Key::V), Step::At(at)])?));
+            return Ok(Some(slip.below(alloc, &[PathStep::Key(Key::V), PathStep::At(at)])?));
         }
     }
     Ok(None)
@@ -42,7 +42,7 @@ fn explain_values(alloc: Global, json: &Json) -> Result<Option<Slip>, AllocError
 fn explain_coordinates(alloc: Global, json: &Json) -> Result<Option<Slip>, AllocError> {
     for (at, value) in items_at(json, Key::S).iter().enumerate() {
         if let Some(slip) = explain_coordinate(alloc, value)? {
-            return Ok(Some(slip.below(alloc, &[Step::Key(Key::S), Step::At(at)])?));
+            return Ok(Some(slip.below(alloc, &[PathStep::Key(Key::S), PathStep::At(at)])?));
         }
     }
     Ok(None)
@@ -71,7 +71,7 @@ fn explain_count(
     }
     let wanted = coordinates_of(form);
     let sentence = format!(in alloc; "{count} coordinates; {wanted}")?;
-    Ok(Some(Slip::new(alloc, &[Step::Key(Key::S)], sentence)?))
+    Ok(Some(Slip::new(alloc, &[PathStep::Key(Key::S)], sentence)?))
 }
 
 /// Returns what is wrong with the values and the shape of a row.
@@ -115,7 +115,7 @@ pub fn explain_row(
         (true, Within::Workspace) => Ok(None),
         (true, Within::Live) => Ok(Some(Slip::of_words(
             alloc,
-            &[Step::Key(Key::Gone)],
+            &[PathStep::Key(Key::Gone)],
             "a row of LIVE can't be gone; leave the item out",
         )?)),
     }

@@ -6,9 +6,9 @@ use crate::fields::{items_at, text_at};
 use crate::rules::{Part, parts_of};
 use crate::slips::Slip;
 use clr_hints::{column_names, name_hint, table_names, table_of};
-use clr_places::{Key, Step};
 use clr_rows::{KEY, Schema, TableDef};
 use clr_rules::RuleFault;
+use clr_text_positions::{Key, PathStep};
 use serde_json::Value as Json;
 use std::alloc::{AllocError, Global};
 
@@ -21,7 +21,7 @@ fn unknown_table(alloc: Global, side: &Json, schema: &Schema) -> Result<Option<S
     let names = table_names(alloc, schema)?;
     let sentence = format!(in alloc; "NoTable: no table is called '{name}'")?;
     let hint = name_hint(alloc, name, names.as_slice())?;
-    Ok(Some(Slip::new(alloc, &[Step::Key(Key::Table)], sentence)?.with_hint(hint)))
+    Ok(Some(Slip::new(alloc, &[PathStep::Key(Key::Table)], sentence)?.with_hint(hint)))
 }
 
 /// Returns the slip that a table has no column of a name, or none where it has one.
@@ -55,7 +55,7 @@ fn unknown_literal(
 ) -> Result<Option<Slip>, AllocError> {
     for (at, literal) in items_at(side, Key::Where).iter().enumerate() {
         if let Some(slip) = unknown_column(alloc, column_of_literal(literal), table)? {
-            let steps = [Step::Key(Key::Where), Step::At(at), Step::At(0)];
+            let steps = [PathStep::Key(Key::Where), PathStep::At(at), PathStep::At(0)];
             return Ok(Some(slip.below(alloc, &steps)?));
         }
     }
@@ -85,7 +85,7 @@ fn unknown_in_side_at(
         return Ok(None);
     };
     match unknown_in_side(alloc, side, schema)? {
-        Some(slip) => Ok(Some(slip.below(alloc, &[Step::Key(key)])?)),
+        Some(slip) => Ok(Some(slip.below(alloc, &[PathStep::Key(key)])?)),
         None => Ok(None),
     }
 }
@@ -108,7 +108,7 @@ fn unknown_in_columns(
             continue;
         }
         if let Some(slip) = unknown_column(alloc, name, table)? {
-            return Ok(Some(slip.below(alloc, &[Step::Key(key), Step::At(at)])?));
+            return Ok(Some(slip.below(alloc, &[PathStep::Key(key), PathStep::At(at)])?));
         }
     }
     Ok(None)

@@ -5,7 +5,7 @@ use crate::fields::{
 };
 use crate::slips::Slip;
 use clr_hints::shorten_value;
-use clr_places::{Key, Step};
+use clr_text_positions::{Key, PathStep};
 use serde_json::Value as Json;
 use std::alloc::{AllocError, Global};
 
@@ -59,10 +59,10 @@ fn explain_literal(alloc: Global, json: &Json) -> Result<Option<Slip>, AllocErro
         return Ok(Some(Slip::new(alloc, &[], sentence)?));
     };
     if let Some(slip) = explain_value(alloc, name, Wanted::Text)? {
-        return Ok(Some(slip.below(alloc, &[Step::At(0)])?));
+        return Ok(Some(slip.below(alloc, &[PathStep::At(0)])?));
     }
     match explain_value(alloc, value, Wanted::Value)? {
-        Some(slip) => Ok(Some(slip.below(alloc, &[Step::At(1)])?)),
+        Some(slip) => Ok(Some(slip.below(alloc, &[PathStep::At(1)])?)),
         None => Ok(None),
     }
 }
@@ -78,7 +78,7 @@ fn explain_side(alloc: Global, json: &Json) -> Result<Option<Slip>, AllocError> 
     }
     for (at, literal) in items_at(json, Key::Where).iter().enumerate() {
         if let Some(slip) = explain_literal(alloc, literal)? {
-            return Ok(Some(slip.below(alloc, &[Step::Key(Key::Where), Step::At(at)])?));
+            return Ok(Some(slip.below(alloc, &[PathStep::Key(Key::Where), PathStep::At(at)])?));
         }
     }
     Ok(None)
@@ -88,7 +88,7 @@ fn explain_side(alloc: Global, json: &Json) -> Result<Option<Slip>, AllocError> 
 fn explain_side_at(alloc: Global, json: &Json, key: Key) -> Result<Option<Slip>, AllocError> {
     match json.get(key.as_str()) {
         Some(side) => match explain_side(alloc, side)? {
-            Some(slip) => Ok(Some(slip.below(alloc, &[Step::Key(key)])?)),
+            Some(slip) => Ok(Some(slip.below(alloc, &[PathStep::Key(key)])?)),
             None => Ok(None),
         },
         None => explain_field(alloc, json, key, Wanted::Object),
@@ -102,7 +102,7 @@ fn explain_columns(alloc: Global, json: &Json, key: Key) -> Result<Option<Slip>,
     }
     for (at, name) in items_at(json, key).iter().enumerate() {
         if let Some(slip) = explain_value(alloc, name, Wanted::Text)? {
-            return Ok(Some(slip.below(alloc, &[Step::Key(key), Step::At(at)])?));
+            return Ok(Some(slip.below(alloc, &[PathStep::Key(key), PathStep::At(at)])?));
         }
     }
     Ok(None)

@@ -5,8 +5,8 @@ ghost use Rattle.clr_item_explanations.specs.FaultNames.{BeginsWithName, schema_
 use crate::fields::{items_at, text_at};
 use crate::slips::Slip;
 use clr_hints::GOOD_NAME;
-use clr_places::{Key, Step};
 use clr_rows::{KEY, MOST_COLUMNS, MOST_TABLES, SchemaFault, good_name};
+use clr_text_positions::{Key, PathStep};
 use serde_json::Value as Json;
 use std::alloc::{AllocError, Global};
 
@@ -29,7 +29,11 @@ fn bad_column(alloc: Global, json: &Json) -> Result<Option<Slip>, AllocError> {
             let sentence = format!(in alloc;
                 "'{name}' is no good name of a column: {GOOD_NAME}, and isn't KEY"
             )?;
-            let steps = [Step::Key(Key::Columns), Step::At(at), Step::At(0)];
+            let steps = [
+                PathStep::Key(Key::Columns),
+                PathStep::At(at),
+                PathStep::At(0),
+            ];
             return Ok(Some(Slip::new(alloc, &steps, sentence)?));
         }
     }
@@ -43,19 +47,19 @@ fn bad_name_in(alloc: Global, table: &Json) -> Result<Option<Slip>, AllocError> 
         return bad_column(alloc, table);
     }
     let sentence = format!(in alloc; "'{name}' is no good name of a table: {GOOD_NAME}")?;
-    Ok(Some(Slip::new(alloc, &[Step::Key(Key::Name)], sentence)?))
+    Ok(Some(Slip::new(alloc, &[PathStep::Key(Key::Name)], sentence)?))
 }
 
 /// Returns the first table with a bad name, or with a column that has one.
 fn bad_name(alloc: Global, json: &Json) -> Result<Slip, AllocError> {
     for (at, table) in items_at(json, Key::Tables).iter().enumerate() {
         if let Some(slip) = bad_name_in(alloc, table)? {
-            return slip.below(alloc, &[Step::Key(Key::Tables), Step::At(at)]);
+            return slip.below(alloc, &[PathStep::Key(Key::Tables), PathStep::At(at)]);
         }
     }
     Slip::of_words(
         alloc,
-        &[Step::Key(Key::Tables)],
+        &[PathStep::Key(Key::Tables)],
         "a name of a table or of a column is bad",
     )
 }
@@ -67,7 +71,11 @@ fn column_taken(alloc: Global, json: &Json) -> Result<Option<Slip>, AllocError> 
         let name = column_name(column);
         if names.as_slice().contains(&name) {
             let sentence = format!(in alloc; "column '{name}' stands twice in its table")?;
-            let steps = [Step::Key(Key::Columns), Step::At(at), Step::At(0)];
+            let steps = [
+                PathStep::Key(Key::Columns),
+                PathStep::At(at),
+                PathStep::At(0),
+            ];
             return Ok(Some(Slip::new(alloc, &steps, sentence)?));
         }
         names.push(name)?;
@@ -82,7 +90,7 @@ fn name_taken_in(alloc: Global, table: &Json, names: &[&str]) -> Result<Option<S
         return column_taken(alloc, table);
     }
     let sentence = format!(in alloc; "an earlier table is called '{name}'")?;
-    Ok(Some(Slip::new(alloc, &[Step::Key(Key::Name)], sentence)?))
+    Ok(Some(Slip::new(alloc, &[PathStep::Key(Key::Name)], sentence)?))
 }
 
 /// Returns the first table whose name stands before, or that has a column whose name does.
@@ -90,13 +98,13 @@ fn name_taken(alloc: Global, json: &Json) -> Result<Slip, AllocError> {
     let mut names: Vec<&str> = Vec::new(alloc);
     for (at, table) in items_at(json, Key::Tables).iter().enumerate() {
         if let Some(slip) = name_taken_in(alloc, table, names.as_slice())? {
-            return slip.below(alloc, &[Step::Key(Key::Tables), Step::At(at)]);
+            return slip.below(alloc, &[PathStep::Key(Key::Tables), PathStep::At(at)]);
         }
         names.push(text_at(table, Key::Name))?;
     }
     Slip::of_words(
         alloc,
-        &[Step::Key(Key::Tables)],
+        &[PathStep::Key(Key::Tables)],
         "a name of a table or of a column stands twice",
     )
 }
@@ -110,16 +118,16 @@ fn too_many(alloc: Global, json: &Json) -> Result<Slip, AllocError> {
                 "a table of {count} columns; at most {MOST_COLUMNS} may stand here"
             )?;
             let steps = [
-                Step::Key(Key::Tables),
-                Step::At(at),
-                Step::Key(Key::Columns),
+                PathStep::Key(Key::Tables),
+                PathStep::At(at),
+                PathStep::Key(Key::Columns),
             ];
             return Slip::new(alloc, &steps, sentence);
         }
     }
     let count = items_at(json, Key::Tables).len();
     let sentence = format!(in alloc; "{count} tables; at most {MOST_TABLES} may stand here")?;
-    Slip::new(alloc, &[Step::Key(Key::Tables)], sentence)
+    Slip::new(alloc, &[PathStep::Key(Key::Tables)], sentence)
 }
 
 /// Returns the name of a fault of a schema.

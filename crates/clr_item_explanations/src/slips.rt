@@ -1,20 +1,20 @@
 //! What is wrong within an item.
 ghost use Rattle.std.specs.Prelude.{◌≡◌, ◌++◌, codes, string_bytes, IfOk};
 
-use clr_places::Step;
+use clr_text_positions::PathStep;
 use std::alloc::{AllocError, Global};
 
 /// What is wrong within an item: the steps from the item to the value that is wrong, a sentence, and a hint where one helps.
 #[derive(Debug, Drop)]
 pub struct Slip {
-    pub steps: Vec<Step>,
+    pub steps: Vec<PathStep>,
     pub sentence: String,
     pub hint: Option<String>,
 }
 
 impl Slip {
     /// Returns a slip with a sentence on the value at these steps, without a hint.
-    pub fn new(alloc: Global, steps: &[Step], sentence: String) -> Result<Slip, AllocError>
+    pub fn new(alloc: Global, steps: &[PathStep], sentence: String) -> Result<Slip, AllocError>
         ensures { IfOk result (λ slip. slip.sentence ≡ sentence) }
     {
         Ok(Slip {
@@ -25,7 +25,7 @@ impl Slip {
     }
 
     /// Returns a slip with these words as its sentence, without a hint.
-    pub fn of_words(alloc: Global, steps: &[Step], sentence: &str) -> Result<Slip, AllocError>
+    pub fn of_words(alloc: Global, steps: &[PathStep], sentence: &str) -> Result<Slip, AllocError>
         ensures { IfOk result (λ slip. string_bytes slip.sentence ≡ sentence.now) }
     {
         let sentence = String::from_str(alloc, sentence)?;
@@ -44,7 +44,7 @@ impl Slip {
     }
 
     /// Returns this slip as one of the item that holds this item, with more steps before its own.
-    pub fn below(self, alloc: Global, steps: &[Step]) -> Result<Slip, AllocError>
+    pub fn below(self, alloc: Global, steps: &[PathStep]) -> Result<Slip, AllocError>
         ensures { IfOk result (λ slip. slip.sentence ≡ self.sentence) }
     {
         let mut all = Vec::from_slice(alloc, steps)?;

@@ -5,8 +5,8 @@ use crate::fields::{
 };
 use crate::slips::Slip;
 use clr_hints::shorten_value;
-use clr_office_text::formats::Format;
-use clr_places::{Key, Step};
+use clr_office_reading::formats::Format;
+use clr_text_positions::{Key, PathStep};
 use serde_json::Value as Json;
 use std::alloc::{AllocError, Global};
 
@@ -25,10 +25,10 @@ fn explain_column(alloc: Global, json: &Json) -> Result<Option<Slip>, AllocError
         return Ok(Some(Slip::new(alloc, &[], sentence)?));
     };
     if let Some(slip) = explain_word(alloc, kind, KINDS)? {
-        return Ok(Some(slip.below(alloc, &[Step::At(1)])?));
+        return Ok(Some(slip.below(alloc, &[PathStep::At(1)])?));
     }
     match explain_value(alloc, name, Wanted::Text)? {
-        Some(slip) => Ok(Some(slip.below(alloc, &[Step::At(0)])?)),
+        Some(slip) => Ok(Some(slip.below(alloc, &[PathStep::At(0)])?)),
         None => Ok(None),
     }
 }
@@ -37,7 +37,7 @@ fn explain_column(alloc: Global, json: &Json) -> Result<Option<Slip>, AllocError
 fn explain_columns(alloc: Global, json: &Json) -> Result<Option<Slip>, AllocError> {
     for (at, column) in items_at(json, Key::Columns).iter().enumerate() {
         if let Some(slip) = explain_column(alloc, column)? {
-            return Ok(Some(slip.below(alloc, &[Step::Key(Key::Columns), Step::At(at)])?));
+            return Ok(Some(slip.below(alloc, &[PathStep::Key(Key::Columns), PathStep::At(at)])?));
         }
     }
     Ok(None)
@@ -63,5 +63,5 @@ pub fn explain_table(
         return Ok(None);
     }
     let sentence = "PATH is known from format 2 on";
-    Ok(Some(Slip::of_words(alloc, &[Step::Key(Key::Shape)], sentence)?))
+    Ok(Some(Slip::of_words(alloc, &[PathStep::Key(Key::Shape)], sentence)?))
 }

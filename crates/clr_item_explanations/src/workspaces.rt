@@ -5,8 +5,8 @@ ghost use Rattle.clr_item_explanations.specs.FaultNames.{BeginsWithName, part_fa
 use crate::fields::{Wanted, explain_field, explain_fields, items_at, text_at};
 use crate::slips::Slip;
 use clr_hints::{GOOD_NAME, name_hint};
-use clr_places::{Key, Step};
 use clr_rows::LIVE;
+use clr_text_positions::{Key, PathStep};
 use clr_tree::PartFault;
 use serde_json::Value as Json;
 use std::alloc::{AllocError, Global};
@@ -35,7 +35,7 @@ fn explain_parent(alloc: Global, json: &Json, names: &[&str]) -> Result<Option<S
         "NoParent: '{parent}' is neither LIVE nor an earlier workspace"
     )?;
     let hint = name_hint(alloc, parent, names)?;
-    Ok(Some(Slip::new(alloc, &[Step::Key(Key::Parent)], sentence)?.with_hint(hint)))
+    Ok(Some(Slip::new(alloc, &[PathStep::Key(Key::Parent)], sentence)?.with_hint(hint)))
 }
 
 /// Returns what is wrong with the workspace at a place of an office text, its cells and marks aside, or none where nothing is
@@ -132,7 +132,7 @@ pub fn explain_part(alloc: Global, workspace: &Json, fault: PartFault) -> Result
     let sentence = sentence_of(alloc, text_at(workspace, Key::Name), fault)?;
     let key = key_of(fault);
     let slip = if workspace.get(key.as_str()).is_some() {
-        Slip::new(alloc, &[Step::Key(key)], sentence)?
+        Slip::new(alloc, &[PathStep::Key(key)], sentence)?
     } else {
         Slip::new(alloc, &[], sentence)?
     };

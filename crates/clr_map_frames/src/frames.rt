@@ -4,7 +4,7 @@ ghost use Rattle.std.specs.Prelude.{◌≡◌};
 ghost use Rattle.clr_map_frames.specs.Frames.{has_frames};
 
 use clr_drawing::{Area, Sketch, extent_of};
-use clr_plan_scenes::Scene;
+use clr_plan_scenes::MapScene;
 use clr_rows::Row;
 use clr_svg::{Ink, Pixels};
 use std::alloc::{AllocError, Global};
@@ -19,7 +19,7 @@ const MARGIN: Pixels = Pixels { tenths: 80 };
 const FEW: usize = 3;
 
 /// Returns whether the changes have frames: where there are several designs, or little room.
-pub fn has_frames(scene: &Scene<'_>) -> bool
+pub fn has_frames(scene: &MapScene<'_>) -> bool
     ensures { result ≡ has_frames scene.now }
 {
     scene.cause.is_none() && (!scene.changes.is_fine() || scene.field.designs.len() > FEW)
@@ -41,7 +41,11 @@ fn add_area(alloc: Global, groups: &mut Vec<Area>, area: Area) -> Result<(), All
     Ok(())
 }
 
-fn add_row(groups: &mut Vec<Area>, scene: &Scene<'_>, row: Option<&Row>) -> Result<(), AllocError> {
+fn add_row(
+    groups: &mut Vec<Area>,
+    scene: &MapScene<'_>,
+    row: Option<&Row>,
+) -> Result<(), AllocError> {
     let Some(row) = row else {
         return Ok(());
     };
@@ -52,7 +56,7 @@ fn add_row(groups: &mut Vec<Area>, scene: &Scene<'_>, row: Option<&Row>) -> Resu
 }
 
 /// Returns the frames of the design at a position.
-pub fn frames_of(scene: &Scene<'_>, at: usize) -> Result<Vec<Area>, AllocError> {
+pub fn frames_of(scene: &MapScene<'_>, at: usize) -> Result<Vec<Area>, AllocError> {
     let mut groups = Vec::new(scene.field.alloc);
     if let Some(set) = scene.field.designs.changes(at) {
         for (_, change) in set.iter() {
@@ -82,7 +86,7 @@ pub fn largest(frames: &[Area]) -> Option<Area> {
 
 fn add_frames_of(
     sketch: &mut Sketch,
-    scene: &Scene<'_>,
+    scene: &MapScene<'_>,
     at: usize,
     ink: Ink,
 ) -> Result<(), AllocError> {
@@ -93,7 +97,7 @@ fn add_frames_of(
 }
 
 /// Draws the grounds of the frames, which lie beneath the rows.
-pub fn add_grounds(sketch: &mut Sketch, scene: &Scene<'_>) -> Result<(), AllocError> {
+pub fn add_grounds(sketch: &mut Sketch, scene: &MapScene<'_>) -> Result<(), AllocError> {
     for at in scene.field.designs.order() {
         let colours = scene.field.designs.colours(*at);
         add_frames_of(sketch, scene, *at, Ink::of_area(colours.within))?;
@@ -102,7 +106,7 @@ pub fn add_grounds(sketch: &mut Sketch, scene: &Scene<'_>) -> Result<(), AllocEr
 }
 
 /// Draws the outlines of the frames.
-pub fn add_outlines(sketch: &mut Sketch, scene: &Scene<'_>) -> Result<(), AllocError> {
+pub fn add_outlines(sketch: &mut Sketch, scene: &MapScene<'_>) -> Result<(), AllocError> {
     for at in scene.field.designs.order() {
         let colours = scene.field.designs.colours(*at);
         let outline = Ink::of_line(colours.line, Pixels::of_tenths(14));

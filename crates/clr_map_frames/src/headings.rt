@@ -5,7 +5,7 @@ ghost use Rattle.clr_map_frames.specs.Headings.{behind_commas, design_names, des
 
 use clr_drawing::{INK, SOFT, Sketch, words_width};
 use clr_plan_scenes::{Designs, Field, LEFT, PAGE_WIDTH};
-use clr_svg::{Anchor, Pixels, Spot, Weight};
+use clr_svg::{Anchor, PagePoint, Pixels, Weight};
 use std::alloc::{AllocError, Global};
 
 /// The size of the letters of the word for what a plan says.
@@ -136,7 +136,7 @@ pub fn add_heading(
     let alloc = sketch.allocator();
     let right = PAGE_WIDTH - Pixels::whole(28);
     let start = LEFT + words_width(word, VERDICT_SIZE + Pixels::whole(4)) + Pixels::whole(26);
-    let at = Spot {
+    let at = PagePoint {
         x: start,
         y: Pixels::whole(46),
     };
@@ -151,7 +151,7 @@ pub fn add_heading(
     )?;
     let size = Pixels::of_tenths(155);
     let sentence = text_that_fits(alloc, sentence, size, right - LEFT)?;
-    let at = Spot {
+    let at = PagePoint {
         x: LEFT,
         y: Pixels::whole(78),
     };

@@ -1,26 +1,26 @@
 //! A small plan of everything, with the map's window in it.
 
 use clr_drawing::{
-    ALARM, Area, FAINT, GROUND, INK, PLAIN, SOFT, Sketch, View, add_shape, extent_of, grow_box,
+    ALARM, Area, FAINT, GROUND, INK, PLAIN, SOFT, Sketch, Viewport, add_shape, extent_of, grow_box,
 };
-use clr_plan_scenes::{BESIDE, EDGE, Scene};
+use clr_plan_scenes::{BESIDE, EDGE, MapScene};
 use clr_rows::Row;
 use clr_segments::Bounds;
-use clr_svg::{Anchor, Ink, Pixels, Spot, Step, Weight};
+use clr_svg::{Anchor, Ink, PagePoint, PathCommand, Pixels, Weight};
 use std::alloc::{AllocError, Global};
 
 /// The least and the greatest height of the small plan, in tenths of a pixel.
 const HEIGHTS: (i64, i64) = (900, 2000);
 
 /// Returns whether the map shows so little of everything that a small plan helps.
-fn helps(scene: &Scene<'_>) -> bool {
+fn helps(scene: &MapScene<'_>) -> bool {
     let whole = scene.whole.most.x.saturating_sub(scene.whole.least.x);
     let tall = scene.whole.most.y.saturating_sub(scene.whole.least.y);
     scene.view.width().saturating_mul(100) < whole.max(tall).saturating_mul(55)
 }
 
 /// Returns where the small plan stands below this height, if there is room.
-fn area_below(scene: &Scene<'_>, down: Pixels) -> Option<Area> {
+fn area_below(scene: &MapScene<'_>, down: Pixels) -> Option<Area> {
     let bottom = scene.frame().bottom;
     let room = (bottom - down).tenths;
     if room < HEIGHTS.0 {
@@ -35,35 +35,35 @@ fn area_below(scene: &Scene<'_>, down: Pixels) -> Option<Area> {
 }
 
 /// Returns the spot on whole pixels.
-fn on_pixels(spot: Spot) -> Spot {
-    Spot {
+fn on_pixels(spot: PagePoint) -> PagePoint {
+    PagePoint {
         x: Pixels::whole(spot.x.tenths / 10),
         y: Pixels::whole(spot.y.tenths / 10),
     }
 }
 
 /// Returns the steps of a path moved to whole pixels, without the lines that then have no length.
-fn coarse_steps(alloc: Global, steps: &[Step]) -> Result<Vec<Step>, AllocError> {
+fn coarse_steps(alloc: Global, steps: &[PathCommand]) -> Result<Vec<PathCommand>, AllocError> {
     let mut coarse = Vec::new(alloc);
     let mut last = None;
     for step in steps {
         match step {
-            Step::Begin(spot) => last = Some(on_pixels(*spot)),
-            Step::Line(spot) => {
+            PathCommand::Begin(spot) => last = Some(on_pixels(*spot)),
+            PathCommand::Line(spot) => {
                 let to = on_pixels(*spot);
                 if let Some(from) = last {
                     clr_drawing::add_line(&mut coarse, from, to)?;
                 }
                 last = Some(to);
             }
-            Step::Close => {}
+            PathCommand::Close => {}
         }
     }
     Ok(coarse)
 }
 
 /// Draws the lines of all rows.
-fn add_rows(sketch: &mut Sketch, scene: &Scene<'_>, view: &View) -> Result<(), AllocError> {
+fn add_rows(sketch: &mut Sketch, scene: &MapScene<'_>, view: &Viewport) -> Result<(), AllocError> {
     let alloc = sketch.allocator();
     let mut steps = Vec::new(alloc);
     for (_, row) in scene.field.rows.iter() {
@@ -94,8 +94,8 @@ fn at_least(area: Area, width: i64, height: i64) -> Area {
 /// Draws a box where a design changes something.
 fn add_design(
     sketch: &mut Sketch,
-    scene: &Scene<'_>,
-    view: &View,
+    scene: &MapScene<'_>,
+    view: &Viewport,
     at: usize,
 ) -> Result<(), AllocError> {
     let Some(set) = scene.field.designs.changes(at) else {
@@ -120,7 +120,11 @@ fn add_design(
 }
 
 /// Draws the window of the map.
-fn add_window(sketch: &mut Sketch, scene: &Scene<'_>, view: &View) -> Result<(), AllocError> {
+fn add_window(
+    sketch: &mut Sketch,
+    scene: &MapScene<'_>,
+    view: &Viewport,
+) -> Result<(), AllocError> {
     let colour = if scene.cause.is_some() { ALARM } else { INK };
     let area = at_least(view.area(scene.view.world), 12, 9);
     sketch.add_area(
@@ -131,14 +135,18 @@ fn add_window(sketch: &mut Sketch, scene: &Scene<'_>, view: &View) -> Result<(),
 }
 
 /// Draws a small plan of everything below this height, where it helps and there is room.
-pub fn add_inset(sketch: &mut Sketch, scene: &Scene<'_>, down: Pixels) -> Result<(), AllocError> {
+pub fn add_inset(
+    sketch: &mut Sketch,
+    scene: &MapScene<'_>,
+    down: Pixels,
+) -> Result<(), AllocError> {
     if !helps(scene) {
         return Ok(());
     }
     let Some(area) = area_below(scene, down) else {
         return Ok(());
     };
-    let view = View::new(grow_box(scene.whole, 106, 1000), area);
+    let view = Viewport::new(grow_box(scene.whole, 106, 1000), area);
     let frame = Ink::of_line(FAINT, Pixels::whole(1)).over(GROUND);
     sketch.add_area(area, Pixels::whole(6), frame)?;
     add_rows(sketch, scene, &view)?;
@@ -146,7 +154,7 @@ pub fn add_inset(sketch: &mut Sketch, scene: &Scene<'_>, down: Pixels) -> Result
         add_design(sketch, scene, &view, *at)?;
     }
     add_window(sketch, scene, &view)?;
-    let at = Spot {
+    let at = PagePoint {
         x: BESIDE,
         y: area.bottom + Pixels::whole(17),
     };

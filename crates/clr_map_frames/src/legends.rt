@@ -2,9 +2,9 @@
 
 use clr_drawing::{ALARM, Area, HALO, INK, PAPER, PLAIN, SIGN, SOFT, Sketch, add_cross, add_sign};
 use clr_map_marks::sign_of_table;
-use clr_plan_scenes::{BESIDE, Counts, EDGE, Mark, Scene, TOP};
+use clr_plan_scenes::{BESIDE, Counts, EDGE, MapScene, Mark, TOP};
 use clr_rows::Form;
-use clr_svg::{Anchor, Colour, Ink, Layer, Pixels, Spot, Weight};
+use clr_svg::{Anchor, Colour, Ink, Layer, PagePoint, Pixels, Weight};
 use std::alloc::AllocError;
 
 /// The colour in which the legend shows lines of designs.
@@ -24,7 +24,7 @@ const MOST_LISTED: usize = 12;
 #[derive(Drop)]
 struct Column<'a> {
     sketch: Sketch,
-    scene: &'a Scene<'a>,
+    scene: &'a MapScene<'a>,
     down: Pixels,
 }
 
@@ -40,8 +40,8 @@ enum Sample {
 }
 
 impl Column<'_> {
-    fn spot(&self, right: i64) -> Spot {
-        Spot {
+    fn spot(&self, right: i64) -> PagePoint {
+        PagePoint {
             x: BESIDE + Pixels::whole(right),
             y: self.down,
         }
@@ -76,11 +76,11 @@ impl Column<'_> {
     /// Draws a short line at the height of the text.
     fn add_dash(&mut self, ink: Ink) -> Result<(), AllocError> {
         let middle = self.down - Pixels::whole(4);
-        let from = Spot {
+        let from = PagePoint {
             x: BESIDE,
             y: middle,
         };
-        let to = Spot {
+        let to = PagePoint {
             x: BESIDE + Pixels::whole(36),
             y: middle,
         };
@@ -104,7 +104,7 @@ impl Column<'_> {
 
     /// Draws a sample.
     fn add_sample(&mut self, sample: Sample) -> Result<(), AllocError> {
-        let middle = Spot {
+        let middle = PagePoint {
             x: BESIDE + Pixels::whole(18),
             y: self.down - Pixels::whole(4),
         };
@@ -146,7 +146,7 @@ fn add_count(text: &mut String, count: usize, word: &str) -> Result<(), AllocErr
 }
 
 /// Returns how much a design changes, in words.
-fn counts_words(scene: &Scene<'_>, counts: Counts) -> Result<String, AllocError> {
+fn counts_words(scene: &MapScene<'_>, counts: Counts) -> Result<String, AllocError> {
     let mut text = String::new(scene.field.alloc);
     add_count(&mut text, counts.added, "added")?;
     add_count(&mut text, counts.changed, "changed")?;
@@ -166,7 +166,7 @@ fn add_short_counts(column: &mut Column<'_>, counts: Counts) -> Result<(), Alloc
     } = counts;
     let scene = column.scene;
     let words = format!(in scene.field.alloc; "+{added}  ~{changed}  −{removed}")?;
-    let at = Spot {
+    let at = PagePoint {
         x: EDGE,
         y: column.down,
     };
@@ -225,7 +225,7 @@ fn add_design(column: &mut Column<'_>, at: usize, has_room: bool) -> Result<(), 
 
 /// Returns how many designs are listed: all where they are few, and otherwise those of the cause, if there
 /// is one.
-fn count_listed(scene: &Scene<'_>) -> usize {
+fn count_listed(scene: &MapScene<'_>) -> usize {
     let designs = scene.field.designs;
     let all = designs.len();
     let leading = designs.leaders().len();
@@ -267,7 +267,7 @@ fn add_designs(column: &mut Column<'_>) -> Result<(), AllocError> {
 }
 
 /// Returns whether the place of a cause has a ring.
-fn has_ring(scene: &Scene<'_>) -> bool {
+fn has_ring(scene: &MapScene<'_>) -> bool {
     match scene.cause {
         Some(cause) => matches!(cause.mark, Mark::Ring(_)),
         None => false,
@@ -281,7 +281,7 @@ fn add_tables(column: &mut Column<'_>) -> Result<(), AllocError> {
     let ink = Ink::of_line(SIGN, Pixels::of_tenths(16)).over(PAPER);
     for (number, table) in schema.tables().iter().enumerate() {
         if table.shape == Form::Point {
-            let middle = Spot {
+            let middle = PagePoint {
                 x: BESIDE + Pixels::whole(18),
                 y: column.down - Pixels::whole(4),
             };
@@ -311,7 +311,7 @@ fn add_signs(column: &mut Column<'_>) -> Result<(), AllocError> {
 }
 
 /// Returns what stands beside the map, and how far down it goes.
-pub fn legend_of<'a>(scene: &'a Scene<'a>) -> Result<(Layer, Pixels), AllocError> {
+pub fn legend_of<'a>(scene: &'a MapScene<'a>) -> Result<(Layer, Pixels), AllocError> {
     let mut column = Column {
         sketch: Sketch::new(scene.field.alloc),
         scene,

@@ -10,19 +10,19 @@ use Rattle.clr_rows.specs.Contents.{Changes}
 use Rattle.clr_rows.specs.Same.{same_place}
 use Rattle.clr_svg.specs.declared.colours.Colour.{Colour}
 use Rattle.clr_svg.specs.declared.elements.Element.{Element}
-use Rattle.clr_svg.specs.declared.elements.Spot.{Spot}
+use Rattle.clr_svg.specs.declared.elements.PagePoint.{PagePoint}
 use Rattle.clr_svg.specs.declared.inks.Ink.{Ink}
 use Rattle.clr_svg.specs.declared.pixels.Pixels.{Pixels}
 use Rattle.clr_svg.specs.Inks.{dashed_ink, drawn_ink, filled_ink, ink_over}
 use Rattle.clr_svg.specs.Lengths.{length_of}
-use Rattle.clr_views.specs.declared.details.Detail.{Detail}
+use Rattle.clr_viewports.specs.declared.details.Detail.{Detail}
 use Rattle.clr_drawing.specs.declared.signs.Sign.{Sign}
-use Rattle.clr_views.specs.Details.{is_fine}
+use Rattle.clr_viewports.specs.Details.{is_fine}
 use Rattle.clr_drawing.specs.Palette.{rgb}
 use Rattle.clr_drawing.specs.Signs.{DrawsCross, IsSign, hundredths}
 use Rattle.clr_drawing.specs.Sketches.{Draws}
-use Rattle.clr_map_marks.specs.declared.point_marks.Deed.{Deed}
-use Rattle.clr_map_marks.specs.declared.point_marks.Deed.TheVariants as deed
+use Rattle.clr_map_marks.specs.declared.point_marks.PointChange.{PointChange}
+use Rattle.clr_map_marks.specs.declared.point_marks.PointChange.TheVariants as change
 
 abbrev pub paper : Colour
 paper = rgb 255 255 255
@@ -36,32 +36,32 @@ abbrev pub gone_ink : Colour → Ink
 gone_ink colour = dashed_ink (ink_over (drawn_ink colour (length_of (pos 17))) map_colour) (length_of (pos 25)) (length_of (pos 20))
 
 -- the sign of a point that comes is full, of one that changes hollow, and of one that goes or moves away it has dashes
-abbrev pub ink_of : Deed → Colour → Ink
-ink_of deed.Goes colour = gone_ink colour
-ink_of deed.Leaves colour = gone_ink colour
-ink_of deed.Comes colour = ink_over (drawn_ink paper (length_of (pos 15))) colour
-ink_of deed.Changes colour = ink_over (drawn_ink colour (length_of (pos 26))) paper
+abbrev pub ink_of : PointChange → Colour → Ink
+ink_of change.Goes colour = gone_ink colour
+ink_of change.Leaves colour = gone_ink colour
+ink_of change.Comes colour = ink_over (drawn_ink paper (length_of (pos 15))) colour
+ink_of change.Changes colour = ink_over (drawn_ink colour (length_of (pos 26))) paper
 
 abbrev pub small_gone_ink : Colour → Ink
 small_gone_ink colour = dashed_ink (ink_over (drawn_ink colour (length_of (pos 12))) map_colour) (length_of (pos 20)) (length_of (pos 15))
 
 -- the ink of a small sign
-abbrev pub small_ink_of : Deed → Colour → Ink
-small_ink_of deed.Goes colour = small_gone_ink colour
-small_ink_of deed.Leaves colour = small_gone_ink colour
-small_ink_of deed.Comes colour = filled_ink colour
-small_ink_of deed.Changes colour = ink_over (drawn_ink colour (length_of (pos 12))) paper
+abbrev pub small_ink_of : PointChange → Colour → Ink
+small_ink_of change.Goes colour = small_gone_ink colour
+small_ink_of change.Leaves colour = small_gone_ink colour
+small_ink_of change.Comes colour = filled_ink colour
+small_ink_of change.Changes colour = ink_over (drawn_ink colour (length_of (pos 12))) paper
 
-abbrev pub DrawsSign : Deed → Sign → Spot → Pixels → Colour → List Element → List Element → Type 0
-DrawsSign deed sign spot radius colour old new = Draws (IsSign sign spot radius (ink_of deed colour)) old new
+abbrev pub DrawsSign : PointChange → Sign → PagePoint → Pixels → Colour → List Element → List Element → Type 0
+DrawsSign change sign spot radius colour old new = Draws (IsSign sign spot radius (ink_of change colour)) old new
 
 -- a point that goes has a cross over its sign
-abbrev pub DrawsMark : Deed → Sign → Spot → Pixels → Colour → List Element → List Element → Type 0
-DrawsMark deed.Goes sign spot radius colour old new =
-    (drawn : List Element) × DrawsSign deed.Goes sign spot radius colour old drawn × DrawsCross spot (hundredths radius (pos 62)) colour paper drawn new
-DrawsMark deed.Leaves sign spot radius colour old new = DrawsSign deed.Leaves sign spot radius colour old new
-DrawsMark deed.Comes sign spot radius colour old new = DrawsSign deed.Comes sign spot radius colour old new
-DrawsMark deed.Changes sign spot radius colour old new = DrawsSign deed.Changes sign spot radius colour old new
+abbrev pub DrawsMark : PointChange → Sign → PagePoint → Pixels → Colour → List Element → List Element → Type 0
+DrawsMark change.Goes sign spot radius colour old new =
+    (drawn : List Element) × DrawsSign change.Goes sign spot radius colour old drawn × DrawsCross spot (hundredths radius (pos 62)) colour paper drawn new
+DrawsMark change.Leaves sign spot radius colour old new = DrawsSign change.Leaves sign spot radius colour old new
+DrawsMark change.Comes sign spot radius colour old new = DrawsSign change.Comes sign spot radius colour old new
+DrawsMark change.Changes sign spot radius colour old new = DrawsSign change.Changes sign spot radius colour old new
 
 abbrev pub is_at_place : Shape → Place → Bool
 is_at_place Bare place = false

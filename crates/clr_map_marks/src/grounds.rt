@@ -4,9 +4,9 @@ ghost use Rattle.std.specs.Prelude.{◌≡◌, count_by};
 ghost use Rattle.clr_map_marks.specs.Tables.{is_of_points, sign_of_table};
 
 use clr_drawing::{Detail, PAPER, PLAIN, SIGN, Sign, Sketch, add_shape, add_sign, sign_at};
-use clr_plan_scenes::Scene;
+use clr_plan_scenes::MapScene;
 use clr_rows::{CellId, Form, Row, Schema, Shape, TableDef};
-use clr_svg::{Ink, Pixels, Step};
+use clr_svg::{Ink, PathCommand, Pixels};
 use std::alloc::AllocError;
 
 /// Returns whether a table is of points.
@@ -51,7 +51,7 @@ fn line_width(detail: Detail) -> Pixels {
 }
 
 /// Draws the lines of the root that are seen.
-pub fn add_lines(sketch: &mut Sketch, scene: &Scene<'_>) -> Result<(), AllocError> {
+pub fn add_lines(sketch: &mut Sketch, scene: &MapScene<'_>) -> Result<(), AllocError> {
     let mut steps = Vec::new(sketch.allocator());
     for (_, row) in scene.field.rows.iter() {
         if scene.view.sees(&row.shape) {
@@ -62,12 +62,12 @@ pub fn add_lines(sketch: &mut Sketch, scene: &Scene<'_>) -> Result<(), AllocErro
 }
 
 /// Returns whether a point of the root is drawn by itself: it is seen, and no design changes it.
-fn is_drawn(scene: &Scene<'_>, cell: CellId, row: &Row) -> bool {
+fn is_drawn(scene: &MapScene<'_>, cell: CellId, row: &Row) -> bool {
     scene.view.sees(&row.shape) && scene.field.designs.changer(cell).is_none()
 }
 
 /// Draws the signs of the points of the root.
-fn add_large_signs(sketch: &mut Sketch, scene: &Scene<'_>) -> Result<(), AllocError> {
+fn add_large_signs(sketch: &mut Sketch, scene: &MapScene<'_>) -> Result<(), AllocError> {
     let ink = Ink::of_line(SIGN, Pixels::of_tenths(15)).over(PAPER);
     for (cell, row) in scene.field.rows.iter() {
         if let Shape::At(place) = &row.shape
@@ -87,15 +87,15 @@ fn add_large_signs(sketch: &mut Sketch, scene: &Scene<'_>) -> Result<(), AllocEr
 }
 
 /// Draws dots for the points of the root, all in one path: lines of no length, whose ends are round.
-fn add_dots(sketch: &mut Sketch, scene: &Scene<'_>) -> Result<(), AllocError> {
+fn add_dots(sketch: &mut Sketch, scene: &MapScene<'_>) -> Result<(), AllocError> {
     let mut steps = Vec::new(sketch.allocator());
     for (cell, row) in scene.field.rows.iter() {
         if let Shape::At(place) = &row.shape
             && is_drawn(scene, *cell, row)
         {
             let spot = scene.view.spot(*place);
-            steps.push(Step::Begin(spot))?;
-            steps.push(Step::Line(spot))?;
+            steps.push(PathCommand::Begin(spot))?;
+            steps.push(PathCommand::Line(spot))?;
         }
     }
     sketch.add_path(steps, Ink::of_line(SIGN, Pixels::of_tenths(40)))
@@ -103,7 +103,7 @@ fn add_dots(sketch: &mut Sketch, scene: &Scene<'_>) -> Result<(), AllocError> {
 
 /// Draws the points of the root that are seen and that no design changes: by signs, or by dots where there is little room, or not at all
 /// where there is less.
-pub fn add_signs(sketch: &mut Sketch, scene: &Scene<'_>) -> Result<(), AllocError> {
+pub fn add_signs(sketch: &mut Sketch, scene: &MapScene<'_>) -> Result<(), AllocError> {
     match scene.detail {
         Detail::Fine => add_large_signs(sketch, scene),
         Detail::Middle => add_dots(sketch, scene),

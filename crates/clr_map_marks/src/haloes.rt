@@ -2,16 +2,16 @@
 
 use crate::point_marks::{mark_radius, marks_at};
 use clr_drawing::{ALARM, HALO, PAPER, Sketch, add_shape, middle_of};
-use clr_plan_scenes::{Cause, CauseRow, Mark, Scene};
+use clr_plan_scenes::{Cause, CauseRow, MapScene, Mark};
 use clr_rows::{Place, Shape};
-use clr_svg::{Ink, Pixels, Spot};
+use clr_svg::{Ink, PagePoint, Pixels};
 use std::alloc::AllocError;
 
 /// How far a halo goes beyond a point.
 const HALO_RADIUS: Pixels = Pixels { tenths: 170 };
 
 /// Draws the halo of a row.
-fn add_halo(sketch: &mut Sketch, scene: &Scene<'_>, row: &CauseRow) -> Result<(), AllocError> {
+fn add_halo(sketch: &mut Sketch, scene: &MapScene<'_>, row: &CauseRow) -> Result<(), AllocError> {
     if let Shape::At(place) = &row.row.shape {
         return sketch.add_circle(scene.view.spot(*place), HALO_RADIUS, Ink::of_area(HALO));
     }
@@ -21,7 +21,11 @@ fn add_halo(sketch: &mut Sketch, scene: &Scene<'_>, row: &CauseRow) -> Result<()
 }
 
 /// Draws the haloes of the rows that a cause names.
-pub fn add_haloes(sketch: &mut Sketch, scene: &Scene<'_>, cause: &Cause) -> Result<(), AllocError> {
+pub fn add_haloes(
+    sketch: &mut Sketch,
+    scene: &MapScene<'_>,
+    cause: &Cause,
+) -> Result<(), AllocError> {
     for row in &cause.rows {
         add_halo(sketch, scene, row)?;
     }
@@ -36,8 +40,8 @@ fn two_middles(cause: &Cause) -> Option<(Place, Place)> {
 }
 
 /// Returns the spot halfway between two.
-fn halfway(from: Spot, to: Spot) -> Spot {
-    Spot {
+fn halfway(from: PagePoint, to: PagePoint) -> PagePoint {
+    PagePoint {
         x: from.x + (to.x - from.x).half(),
         y: from.y + (to.y - from.y).half(),
     }
@@ -46,12 +50,12 @@ fn halfway(from: Spot, to: Spot) -> Spot {
 /// Where the place of a cause is on the page, and how far round it its mark goes.
 #[derive(Clone, Copy)]
 pub struct Marked {
-    pub spot: Spot,
+    pub spot: PagePoint,
     pub radius: Pixels,
 }
 
 /// Returns the spot between the first two rows of a cause, and how far round it their mark goes.
-fn marked_between(scene: &Scene<'_>, cause: &Cause, radius: Pixels) -> Option<Marked> {
+fn marked_between(scene: &MapScene<'_>, cause: &Cause, radius: Pixels) -> Option<Marked> {
     let (first, second) = two_middles(cause)?;
     Some(Marked {
         spot: halfway(scene.view.spot(first), scene.view.spot(second)),
@@ -60,7 +64,7 @@ fn marked_between(scene: &Scene<'_>, cause: &Cause, radius: Pixels) -> Option<Ma
 }
 
 /// Returns where the place of a cause is marked, if it is.
-pub fn marked_spot(scene: &Scene<'_>, cause: &Cause) -> Option<Marked> {
+pub fn marked_spot(scene: &MapScene<'_>, cause: &Cause) -> Option<Marked> {
     match cause.mark {
         Mark::Ring(ring) => {
             let beside = i64::from(marks_at(scene, ring.place).saturating_sub(1));
@@ -92,7 +96,7 @@ fn add_ring(sketch: &mut Sketch, marked: Marked) -> Result<(), AllocError> {
 /// Draws a circle of a distance round each of two points, and a line between them.
 fn add_near(
     sketch: &mut Sketch,
-    scene: &Scene<'_>,
+    scene: &MapScene<'_>,
     first: Place,
     second: Place,
     distance: i64,
@@ -107,7 +111,11 @@ fn add_near(
 }
 
 /// Marks the place of a cause.
-pub fn add_mark(sketch: &mut Sketch, scene: &Scene<'_>, cause: &Cause) -> Result<(), AllocError> {
+pub fn add_mark(
+    sketch: &mut Sketch,
+    scene: &MapScene<'_>,
+    cause: &Cause,
+) -> Result<(), AllocError> {
     if let Mark::Ring(_) = cause.mark
         && let Some(marked) = marked_spot(scene, cause)
     {

@@ -6,23 +6,23 @@ ghost use Rattle.clr_map_marks.specs.Lines.{DrawsKinds, DrawsTwice, is_point, ki
 ghost use Rattle.clr_map_marks.specs.Lines.{with_removed};
 
 use clr_change::ChangeSet;
-use clr_drawing::{GROUND, PAPER, Sketch, View, add_cross, add_shape, middle_of};
-use clr_plan_scenes::Scene;
+use clr_drawing::{GROUND, PAPER, Sketch, Viewport, add_cross, add_shape, middle_of};
+use clr_plan_scenes::MapScene;
 use clr_rows::{Change, Row, Shape};
-use clr_svg::{Colour, Dash, Ink, Pixels, Spot, Step};
+use clr_svg::{Colour, Dash, Ink, PagePoint, PathCommand, Pixels};
 use std::alloc::{AllocError, Global};
 
 /// The lines of a design, by what becomes of them.
 #[derive(Drop)]
 struct Lines {
-    added: Vec<Step>,
-    changed: Vec<Step>,
-    removed: Vec<Step>,
-    crosses: Vec<Spot>,
+    added: Vec<PathCommand>,
+    changed: Vec<PathCommand>,
+    removed: Vec<PathCommand>,
+    crosses: Vec<PagePoint>,
 }
 
 /// Returns how broad the lines of designs are.
-fn mark_width(scene: &Scene<'_>) -> Pixels {
+fn mark_width(scene: &MapScene<'_>) -> Pixels {
     match (scene.detail.is_fine(), scene.changes.is_fine()) {
         (true, true) => Pixels::of_tenths(46),
         (false, true) => Pixels::of_tenths(32),
@@ -41,7 +41,11 @@ fn is_point(shape: &Shape) -> bool
 }
 
 /// Adds a cross in the middle of a shape, where it has one.
-fn add_middle(crosses: &mut Vec<Spot>, view: &View, shape: &Shape) -> Result<(), AllocError>
+fn add_middle(
+    crosses: &mut Vec<PagePoint>,
+    view: &Viewport,
+    shape: &Shape,
+) -> Result<(), AllocError>
     ensures { OnOk result (crosses.new.items ≡ crosses.old.items ++ middle_spots view.now shape.now) }
 {
     if let Some(place) = middle_of(shape) {
@@ -51,7 +55,7 @@ fn add_middle(crosses: &mut Vec<Spot>, view: &View, shape: &Shape) -> Result<(),
 }
 
 /// Adds the lines of a row that goes, with a cross in its middle.
-fn add_removed(lines: &mut Lines, view: &View, row: &Row) -> Result<(), AllocError>
+fn add_removed(lines: &mut Lines, view: &Viewport, row: &Row) -> Result<(), AllocError>
     ensures { OnOk result (kinds_of_lines lines.new ≡ with_removed view.now (kinds_of_lines lines.old) row.now.shape) }
 {
     if is_point(&row.shape) {
@@ -70,8 +74,8 @@ fn are_same(a: &Shape, b: &Shape) -> bool
 
 /// Adds the lines of a shape that a row had, unless it still has it.
 fn add_left(
-    steps: &mut Vec<Step>,
-    view: &View,
+    steps: &mut Vec<PathCommand>,
+    view: &Viewport,
     before: &Shape,
     after: &Shape,
 ) -> Result<(), AllocError>
@@ -84,7 +88,12 @@ fn add_left(
 }
 
 /// Adds the lines of a row that stays in another form.
-fn add_changed(lines: &mut Lines, view: &View, before: &Row, after: &Row) -> Result<(), AllocError>
+fn add_changed(
+    lines: &mut Lines,
+    view: &Viewport,
+    before: &Row,
+    after: &Row,
+) -> Result<(), AllocError>
     ensures { OnOk result (kinds_of_lines lines.new ≡ with_changed view.now (kinds_of_lines lines.old) before.now.shape after.now.shape) }
 {
     add_left(&mut lines.removed, view, &before.shape, &after.shape)?;
@@ -92,7 +101,7 @@ fn add_changed(lines: &mut Lines, view: &View, before: &Row, after: &Row) -> Res
 }
 
 /// Adds the lines of a change.
-fn add_change(lines: &mut Lines, view: &View, change: &Change) -> Result<(), AllocError>
+fn add_change(lines: &mut Lines, view: &Viewport, change: &Change) -> Result<(), AllocError>
     ensures { OnOk result (kinds_of_lines lines.new ≡ with_change view.now (kinds_of_lines lines.old) change.now) }
 {
     match (&change.before, &change.after) {
@@ -104,7 +113,7 @@ fn add_change(lines: &mut Lines, view: &View, change: &Change) -> Result<(), All
 }
 
 /// Returns the lines of a design.
-fn lines_of(alloc: Global, view: &View, set: &ChangeSet) -> Result<Lines, AllocError>
+fn lines_of(alloc: Global, view: &Viewport, set: &ChangeSet) -> Result<Lines, AllocError>
     ensures { IfOk result (λ lines. kinds_of_lines lines ≡ lines_drawn view.now set.now) }
 {
     let mut lines = Lines {
@@ -122,7 +131,7 @@ fn lines_of(alloc: Global, view: &View, set: &ChangeSet) -> Result<Lines, AllocE
 /// Draws a path twice: broad, and narrower over that.
 fn add_twice(
     sketch: &mut Sketch,
-    steps: Vec<Step>,
+    steps: Vec<PathCommand>,
     below: Ink,
     above: Ink,
 ) -> Result<(), AllocError>
@@ -155,7 +164,7 @@ fn add_kinds(
 }
 
 /// Returns how long the dashes of lines that go are, and the gaps between them.
-fn dash_of(scene: &Scene<'_>) -> Dash {
+fn dash_of(scene: &MapScene<'_>) -> Dash {
     if scene.changes.is_fine() {
         Dash {
             dash: Pixels::whole(7),
@@ -172,7 +181,7 @@ fn dash_of(scene: &Scene<'_>) -> Dash {
 /// Draws the lines of a design in a colour, and crosses over those that go where there is room.
 fn add_lines(
     sketch: &mut Sketch,
-    scene: &Scene<'_>,
+    scene: &MapScene<'_>,
     lines: Lines,
     colour: Colour,
 ) -> Result<(), AllocError> {
@@ -188,7 +197,7 @@ fn add_lines(
 }
 
 /// Draws what designs change of lines, those that a cause names last.
-pub fn add_line_marks(sketch: &mut Sketch, scene: &Scene<'_>) -> Result<(), AllocError> {
+pub fn add_line_marks(sketch: &mut Sketch, scene: &MapScene<'_>) -> Result<(), AllocError> {
     let designs = scene.field.designs;
     for at in designs.order().iter().rev() {
         if let Some(set) = designs.changes(*at) {

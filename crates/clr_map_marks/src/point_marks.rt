@@ -9,14 +9,14 @@ ghost use Rattle.clr_map_marks.specs.Points.{DrawsMark, count_at, ink_of, is_at,
 use crate::grounds::sign_of_table;
 use clr_change::ChangeSet;
 use clr_drawing::{GROUND, PAPER, Sign, Sketch, add_cross, add_sign};
-use clr_plan_scenes::Scene;
+use clr_plan_scenes::MapScene;
 use clr_rows::{CellId, Change, Place, Row, Shape};
-use clr_svg::{Colour, Ink, Pixels, Spot};
+use clr_svg::{Colour, Ink, PagePoint, Pixels};
 use std::alloc::AllocError;
 
 /// What becomes of a point: it goes, it moves away, it comes, or it is another row at its place.
 #[derive(Clone, Copy, PartialEq, Eq, PartialOrd, Ord)]
-enum Deed {
+enum PointChange {
     Goes,
     Leaves,
     Comes,
@@ -27,13 +27,13 @@ enum Deed {
 #[derive(Clone, Copy)]
 struct PointMark {
     at: usize,
-    deed: Deed,
+    change: PointChange,
     sign: Sign,
     place: Place,
 }
 
 /// Returns how large the signs of designs are.
-pub fn mark_radius(scene: &Scene<'_>) -> Pixels
+pub fn mark_radius(scene: &MapScene<'_>) -> Pixels
     ensures { result ≡ mark_radius scene.now.changes }
 {
     if scene.changes.is_fine() {
@@ -46,18 +46,18 @@ pub fn mark_radius(scene: &Scene<'_>) -> Pixels
 /// Adds a mark for a row that is a point and is seen.
 fn add_point(
     marks: &mut Vec<PointMark>,
-    scene: &Scene<'_>,
+    scene: &MapScene<'_>,
     at: usize,
     cell: CellId,
     row: &Row,
-    deed: Deed,
+    change: PointChange,
 ) -> Result<(), AllocError> {
     if let Shape::At(place) = &row.shape
         && scene.view.sees(&row.shape)
     {
         marks.push(PointMark {
             at,
-            deed,
+            change,
             sign: sign_of_table(scene.field.schema, cell.table),
             place: *place,
         })?;
@@ -68,19 +68,19 @@ fn add_point(
 /// Adds the marks of a change.
 fn add_change(
     marks: &mut Vec<PointMark>,
-    scene: &Scene<'_>,
+    scene: &MapScene<'_>,
     at: usize,
     cell: CellId,
     change: &Change,
 ) -> Result<(), AllocError> {
     match (&change.before, &change.after) {
-        (None, Some(after)) => add_point(marks, scene, at, cell, after, Deed::Comes),
-        (Some(before), None) => add_point(marks, scene, at, cell, before, Deed::Goes),
+        (None, Some(after)) => add_point(marks, scene, at, cell, after, PointChange::Comes),
+        (Some(before), None) => add_point(marks, scene, at, cell, before, PointChange::Goes),
         (Some(before), Some(after)) => {
             if !before.shape.same(&after.shape) {
-                add_point(marks, scene, at, cell, before, Deed::Leaves)?;
+                add_point(marks, scene, at, cell, before, PointChange::Leaves)?;
             }
-            add_point(marks, scene, at, cell, after, Deed::Changes)
+            add_point(marks, scene, at, cell, after, PointChange::Changes)
         }
         (None, None) => Ok(()),
     }
@@ -88,7 +88,7 @@ fn add_change(
 
 fn add_set(
     marks: &mut Vec<PointMark>,
-    scene: &Scene<'_>,
+    scene: &MapScene<'_>,
     at: usize,
     set: &ChangeSet,
 ) -> Result<(), AllocError> {
@@ -99,14 +99,14 @@ fn add_set(
 }
 
 /// Returns the marks of all designs, those at one place beside one another.
-fn marks_of(scene: &Scene<'_>) -> Result<Vec<PointMark>, AllocError> {
+fn marks_of(scene: &MapScene<'_>) -> Result<Vec<PointMark>, AllocError> {
     let mut marks = Vec::new(scene.field.alloc);
     for at in scene.field.designs.order() {
         if let Some(set) = scene.field.designs.changes(*at) {
             add_set(&mut marks, scene, *at, set)?;
         }
     }
-    marks.sort_by_key(|mark| (mark.place.x, mark.place.y, mark.deed, mark.at))?;
+    marks.sort_by_key(|mark| (mark.place.x, mark.place.y, mark.change, mark.at))?;
     Ok(marks)
 }
 
@@ -144,7 +144,7 @@ fn count_at(set: &ChangeSet, place: Place) -> usize
 }
 
 /// Returns how many points at a place designs change.
-pub fn marks_at(scene: &Scene<'_>, place: Place) -> u32 {
+pub fn marks_at(scene: &MapScene<'_>, place: Place) -> u32 {
     let mut count = 0u32;
     for at in scene.field.designs.order() {
         if let Some(set) = scene.field.designs.changes(*at) {
@@ -171,7 +171,7 @@ fn neighbours(marks: &[PointMark], at: usize, place: Place) -> (i64, i64) {
 }
 
 /// Returns the spot of a mark, beside others at its place.
-fn spot_of(scene: &Scene<'_>, marks: &[PointMark], at: usize, mark: &PointMark) -> Spot {
+fn spot_of(scene: &MapScene<'_>, marks: &[PointMark], at: usize, mark: &PointMark) -> PagePoint {
     let spot = scene.view.spot(mark.place);
     let (before, all) = neighbours(marks, at, mark.place);
     let shift = before
@@ -183,34 +183,34 @@ fn spot_of(scene: &Scene<'_>, marks: &[PointMark], at: usize, mark: &PointMark) 
         .saturating_mul(shift)
         .saturating_mul(115)
         / 100;
-    Spot {
+    PagePoint {
         x: spot.x + Pixels::of_tenths(by),
         y: spot.y,
     }
 }
 
 /// Returns how a sign is filled and drawn: full, hollow, or with dashes.
-fn ink_of(deed: Deed, colour: Colour) -> Ink
-    ensures { result ≡ ink_of deed colour }
+fn ink_of(change: PointChange, colour: Colour) -> Ink
+    ensures { result ≡ ink_of change colour }
 {
-    match deed {
-        Deed::Goes | Deed::Leaves => {
+    match change {
+        PointChange::Goes | PointChange::Leaves => {
             let hollow = Ink::of_line(colour, Pixels::of_tenths(17)).over(GROUND);
             hollow.with_dashes(Pixels::of_tenths(25), Pixels::of_tenths(20))
         }
-        Deed::Comes => Ink::of_line(PAPER, Pixels::of_tenths(15)).over(colour),
-        Deed::Changes => Ink::of_line(colour, Pixels::of_tenths(26)).over(PAPER),
+        PointChange::Comes => Ink::of_line(PAPER, Pixels::of_tenths(15)).over(colour),
+        PointChange::Changes => Ink::of_line(colour, Pixels::of_tenths(26)).over(PAPER),
     }
 }
 
 /// Returns how a small sign is filled and drawn.
-fn small_ink_of(deed: Deed, colour: Colour) -> Ink
-    ensures { result ≡ small_ink_of deed colour }
+fn small_ink_of(change: PointChange, colour: Colour) -> Ink
+    ensures { result ≡ small_ink_of change colour }
 {
-    match deed {
-        Deed::Comes => Ink::of_area(colour),
-        Deed::Changes => Ink::of_line(colour, Pixels::of_tenths(12)).over(PAPER),
-        Deed::Goes | Deed::Leaves => {
+    match change {
+        PointChange::Comes => Ink::of_area(colour),
+        PointChange::Changes => Ink::of_line(colour, Pixels::of_tenths(12)).over(PAPER),
+        PointChange::Goes | PointChange::Leaves => {
             let thin = Ink::of_line(colour, Pixels::of_tenths(12)).over(GROUND);
             thin.with_dashes(Pixels::of_tenths(20), Pixels::of_tenths(15))
         }
@@ -221,19 +221,19 @@ fn small_ink_of(deed: Deed, colour: Colour) -> Ink
 fn add_mark(
     sketch: &mut Sketch,
     mark: &PointMark,
-    spot: Spot,
+    spot: PagePoint,
     radius: Pixels,
     colour: Colour,
 ) -> Result<(), AllocError>
-    ensures { OnOk result (DrawsMark mark.now.deed mark.now.sign spot radius colour sketch.old.elements.items sketch.new.elements.items) }
+    ensures { OnOk result (DrawsMark mark.now.change mark.now.sign spot radius colour sketch.old.elements.items sketch.new.elements.items) }
 {
-    add_sign(sketch, mark.sign, spot, radius, ink_of(mark.deed, colour))?;
-    match mark.deed {
-        Deed::Goes => {
+    add_sign(sketch, mark.sign, spot, radius, ink_of(mark.change, colour))?;
+    match mark.change {
+        PointChange::Goes => {
             let cross = Pixels::of_tenths(radius.tenths.saturating_mul(62) / 100);
             add_cross(sketch, spot, cross, colour, PAPER)
         }
-        Deed::Leaves | Deed::Comes | Deed::Changes => Ok(()),
+        PointChange::Leaves | PointChange::Comes | PointChange::Changes => Ok(()),
     }
 }
 
@@ -241,35 +241,35 @@ fn add_mark(
 fn add_small_mark(
     sketch: &mut Sketch,
     mark: &PointMark,
-    spot: Spot,
+    spot: PagePoint,
     radius: Pixels,
     colour: Colour,
 ) -> Result<(), AllocError>
-    ensures { OnOk result (Draws (IsSign mark.now.sign spot radius (small_ink_of mark.now.deed colour)) sketch.old.elements.items sketch.new.elements.items) }
+    ensures { OnOk result (Draws (IsSign mark.now.sign spot radius (small_ink_of mark.now.change colour)) sketch.old.elements.items sketch.new.elements.items) }
 {
     add_sign(
         sketch,
         mark.sign,
         spot,
         radius,
-        small_ink_of(mark.deed, colour),
+        small_ink_of(mark.change, colour),
     )
 }
 
 /// Returns the square of the page, of the size of a sign, in which a mark stands, and which mark of that
 /// square it is.
-fn square_of(scene: &Scene<'_>, mark: &PointMark) -> (i64, i64, usize, Deed) {
+fn square_of(scene: &MapScene<'_>, mark: &PointMark) -> (i64, i64, usize, PointChange) {
     let side = mark_radius(scene).tenths.saturating_mul(2).max(1);
     let spot = scene.view.spot(mark.place);
     let x = spot.x.tenths.checked_div(side).unwrap_or(0);
     let y = spot.y.tenths.checked_div(side).unwrap_or(0);
-    (x, y, mark.at, mark.deed)
+    (x, y, mark.at, mark.change)
 }
 
-/// Draws one mark for each square of the page, design and deed.
+/// Draws one mark for each square of the page, design and change.
 fn add_small_marks(
     sketch: &mut Sketch,
-    scene: &Scene<'_>,
+    scene: &MapScene<'_>,
     mut marks: Vec<PointMark>,
 ) -> Result<(), AllocError> {
     marks.sort_by_key(|mark| square_of(scene, mark))?;
@@ -292,7 +292,7 @@ fn add_small_marks(
 }
 
 /// Draws what designs change of points. Where there is little room, marks of one kind that are nearer than their size are drawn once.
-pub fn add_point_marks(sketch: &mut Sketch, scene: &Scene<'_>) -> Result<(), AllocError> {
+pub fn add_point_marks(sketch: &mut Sketch, scene: &MapScene<'_>) -> Result<(), AllocError> {
     let marks = marks_of(scene)?;
     if !scene.changes.is_fine() {
         return add_small_marks(sketch, scene, marks);

@@ -18,7 +18,7 @@ use Rattle.clr_workspaces.specs.Operations.{own_changes}
 use Rattle.clr_needs.specs.declared.needs.VersionId.{VersionId}
 use Rattle.clr_needs.specs.Members.{after_in, after_of, positions}
 use Rattle.clr_needs.specs.Settings.{Lived, first_changer, held_row, new_version, old_version, version}
-use Rattle.clr_versions.specs.Versions.{FitsSetting}
+use Rattle.clr_row_versions.specs.Versions.{FitsSetting}
 use Rattle.clr_needs.proofs.Lives.{new_is, old_is}
 use Rattle.clr_steps.specs.Names.{has, is_live}
 use Rattle.clr_steps.specs.Offices.{Office, content_of, current_of, find_name, is_kept, stands, workspace}

@@ -33,17 +33,17 @@ use Rattle.clr_needs.specs.declared.needs.Need.{Need}
 use Rattle.clr_needs.specs.Needs.{ask_of, is_fresh}
 use Rattle.clr_needs.specs.Orders.{need_cmp, version_cmp}
 use Rattle.clr_needs.specs.Settings.{Setting}
-use Rattle.clr_versions.specs.declared.versions.Version.{Version}
-use Rattle.clr_versions.specs.Candidates.{IsNeedAmong, IsNeedOf, IsNeedOfAsk, IsNeedOfPair, are_opposed, may_be_paired}
-use Rattle.clr_versions.specs.Gains.{Gains, IsListedOrPassed, OfSome, Reaches}
+use Rattle.clr_row_versions.specs.declared.versions.Version.{Version}
+use Rattle.clr_row_versions.specs.Candidates.{IsNeedAmong, IsNeedOf, IsNeedOfAsk, IsNeedOfPair, are_opposed, may_be_paired}
+use Rattle.clr_row_versions.specs.Gains.{Gains, IsListedOrPassed, OfSome, Reaches}
 use Rattle.clr_new_pairs.specs.NewPairs.{AreFiledBefore, ArePartsFiled, IsNeedAtPosition, IsNeedOfFiledPart, IsNeedOfItsPart, IsNeedOfParts, IsNeedOfTwo}
 use Rattle.clr_new_pairs.specs.NewPairs.{IsNeedWithBefore, IsNeedWithPart, filed_part, with_part}
 use Rattle.clr_new_pairs.specs.NewPairs.{HasBreakAt, Passes, UpTo, is_past, is_unserved_under}
-use Rattle.clr_versions.specs.Versions.{FitsSetting, row_and_life, row_of}
-use Rattle.clr_versions.proofs.CandidateLaws.{first_counted, first_within, one_cell, opposed_pair, ordered_pair, pair_back, second_counted, second_within}
-use Rattle.clr_versions.proofs.CandidateLaws.{they_call, turned_less, turned_told}
-use Rattle.clr_versions.proofs.Gaining.{gains_as, gains_both, gains_none, reaches_as, reaches_both}
-use Rattle.clr_versions.proofs.CandidateLaws.{both_paired}
+use Rattle.clr_row_versions.specs.Versions.{FitsSetting, row_and_life, row_of}
+use Rattle.clr_row_versions.proofs.CandidateLaws.{first_counted, first_within, one_cell, opposed_pair, ordered_pair, pair_back, second_counted, second_within}
+use Rattle.clr_row_versions.proofs.CandidateLaws.{they_call, turned_less, turned_told}
+use Rattle.clr_row_versions.proofs.Gaining.{gains_as, gains_both, gains_none, reaches_as, reaches_both}
+use Rattle.clr_row_versions.proofs.CandidateLaws.{both_paired}
 
 -- ---- positions
 

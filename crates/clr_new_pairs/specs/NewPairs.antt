@@ -16,9 +16,9 @@ use Rattle.clr_spots.specs.Filing.{Filed, IsFiled, with_filed}
 use Rattle.clr_needs.specs.declared.needs.Need.{Need}
 use Rattle.clr_needs.specs.Needs.{is_fresh}
 use Rattle.clr_needs.specs.Orders.{need_cmp}
-use Rattle.clr_versions.specs.declared.versions.Version.{Version}
-use Rattle.clr_versions.specs.Candidates.{IsNeedBetween, IsNeedOfPair, may_be_paired}
-use Rattle.clr_versions.specs.Versions.{row_of}
+use Rattle.clr_row_versions.specs.declared.versions.Version.{Version}
+use Rattle.clr_row_versions.specs.Candidates.{IsNeedBetween, IsNeedOfPair, may_be_paired}
+use Rattle.clr_row_versions.specs.Versions.{row_of}
 
 -- a need of two versions in one part of each
 abbrev pub IsNeedOfParts : List Rule → ℕ → Version → ℕ → Version → ℕ → Need → Type 0

@@ -3,20 +3,20 @@
 //! two of them breaks and only the least such need is sought, those behind it are left out.
 
 ghost use Rattle.std.specs.Prelude.{◌≡◌, ◌<◌, ◌+◌, ◌-◌, ◌&&◌, ◌==◌, length, slice_get, IfSome, MatchOption, None, Some, OnOk};
-ghost use Rattle.clr_versions.specs.Candidates.{IsNeedAmong, IsNeedOfPair};
-ghost use Rattle.clr_versions.specs.Gains.{Gains, OfSome, Reaches};
+ghost use Rattle.clr_row_versions.specs.Candidates.{IsNeedAmong, IsNeedOfPair};
+ghost use Rattle.clr_row_versions.specs.Gains.{Gains, OfSome, Reaches};
 ghost use Rattle.clr_new_pairs.specs.NewPairs.{AreFiledBefore, IsNeedAtPosition, IsNeedOfFiledPart, IsNeedOfParts, IsNeedOfTwo};
 ghost use Rattle.clr_new_pairs.specs.NewPairs.{HasBreakAt, IsNeedWithBefore, IsNeedWithPart, Passes, UpTo, is_past, with_part};
-ghost use Rattle.clr_versions.specs.RootVersions.{setting_in};
+ghost use Rattle.clr_row_versions.specs.RootVersions.{setting_in};
 ghost use Rattle.clr_needs.specs.Needs.{is_fresh};
-ghost use Rattle.clr_versions.specs.Versions.{AreAt, FitsSetting, IsAt, row_of};
+ghost use Rattle.clr_row_versions.specs.Versions.{AreAt, FitsSetting, IsAt, row_of};
 
 use crate::unserved::is_unserved_by_number;
 use clr_needs::Need;
+use clr_row_versions::{RootVersions, Version, are_opposed, may_be_paired};
 use clr_rows::{CellId, RowView};
 use clr_rules::Ask;
 use clr_spots::{FiledPart, SpotMap, subject_spots};
-use clr_versions::{RootVersions, Version, are_opposed, may_be_paired};
 use std::alloc::{AllocError, Global};
 use std::cmp::Ordering;
 

@@ -19,15 +19,15 @@ use Rattle.clr_check.specs.TextChecks.{IsCheckedVerdict}
 use Rattle.clr_check.specs.declared.cases.CaseFault.{CaseFault}
 use Rattle.clr_check.specs.declared.cases.CaseFault.TheVariants as no_case
 use Rattle.clr_lines.specs.Verdicts.{verdict_text}
-use Rattle.clr_reports.specs.declared.faults.RunFault.{RunFault}
-use Rattle.clr_reports.specs.declared.faults.RunFault.TheVariants as run_fault
-use Rattle.clr_reports.specs.declared.outputs.Output.{Output}
+use Rattle.clr_office_reports.specs.declared.faults.RunFault.{RunFault}
+use Rattle.clr_office_reports.specs.declared.faults.RunFault.TheVariants as run_fault
+use Rattle.clr_office_reports.specs.declared.outputs.Output.{Output}
 use Rattle.clr_office.specs.Clearances.{AreMerged, IsMergeOutcome, IsPrintOfCase, IsVerdictOutcome, fault_print, is_clear, is_without_memory}
 use Rattle.clr_office.specs.Clearances.{merge_text, of_merges, of_verdict as of_verdict_alone, verdict_outcome}
 use Rattle.clr_office.specs.NameHints.{AreHintsOfCase}
-use Rattle.clr_reports.specs.Outcomes.{Outcome, is_refused, outcome_of}
-use Rattle.clr_reports.specs.Printing.{IsOutput, Printed, print_of}
-use Rattle.clr_reports.proofs.Outcomes.{parts_are}
+use Rattle.clr_office_reports.specs.Outcomes.{Outcome, is_refused, outcome_of}
+use Rattle.clr_office_reports.specs.Printing.{IsOutput, Printed, print_of}
+use Rattle.clr_office_reports.proofs.Outcomes.{parts_are}
 use Rattle.clr_office.proofs.Prints.{weaker_made}
 
 -- want of memory may come in place of what is made for any print

@@ -31,10 +31,10 @@ use Rattle.clr_scripts.specs.declared.steps.Word.TheVariants as word
 use Rattle.clr_office.specs.Clearances as clearances
 use Rattle.clr_office.specs.Clearances.{IsMergeOutcome, IsVerdictOutcome, is_without_memory, merge_outcome, of_merges, verdict_outcome}
 use Rattle.clr_office.specs.Outcomes.{IsCommandOutcome, IsOutcome, IsPlanOutcome, IsScriptOutcome}
-use Rattle.clr_reports.specs.Outcomes.{Outcome}
+use Rattle.clr_office_reports.specs.Outcomes.{Outcome}
 use Rattle.clr_office.specs.Outcomes.{command_outcome, first_name, followed_by}
-use Rattle.clr_reports.proofs.Outcomes.{parts_are}
-use Rattle.clr_reports.proofs.OneOutcome.{IsOne, lost_of, one_equal, one_independence}
+use Rattle.clr_office_reports.proofs.Outcomes.{parts_are}
+use Rattle.clr_office_reports.proofs.OneOutcome.{IsOne, lost_of, one_equal, one_independence}
 
 one_command : (o : Office) (c : Command) → IsOne (IsCommandOutcome o c)
 one_command o c all other one two found found_other =

@@ -7,7 +7,7 @@ use Rattle.clr_engine.specs.Drafts.{unheld_in}
 use Rattle.clr_cert.specs.declared.certificates.Certificate.{Certificate}
 use Rattle.clr_merge_sets.specs.MergeSetNames.{merge_set}
 use Rattle.clr_check.specs.Cases.{Case, case_of}
-use Rattle.clr_drafts.specs.Drafts.{draft_in}
+use Rattle.clr_office_texts.specs.Drafts.{draft_in}
 use Rattle.clr_rule_text.specs.declared.faults.TextFault.{TextFault}
 use Rattle.clr_command_line.specs.declared.asks.Ask.{Ask}
 use Rattle.clr_command_line.specs.declared.asks.Ask.TheVariants as ask
@@ -17,13 +17,13 @@ use Rattle.clr_scripts.specs.Scripts.{script_in_text}
 use Rattle.clr_office.specs.Answers.{IsAnswerIf, IsAnswerWithin, IsPlanPrint, is_too_long}
 use Rattle.clr_office.specs.Clearances.{IsMergeOutcome, IsPrintOfCase, IsVerdictOutcome}
 use Rattle.clr_office.specs.OneSession.{FoundMemory, OneAnswerLaw, OneSessionLaw}
-use Rattle.clr_reports.specs.Outcomes.{Outcome}
+use Rattle.clr_office_reports.specs.Outcomes.{Outcome}
 use Rattle.clr_office.specs.Scripts.{ArePrinted, IsScriptPrint}
-use Rattle.clr_reports.specs.Printing.{IsPrintIn, IsPrintOf, IsPrintWhereHeld, Printed, print_of, status_of}
-use Rattle.clr_devices.specs.Separator.{around_separator}
+use Rattle.clr_office_reports.specs.Printing.{IsPrintIn, IsPrintOf, IsPrintWhereHeld, Printed, print_of, status_of}
+use Rattle.clr_streams.specs.Separator.{around_separator}
 use Rattle.clr_office.specs.Session.{IsSessionOf}
 use Rattle.clr_office.proofs.OneOutcome.{one_check, one_merge, one_planned, one_script}
-use Rattle.clr_reports.proofs.OneOutcome.{IsOne}
+use Rattle.clr_office_reports.proofs.OneOutcome.{IsOne}
 
 -- two prints in which memory was found are one
 abbrev IsOnePrint : (Printed → Type 0) → Type 0

@@ -7,11 +7,11 @@ use Rattle.std.proofs.lemmas.List.{append-nil, drop_all}
 use Rattle.clr_steps.specs.Offices.{Office}
 use Rattle.clr_scripts.specs.declared.faults.RecordFault.{RecordFault}
 use Rattle.clr_scripts.specs.declared.steps.Step.{Step}
-use Rattle.clr_reports.specs.declared.outputs.Output.{Output}
+use Rattle.clr_office_reports.specs.declared.outputs.Output.{Output}
 use Rattle.clr_office.specs.Outcomes.{nothing, followed_by, IsOutcome, IsScriptOutcome}
-use Rattle.clr_reports.specs.Outcomes.{Outcome, outcome, outcome_of}
+use Rattle.clr_office_reports.specs.Outcomes.{Outcome, outcome, outcome_of}
 use Rattle.clr_office.specs.Scripts.{ArePrinted}
-use Rattle.clr_reports.specs.Printing.{IsOutput, print_of}
+use Rattle.clr_office_reports.specs.Printing.{IsOutput, print_of}
 
 -- whatever the rest prints makes with this the whole
 abbrev pub Leads : Office → List Step → Outcome → List Step → Type 0

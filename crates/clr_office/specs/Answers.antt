@@ -8,17 +8,17 @@ use Rattle.clr_steps.specs.Quiet.{MergeSet}
 use Rattle.clr_merge_sets.specs.MergeSetNames.{merge_set}
 use Rattle.clr_lines.specs.Reports.{audit_text}
 use Rattle.clr_check.specs.Cases.{case_of}
-use Rattle.clr_drafts.specs.Drafts.{draft_in}
+use Rattle.clr_office_texts.specs.Drafts.{draft_in}
 use Rattle.clr_rule_text.specs.declared.faults.TextFault.{TextFault}
 use Rattle.clr_command_line.specs.declared.asks.Ask.{Ask}
 use Rattle.clr_command_line.specs.declared.asks.Ask.TheVariants as ask
 use Rattle.clr_office.specs.Outcomes.{IsPlanOutcome}
 use Rattle.clr_office.specs.Scripts.{IsScriptPrint}
-use Rattle.clr_reports.specs.Printing.{Printed, print_of, IsPrintIn, IsPrintOf, IsTextFault}
+use Rattle.clr_office_reports.specs.Printing.{Printed, print_of, IsPrintIn, IsPrintOf, IsTextFault}
 use Rattle.clr_office.specs.Clearances.{IsCheckPrint, IsMergePrint}
-use Rattle.clr_reports.specs.declared.faults.RunFault.{RunFault}
-use Rattle.clr_reports.specs.declared.faults.RunFault.TheVariants as run_fault
-use Rattle.clr_reports.specs.declared.reading.TheConstants.{MOST_INPUT_BYTES}
+use Rattle.clr_office_reports.specs.declared.faults.RunFault.{RunFault}
+use Rattle.clr_office_reports.specs.declared.faults.RunFault.TheVariants as run_fault
+use Rattle.clr_office_reports.specs.declared.reading.TheConstants.{MOST_INPUT_BYTES}
 
 -- the needs of LIVE that no row serves, and whether there are any, also where a rule doesn't hold
 abbrev pub audit_print : Office → Printed

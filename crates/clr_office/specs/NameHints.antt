@@ -1,6 +1,6 @@
 -- Hints at names that no workspace has: at each, the name of a workspace that may be meant by it.
 use Rattle.std.specs.Prelude.{◌≡◌, ◌≢◌, ◌++◌, ◌⊎◌, ℕ, false, List, [], ◌∷◌, Option, None, Some, Result, Ok, Err, codes, map}
-use Rattle.clr_devices.specs.Shown.{shown}
+use Rattle.clr_streams.specs.Shown.{shown}
 use Rattle.clr_rows.specs.Names.{live_name}
 use Rattle.clr_workspaces.specs.Marks.{Name}
 use Rattle.clr_steps.specs.Offices.{Office}
@@ -9,7 +9,7 @@ use Rattle.clr_hints.specs.Names.{IsNearest}
 use Rattle.clr_rules.specs.declared.needs.Broken.{Broken}
 use Rattle.clr_engine.specs.Drafts.{unheld_in}
 use Rattle.clr_rule_text.specs.declared.faults.TextFault.{TextFault}
-use Rattle.clr_drafts.specs.Drafts.{draft_in}
+use Rattle.clr_office_texts.specs.Drafts.{draft_in}
 use Rattle.clr_check.specs.Cases.{Case, case_of}
 use Rattle.clr_command_line.specs.declared.asks.Ask.{Ask}
 use Rattle.clr_command_line.specs.declared.asks.Ask.TheVariants as ask

@@ -2,7 +2,7 @@
 use Rattle.std.specs.Prelude.{◌≡◌, ◌≢◌, ℕ, List, Ok, Err}
 use Rattle.clr_command_line.specs.declared.asks.Ask.{Ask}
 use Rattle.clr_office.specs.Answers.{IsAnswerTo}
-use Rattle.clr_reports.specs.Printing.{Printed}
+use Rattle.clr_office_reports.specs.Printing.{Printed}
 use Rattle.clr_office.specs.Session.{IsSession}
 
 -- no command, plan or verdict found no memory: the status isn't the one that says so

@@ -5,11 +5,11 @@ ghost use Rattle.std.specs.Io.KnownBytes.{Appends};
 ghost use Rattle.clr_check.specs.Cases.{case_of};
 ghost use Rattle.clr_merge_sets.specs.MergeSetNames.{merge_set};
 ghost use Rattle.clr_command_line.specs.declared.asks.Ask.TheVariants as ask;
-ghost use Rattle.clr_drafts.specs.Drafts.{draft_in};
+ghost use Rattle.clr_office_texts.specs.Drafts.{draft_in};
 ghost use Rattle.clr_office.specs.Answers.{IsPrintedAnswer, IsAnswerTo, IsAnswerWithin, IsPlanPrint, audit_of, audit_print};
 ghost use Rattle.clr_office.specs.NameHints.{AreHintsIn, AreHintsOfCase, AreHintsTo};
-ghost use Rattle.clr_reports.specs.Printing.{IsOutput, IsPrintIn, print_of};
-ghost use Rattle.clr_reports.specs.declared.faults.RunFault.TheVariants as run_fault;
+ghost use Rattle.clr_office_reports.specs.Printing.{IsOutput, IsPrintIn, print_of};
+ghost use Rattle.clr_office_reports.specs.declared.faults.RunFault.TheVariants as run_fault;
 
 use crate::certificates::{check_output, fault_output};
 use crate::disposals::Disposal;
@@ -20,11 +20,11 @@ use crate::run_script::run_text;
 use clr_audit::audit;
 use clr_check::read_case;
 use clr_command_line::Ask;
-use clr_devices::Sink;
 use clr_engine::Draft;
 use clr_lines::audit_lines;
-use clr_reports::{MOST_INPUT_BYTES, Output, RunFault, draft_of, open_office};
+use clr_office_reports::{MOST_INPUT_BYTES, Output, RunFault, draft_of, open_office};
 use clr_rows::{LIVE, Words};
+use clr_streams::Sink;
 use std::alloc::{AllocError, Global};
 
 /// Returns the lines of an audit of LIVE, where rules may be broken.

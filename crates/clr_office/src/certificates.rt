@@ -3,13 +3,13 @@ ghost use Rattle.std.specs.Prelude.{◌≡◌, not, IfOk};
 ghost use Rattle.clr_check.specs.Cases.{case_of};
 ghost use Rattle.clr_lines.specs.Verdicts.{verdict_text};
 ghost use Rattle.clr_office.specs.Clearances.{IsCheckPrint, fault_print, is_clear as is_clear_verdict, is_without_memory as is_lost_verdict};
-ghost use Rattle.clr_reports.specs.Printing.{IsOutput};
+ghost use Rattle.clr_office_reports.specs.Printing.{IsOutput};
 
 use crate::disposals::Disposal;
 use clr_cert::Certificate;
 use clr_check::{CaseFault, Verdict, judge_texts};
 use clr_lines::verdict_line;
-use clr_reports::{Output, RunFault, texts_of_names, unheld_output};
+use clr_office_reports::{Output, RunFault, texts_of_names, unheld_output};
 use clr_rows::Schema;
 use std::alloc::{AllocError, Global};
 

@@ -39,10 +39,10 @@
 //!   known how much was.
 //! - For other programs: the lines of parts, `verdict_output`, `fault_output`, `replies_output` and
 //!   `stop_output`, by which what such a program prints is the same, and `merge_commands`. What is
-//!   printed of an office without its plans is in `clr_reports`, of which `open_office`, `dump_text`,
+//!   printed of an office without its plans is in `clr_office_reports`, of which `open_office`, `dump_text`,
 //!   `texts_of_names`, `read_input`, `Output` and `RunFault` are handed on.
 //! - `Source`, `Sink`, `Text`, `Page` and `Port`, what a run reads from and writes to, are those of
-//!   `clr_devices`.
+//!   `clr_streams`.
 #![tactic(auto)]
 
 mod answers;
@@ -61,16 +61,16 @@ pub use clr_cert::{CertFault, Certificate, Entries, Entry};
 pub use clr_check::{Checked, check_texts};
 pub use clr_clearance::Verdict;
 pub use clr_command_line::{Ask, AskFault, ask_of};
-pub use clr_devices::{DeviceFault, Page, Port, Sink, Source, Text};
-pub use clr_drafts::TextFault;
 pub use clr_needs::{Need, VersionId};
-pub use clr_plan::Plan;
-pub use clr_reports::{
+pub use clr_office_reports::{
     MOST_INPUT_BYTES, Output, RunFault, dump_text, open_office, read_input, texts_of_names,
 };
+pub use clr_office_texts::TextFault;
+pub use clr_plan::Plan;
 pub use clr_rows::{CellId, Names, Words};
 pub use clr_rules::Broken;
 pub use clr_scripts::RecordFault;
+pub use clr_streams::{DeviceFault, Page, Port, Sink, Source, Text};
 pub use disposals::Disposal;
 pub use laws::inputs_have_one_session;
 pub use merges::{merge_commands, replies_output, stop_output};

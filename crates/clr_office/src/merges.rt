@@ -5,14 +5,14 @@ ghost use Rattle.clr_steps.specs.Steps.{is_lost};
 ghost use Rattle.clr_clearance.specs.Plans.{merges};
 ghost use Rattle.clr_lines.specs.Replies.{reply_text};
 ghost use Rattle.clr_office.specs.Clearances.{IsMergeOutcome, merge_text, stop_text};
-ghost use Rattle.clr_reports.specs.Outcomes.{is_refused, outcome_of};
+ghost use Rattle.clr_office_reports.specs.Outcomes.{is_refused, outcome_of};
 
 use crate::certificates::verdict_output;
 use clr_cert::Certificate;
 use clr_check::{ClearedRun, perform_cleared};
 use clr_engine::Office;
 use clr_lines::count_line;
-use clr_reports::{Output, dump_text, reply_output};
+use clr_office_reports::{Output, dump_text, reply_output};
 use clr_rows::{Schema, Words};
 use clr_steps::{Command, Reply};
 use std::alloc::{AllocError, Global};

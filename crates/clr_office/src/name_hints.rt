@@ -2,10 +2,10 @@
 ghost use Rattle.std.specs.Prelude.{◌≡◌, ◌∷◌, map, option_map, IfOk, OnOk};
 ghost use Rattle.clr_office.specs.NameHints.{AddsHint, AreNameHints, IsMeant, hint_text, workspace_names};
 
-use clr_devices::show_on_one_line;
 use clr_engine::Office;
 use clr_hints::nearest;
 use clr_rows::{LIVE, Words};
+use clr_streams::show_on_one_line;
 use std::alloc::{AllocError, Global};
 
 /// Returns the names of all workspaces, that of LIVE first.

@@ -2,11 +2,11 @@
 ghost use Rattle.std.specs.Prelude.{IfOk};
 ghost use Rattle.clr_merge_sets.specs.MergeSetNames.{merge_set};
 ghost use Rattle.clr_office.specs.Outcomes.{IsPlanOutcome};
-ghost use Rattle.clr_reports.specs.Outcomes.{outcome_of};
+ghost use Rattle.clr_office_reports.specs.Outcomes.{outcome_of};
 
 use clr_engine::Office;
+use clr_office_reports::{Output, texts_of_names};
 use clr_plan::{plan, plan_lines};
-use clr_reports::{Output, texts_of_names};
 use clr_rows::Words;
 use std::alloc::{AllocError, Global};
 

@@ -2,13 +2,13 @@
 ghost use Rattle.std.specs.Prelude.{◌≡◌, drop, Ok, IfOk, IfErr};
 ghost use Rattle.clr_scripts.specs.Scripts.{script_in_text};
 ghost use Rattle.clr_office.specs.Outcomes.{IsCommandOutcome, IsOutcome, IsScriptOutcome, first_name as first_of_names};
-ghost use Rattle.clr_reports.specs.Outcomes.{outcome_of};
+ghost use Rattle.clr_office_reports.specs.Outcomes.{outcome_of};
 ghost use Rattle.clr_office.specs.Scripts.{IsScriptFault, IsScriptPrint};
-ghost use Rattle.clr_reports.specs.Printing.{IsOutput};
+ghost use Rattle.clr_office_reports.specs.Printing.{IsOutput};
 
 use crate::plans::plan_output;
 use clr_engine::Office;
-use clr_reports::{
+use clr_office_reports::{
     Output, RunFault, audit_output, changes_output, conflicts_output, dump_output,
     independence_output, reply_output, rows_output, workspaces_output,
 };

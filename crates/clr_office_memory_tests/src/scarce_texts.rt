@@ -6,9 +6,9 @@ use crate::settings::setting_of;
 use clr_call_test_kit::{Hoard, first_wrong_while_scarce, refusals};
 use clr_cert::{read_certificate, write_certificate};
 use clr_check::{Checked, Verdict, check_texts};
-use clr_drafts::write_office;
 use clr_engine::Office;
 use clr_office_test_kit::{certificate_of, office_after};
+use clr_office_texts::write_office;
 use std::alloc::Global;
 use std::test::Fail;
 

@@ -1,8 +1,8 @@
 //! Commands of which some were answered by want of memory: the lost ones.
 
 use crate::offices::reply_lines;
-use clr_drafts::write_office;
 use clr_engine::{Command, Office, Reply};
+use clr_office_texts::write_office;
 use std::alloc::Global;
 
 /// Returns whether two offices have the same text; none where no memory is found for the texts.

@@ -1,9 +1,9 @@
 //! Offices of texts, and what is performed in them.
 
 use crate::networks::network;
-use clr_drafts::read_office;
 use clr_engine::{Command, Office, Reply};
 use clr_lines::{reply_line, rows_lines};
+use clr_office_texts::read_office;
 use clr_rows::Schema;
 use clr_scripts::{Step, read_script};
 use std::alloc::Global;

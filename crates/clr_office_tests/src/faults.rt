@@ -2,7 +2,7 @@
 
 use clr_cert::CertFault;
 use clr_office::RunFault;
-use clr_office_text::TextFault;
+use clr_office_reading::TextFault;
 use clr_scripts::RecordFault;
 use std::test::Fail;
 

@@ -4,8 +4,8 @@
 use crate::merge_sets::merge_set_text;
 use clr_call_test_kit::{Hoard, Memory};
 use clr_engine::Office;
+use clr_office_reports::independence_lines;
 use clr_office_test_kit::{office_after, picture};
-use clr_reports::independence_lines;
 use std::alloc::Global;
 use std::test::Fail;
 

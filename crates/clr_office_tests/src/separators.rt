@@ -1,7 +1,7 @@
 //! Where the separator stands between an office text and a script.
 
 use clr_office::{Disposal, Page, RunFault, Text, run_office};
-use clr_office_text::TextFault;
+use clr_office_reading::TextFault;
 use clr_scripts::RecordFault;
 use std::alloc::Global;
 use std::test::Fail;

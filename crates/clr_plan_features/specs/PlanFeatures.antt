@@ -16,7 +16,7 @@ use Rattle.clr_plan.specs.declared.plans.Plan.TheVariants as plan
 use Rattle.clr_geojson.specs.declared.features.Feature.{Feature}
 use Rattle.clr_geojson.specs.Collections.{collection_text}
 use Rattle.clr_geojson.specs.Properties.{flag_property, number_property, text_property}
-use Rattle.clr_plan_features.specs.declared.places.Spot.{Spot}
+use Rattle.clr_plan_features.specs.declared.places.CausePlace.{CausePlace}
 use Rattle.clr_plan_features.specs.ChangeFeatures.{changed_features, standing_features}
 
 -- what a cause names -------------------------------------------------------------------------
@@ -43,16 +43,16 @@ is_blocked _ = false
 
 -- where the cause is -------------------------------------------------------------------------
 
-unfoldable pub spot_feature : Spot → Feature
+unfoldable pub spot_feature : CausePlace → Feature
 spot_feature spot = record {
   properties =
       text_property (codes "table") [] ∷ number_property (codes "key") (pos 0) ∷ text_property (codes "workspace") []
-      ∷ text_property (codes "what") (codes "site")
+      ∷ text_property (codes "what") (codes "place")
       ∷ flag_property (codes "cause") true ∷ text_property (codes "says") spot.says ∷ [];
   shape = At spot.place;
 }
 
-abbrev pub spot_features : Option Spot → List Feature
+abbrev pub spot_features : Option CausePlace → List Feature
 spot_features None = []
 spot_features (Some spot) = spot_feature spot ∷ []
 
@@ -63,7 +63,7 @@ abbrev pub rows_of_root : Office → Name → Content
 rows_of_root o root = unwrap_or (if_stands o root (content_of o root)) no_rows
 
 -- what stands and isn't changed, what each member changes, and the place of the cause, if it has one
-abbrev pub plan_features : Office → MergeSet → Plan → Option Spot → List Feature
+abbrev pub plan_features : Office → MergeSet → Plan → Option CausePlace → List Feature
 plan_features o s p spot =
     standing_features o.schema (cause_cells p) s.root (change_sets o s) (rows_of_root o s.root)
     ++ changed_features o.schema (cause_cells p) s.members (change_sets o s) ++ spot_features spot
@@ -71,4 +71,4 @@ plan_features o s p spot =
 -- the text of these features; a plan that blocks nothing has no place of a cause
 abbrev pub AreFeatures : Office → MergeSet → Plan → Option ℕ → List ℕ → Type 0
 AreFeatures o s p system text =
-    (spot : Option Spot) × (is_some spot ≡ true → is_blocked p ≡ true) × (text ≡ collection_text system (plan_features o s p spot))
+    (spot : Option CausePlace) × (is_some spot ≡ true → is_blocked p ≡ true) × (text ≡ collection_text system (plan_features o s p spot))

@@ -14,7 +14,7 @@ use std::alloc::{AllocError, Global};
 
 /// Where a cause is, and the few words that a map says there.
 #[derive(Drop)]
-pub(crate) struct Spot {
+pub(crate) struct CausePlace {
     pub place: Place,
     pub says: Words,
 }
@@ -56,7 +56,7 @@ fn spot_of_cause(
     names: &[&str],
     rows: &Sheet,
     plan: &Plan,
-) -> Result<Option<Spot>, AllocError> {
+) -> Result<Option<CausePlace>, AllocError> {
     let designs = Designs::read(alloc, office, root, names, &[])?;
     let field = Field {
         alloc,
@@ -72,7 +72,7 @@ fn spot_of_cause(
     let Some(place) = marked_place(&cause) else {
         return Ok(None);
     };
-    Ok(Some(Spot {
+    Ok(Some(CausePlace {
         place,
         says: Words::new(cause.says),
     }))
@@ -86,7 +86,7 @@ pub(crate) fn spot_of(
     names: &[&str],
     rows: &Sheet,
     plan: &Plan,
-) -> Result<Option<Spot>, AllocError>
+) -> Result<Option<CausePlace>, AllocError>
     ensures { IfOk result (λ spot. is_some spot ≡ true → is_blocked plan.now ≡ true) }
 {
     match plan {
@@ -97,14 +97,14 @@ pub(crate) fn spot_of(
 
 /// Returns the feature of a place.
 #[tactic(auto, unfolding(crate::specs::PlanFeatures::spot_feature))]
-fn spot_feature(alloc: Global, spot: &Spot) -> Result<Feature, AllocError>
+fn spot_feature(alloc: Global, spot: &CausePlace) -> Result<Feature, AllocError>
     ensures { IfOk result (λ feature. feature ≡ spot_feature spot.now) }
 {
     let mut list = Vec::new(alloc);
     list.push(Property::text(alloc, "table", "")?)?;
     list.push(Property::number(alloc, "key", 0)?)?;
     list.push(Property::text(alloc, "workspace", "")?)?;
-    list.push(Property::text(alloc, "what", "site")?)?;
+    list.push(Property::text(alloc, "what", "place")?)?;
     list.push(Property::flag(alloc, "cause", true)?)?;
     list.push(Property::text(alloc, "says", spot.says.as_str())?)?;
     Ok(Feature {
@@ -117,7 +117,7 @@ fn spot_feature(alloc: Global, spot: &Spot) -> Result<Feature, AllocError>
 pub(crate) fn add_spot(
     alloc: Global,
     text: &mut Vec<u8>,
-    spot: &Option<Spot>,
+    spot: &Option<CausePlace>,
 ) -> Result<(), AllocError>
     ensures { OnOk result (text.new.items ≡ text.old.items ++ flat_map line_with_comma (spot_features spot.now)) }
 {

@@ -9,7 +9,7 @@ use Rattle.clr_svg.specs.declared.elements.Element.{Element}
 use Rattle.clr_svg.specs.declared.elements.Element.TheVariants.{Words}
 use Rattle.clr_svg.specs.declared.elements.Label.{Label}
 use Rattle.clr_svg.specs.declared.pages.Layer.{Layer}
-use Rattle.clr_svg.specs.declared.pages.Page.{Page}
+use Rattle.clr_svg.specs.declared.pages.SvgPage.{SvgPage}
 use Rattle.clr_svg.specs.Pages.{page_text}
 
 -- the word for what a plan says
@@ -28,7 +28,7 @@ abbrev pub ShowsOver : List Layer → List ℕ → Type 0
 ShowsOver layers words = (below : List Layer) × (over : Layer) × (layers ≡ below ++ over ∷ []) × ShowsFirst over.elements.items words
 
 -- a page whose title begins with the word for the plan, which it shows too, and whose description ends with the plan's lines
-pub record IsMapPage (tables : List TableDef) (members : List Name) (root : Name) (p : Plan) (page : Page) : Type 0 where
+pub record IsMapPage (tables : List TableDef) (members : List Name) (root : Name) (p : Plan) (page : SvgPage) : Type 0 where
   pub names : List ℕ
   pub sentence : List ℕ
   pub title : page.title.items ≡ plan_word p ++ codes ": " ++ names
@@ -37,4 +37,4 @@ pub record IsMapPage (tables : List TableDef) (members : List Name) (root : Name
 
 -- the text of such a page
 abbrev pub IsMap : List TableDef → List Name → Name → Plan → List ℕ → Type 0
-IsMap tables members root p text = (page : Page) × IsMapPage tables members root p page × (text ≡ page_text page)
+IsMap tables members root p text = (page : SvgPage) × IsMapPage tables members root p page × (text ≡ page_text page)

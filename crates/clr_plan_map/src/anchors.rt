@@ -3,9 +3,9 @@
 use crate::chips::distance;
 use clr_drawing::samples;
 use clr_map_marks::Marked;
-use clr_plan_scenes::Scene;
+use clr_plan_scenes::MapScene;
 use clr_rows::Row;
-use clr_svg::Spot;
+use clr_svg::PagePoint;
 use std::alloc::AllocError;
 
 /// How far apart the spots of a row are at which labels may point or which they should leave free, in tenths of a pixel.
@@ -18,7 +18,10 @@ const MOST_SPOTS: usize = 24;
 const TOO_NEAR: i64 = 340;
 
 /// Returns at most a few of these spots, evenly.
-pub(crate) fn some_of(scene: &Scene<'_>, spots: &[Spot]) -> Result<Vec<Spot>, AllocError> {
+pub(crate) fn some_of(
+    scene: &MapScene<'_>,
+    spots: &[PagePoint],
+) -> Result<Vec<PagePoint>, AllocError> {
     let every = (spots.len() / MOST_SPOTS).saturating_add(1);
     let mut some = Vec::new(scene.field.alloc);
     for (number, spot) in spots.iter().enumerate() {
@@ -32,10 +35,10 @@ pub(crate) fn some_of(scene: &Scene<'_>, spots: &[Spot]) -> Result<Vec<Spot>, Al
 /// Returns the spots of a row at which its label may point: those that aren't near the place of the cause, if there
 /// are any.
 pub(crate) fn anchors_of(
-    scene: &Scene<'_>,
+    scene: &MapScene<'_>,
     row: &Row,
     marked: Option<Marked>,
-) -> Result<Vec<Spot>, AllocError> {
+) -> Result<Vec<PagePoint>, AllocError> {
     let spots = samples(scene.field.alloc, &scene.view, &row.shape, APART)?;
     let mut far = Vec::new(scene.field.alloc);
     if let Some(marked) = marked {

@@ -4,12 +4,16 @@ use crate::anchors::APART;
 use clr_change::ChangeSet;
 use clr_drawing::{Labels, samples};
 use clr_map_frames::{frames_of, has_frames};
-use clr_plan_scenes::Scene;
+use clr_plan_scenes::MapScene;
 use clr_rows::Row;
 use std::alloc::AllocError;
 
 /// Notes the spots of a row that labels should leave free.
-fn avoid_row(labels: &mut Labels, scene: &Scene<'_>, row: Option<&Row>) -> Result<(), AllocError> {
+fn avoid_row(
+    labels: &mut Labels,
+    scene: &MapScene<'_>,
+    row: Option<&Row>,
+) -> Result<(), AllocError> {
     let Some(row) = row else {
         return Ok(());
     };
@@ -20,7 +24,7 @@ fn avoid_row(labels: &mut Labels, scene: &Scene<'_>, row: Option<&Row>) -> Resul
 }
 
 /// Notes the spots of what a design changes.
-fn avoid_set(labels: &mut Labels, scene: &Scene<'_>, set: &ChangeSet) -> Result<(), AllocError> {
+fn avoid_set(labels: &mut Labels, scene: &MapScene<'_>, set: &ChangeSet) -> Result<(), AllocError> {
     for (_, change) in set.iter() {
         avoid_row(labels, scene, change.before.as_ref())?;
         avoid_row(labels, scene, change.after.as_ref())?;
@@ -29,7 +33,7 @@ fn avoid_set(labels: &mut Labels, scene: &Scene<'_>, set: &ChangeSet) -> Result<
 }
 
 /// Notes the spots that labels should leave free, if the map has room enough for it to matter.
-pub(crate) fn avoid_rows(labels: &mut Labels, scene: &Scene<'_>) -> Result<(), AllocError> {
+pub(crate) fn avoid_rows(labels: &mut Labels, scene: &MapScene<'_>) -> Result<(), AllocError> {
     if scene.detail.is_fine() {
         for (_, row) in scene.field.rows.iter() {
             avoid_row(labels, scene, Some(row))?;
@@ -46,7 +50,7 @@ pub(crate) fn avoid_rows(labels: &mut Labels, scene: &Scene<'_>) -> Result<(), A
 }
 
 /// Takes the area of a frame's outline, if it is drawn.
-pub(crate) fn take_frames(labels: &mut Labels, scene: &Scene<'_>) -> Result<(), AllocError> {
+pub(crate) fn take_frames(labels: &mut Labels, scene: &MapScene<'_>) -> Result<(), AllocError> {
     if !has_frames(scene) {
         return Ok(());
     }

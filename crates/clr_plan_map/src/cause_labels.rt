@@ -4,12 +4,12 @@ use crate::anchors::anchors_of;
 use crate::chips::{Look, add_label};
 use clr_drawing::{Area, Labels, SOFT, Sketch};
 use clr_map_marks::{Marked, marked_spot};
-use clr_plan_scenes::{Cause, CauseRow, Scene};
+use clr_plan_scenes::{Cause, CauseRow, MapScene};
 use clr_svg::{Colour, Pixels};
 use std::alloc::AllocError;
 
 /// Returns a row as a label names it: its table, its key, and the design that has it.
-fn row_words(scene: &Scene<'_>, row: &CauseRow) -> Result<String, AllocError> {
+fn row_words(scene: &MapScene<'_>, row: &CauseRow) -> Result<String, AllocError> {
     let table = scene.field.schema.name_of_table(row.cell.table);
     let key = row.cell.key;
     match row.owner {
@@ -25,7 +25,7 @@ fn row_words(scene: &Scene<'_>, row: &CauseRow) -> Result<String, AllocError> {
 fn add_row_labels(
     sketch: &mut Sketch,
     labels: &mut Labels,
-    scene: &Scene<'_>,
+    scene: &MapScene<'_>,
     rows: &[CauseRow],
     marked: Option<Marked>,
 ) -> Result<(), AllocError> {
@@ -53,7 +53,7 @@ fn add_row_labels(
 pub(crate) fn add_cause_labels(
     sketch: &mut Sketch,
     labels: &mut Labels,
-    scene: &Scene<'_>,
+    scene: &MapScene<'_>,
     cause: &Cause,
 ) -> Result<(), AllocError> {
     let marked = marked_spot(scene, cause);

@@ -1,7 +1,7 @@
 //! Labels: words on a small ground, with a line to the spot that they stand for.
 
 use clr_drawing::{ALARM, Area, Labels, PAPER, Placed, Sketch, words_width};
-use clr_svg::{Anchor, Colour, Ink, Pixels, Spot, Weight};
+use clr_svg::{Anchor, Colour, Ink, PagePoint, Pixels, Weight};
 use std::alloc::AllocError;
 
 /// How far a label keeps from others.
@@ -51,24 +51,29 @@ impl Look {
 }
 
 /// Returns how far two spots are apart, along the axis in which they are farther.
-pub(crate) fn distance(from: Spot, to: Spot) -> i64 {
+pub(crate) fn distance(from: PagePoint, to: PagePoint) -> i64 {
     let across = (to.x - from.x).tenths.saturating_abs();
     across.max((to.y - from.y).tenths.saturating_abs())
 }
 
 /// Returns the spot that is this far from one spot on the way to another.
-fn spot_towards(from: Spot, to: Spot, reach: Pixels) -> Spot {
+fn spot_towards(from: PagePoint, to: PagePoint, reach: Pixels) -> PagePoint {
     let whole = distance(from, to);
     let x = (to.x - from.x).tenths.saturating_mul(reach.tenths);
     let y = (to.y - from.y).tenths.saturating_mul(reach.tenths);
-    Spot {
+    PagePoint {
         x: from.x + Pixels::of_tenths(x.checked_div(whole).unwrap_or(0)),
         y: from.y + Pixels::of_tenths(y.checked_div(whole).unwrap_or(0)),
     }
 }
 
 /// Draws the line from a label to the spot that it stands for, unless the label stands there.
-fn add_leader(sketch: &mut Sketch, area: Area, anchor: Spot, look: Look) -> Result<(), AllocError> {
+fn add_leader(
+    sketch: &mut Sketch,
+    area: Area,
+    anchor: PagePoint,
+    look: Look,
+) -> Result<(), AllocError> {
     let start = area.grow(Pixels::whole(-4)).nearest(anchor);
     if distance(start, anchor) <= (look.reach + Pixels::whole(6)).tenths {
         return Ok(());
@@ -95,7 +100,7 @@ fn add_chip(
     let outline = Ink::of_line(look.colour, Pixels::of_tenths(14)).over(ground);
     sketch.add_area(area, Pixels::whole(5), outline)?;
     let middle = area.middle();
-    let at = Spot {
+    let at = PagePoint {
         x: middle.x,
         y: middle.y + Pixels::of_tenths(look.size.tenths.saturating_mul(36) / 100),
     };
@@ -106,7 +111,7 @@ fn add_chip(
 pub(crate) fn add_label(
     sketch: &mut Sketch,
     labels: &mut Labels,
-    anchors: &[Spot],
+    anchors: &[PagePoint],
     words: &str,
     look: Look,
     gap: Pixels,

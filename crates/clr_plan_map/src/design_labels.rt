@@ -4,13 +4,13 @@ use crate::anchors::{APART, some_of};
 use crate::chips::{Look, add_label};
 use clr_drawing::{Area, Labels, Sketch, samples};
 use clr_map_frames::{frames_of, has_frames, largest};
-use clr_plan_scenes::Scene;
+use clr_plan_scenes::MapScene;
 use clr_rows::Row;
-use clr_svg::{Pixels, Spot};
+use clr_svg::{PagePoint, Pixels};
 use std::alloc::AllocError;
 
 /// Returns the spots round a frame at which the name of its design may stand.
-fn anchors_round(scene: &Scene<'_>, frame: Area) -> Result<Vec<Spot>, AllocError> {
+fn anchors_round(scene: &MapScene<'_>, frame: Area) -> Result<Vec<PagePoint>, AllocError> {
     let middle = frame.middle();
     let mut anchors = Vec::new(scene.field.alloc);
     for (x, y) in [
@@ -19,15 +19,15 @@ fn anchors_round(scene: &Scene<'_>, frame: Area) -> Result<Vec<Spot>, AllocError
         (frame.right, middle.y),
         (frame.left, middle.y),
     ] {
-        anchors.push(Spot { x, y })?;
+        anchors.push(PagePoint { x, y })?;
     }
     Ok(anchors)
 }
 
 /// Adds the spots of what a design changes.
 fn add_spots(
-    spots: &mut Vec<Spot>,
-    scene: &Scene<'_>,
+    spots: &mut Vec<PagePoint>,
+    scene: &MapScene<'_>,
     row: Option<&Row>,
 ) -> Result<(), AllocError> {
     if let Some(row) = row {
@@ -38,7 +38,7 @@ fn add_spots(
 }
 
 /// Returns the spots at which the name of a design may point.
-fn anchors_of_design(scene: &Scene<'_>, at: usize) -> Result<Vec<Spot>, AllocError> {
+fn anchors_of_design(scene: &MapScene<'_>, at: usize) -> Result<Vec<PagePoint>, AllocError> {
     if has_frames(scene) {
         return match largest(frames_of(scene, at)?.as_slice()) {
             Some(frame) => anchors_round(scene, frame),
@@ -59,7 +59,7 @@ fn anchors_of_design(scene: &Scene<'_>, at: usize) -> Result<Vec<Spot>, AllocErr
 pub(crate) fn add_design_labels(
     sketch: &mut Sketch,
     labels: &mut Labels,
-    scene: &Scene<'_>,
+    scene: &MapScene<'_>,
 ) -> Result<(), AllocError> {
     let gap = Pixels::whole(if has_frames(scene) { 6 } else { 14 });
     for at in scene.field.designs.order() {

@@ -7,14 +7,14 @@ use crate::witness_labels::add_witness_labels;
 use clr_drawing::{Labels, Sketch};
 use clr_map_frames::area_of_scale;
 use clr_plan::Plan;
-use clr_plan_scenes::Scene;
+use clr_plan_scenes::MapScene;
 use clr_svg::Pixels;
 use std::alloc::AllocError;
 
 /// Draws the labels of a plan.
 pub(crate) fn add_labels(
     sketch: &mut Sketch,
-    scene: &Scene<'_>,
+    scene: &MapScene<'_>,
     plan: &Plan,
 ) -> Result<(), AllocError> {
     let mut labels = Labels::new(scene.field.alloc, scene.frame().grow(Pixels::whole(-4)));

@@ -14,9 +14,9 @@ use clr_map_frames::{
 };
 use clr_map_marks::{add_haloes, add_line_marks, add_lines, add_mark, add_point_marks, add_signs};
 use clr_plan::Plan;
-use clr_plan_scenes::{Cause, Designs, FOOT, Field, PAGE_WIDTH, Scene, cause_of};
+use clr_plan_scenes::{Cause, Designs, FOOT, Field, MapScene, PAGE_WIDTH, cause_of};
 use clr_rows::{Schema, Sheet};
-use clr_svg::{Ink, Layer, Page, Pixels, Spot, write_page};
+use clr_svg::{Ink, Layer, PagePoint, Pixels, SvgPage, write_page};
 use std::alloc::{AllocError, Global};
 
 /// What is drawn of a plan beside its verdict.
@@ -29,9 +29,9 @@ struct Drawn {
 }
 
 /// Returns the sheet of the page, and the ground of the map.
-fn paper(scene: &Scene<'_>, height: Pixels) -> Result<Layer, AllocError> {
+fn paper(scene: &MapScene<'_>, height: Pixels) -> Result<Layer, AllocError> {
     let mut sketch = Sketch::new(scene.field.alloc);
-    let corner = Spot {
+    let corner = PagePoint {
         x: Pixels::ZERO,
         y: Pixels::ZERO,
     };
@@ -47,7 +47,7 @@ fn paper(scene: &Scene<'_>, height: Pixels) -> Result<Layer, AllocError> {
 }
 
 /// Returns what is seen through the window of the map.
-fn inner_layer(scene: &Scene<'_>) -> Result<Layer, AllocError> {
+fn inner_layer(scene: &MapScene<'_>) -> Result<Layer, AllocError> {
     let mut sketch = Sketch::new(scene.field.alloc);
     if has_frames(scene) {
         add_grounds(&mut sketch, scene)?;
@@ -71,7 +71,7 @@ fn inner_layer(scene: &Scene<'_>) -> Result<Layer, AllocError> {
 
 /// Returns what stands over the map and round it, and below the legend, which goes this far down.
 fn outer_layer(
-    scene: &Scene<'_>,
+    scene: &MapScene<'_>,
     plan: &Plan,
     names: &str,
     sentence: &str,
@@ -87,7 +87,7 @@ fn outer_layer(
 
 /// Returns what is drawn of a plan with this cause, if it has one.
 fn drawn_with(field: Field<'_>, plan: &Plan, cause: Option<&Cause>) -> Result<Drawn, AllocError> {
-    let scene = Scene::new(field, cause);
+    let scene = MapScene::new(field, cause);
     let height = scene.frame().bottom + FOOT;
     let names = names_text(field)?;
     let sentence = plan_sentence(field, plan)?;
@@ -164,14 +164,14 @@ fn page_of(
     members: &[&str],
     plan: &Plan,
     drawn: Drawn,
-) -> Result<Page, AllocError>
+) -> Result<SvgPage, AllocError>
     ensures { IfOk result (IsMapPage schema.now (map (λ name. name.now) members.now) root.now plan.now) }
 {
     let title = title_of(alloc, plan, drawn.names.as_str())?;
     let sentence = drawn.sentence.as_str();
     let description = description_of(alloc, schema, members, root, plan, sentence)?;
     let layers = with_verdict(alloc, plan, drawn.layers)?;
-    Ok(Page {
+    Ok(SvgPage {
         width: PAGE_WIDTH,
         height: drawn.height,
         title,

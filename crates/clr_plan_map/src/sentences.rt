@@ -3,10 +3,10 @@
 use clr_cert::Certificate;
 use clr_clearance::Verdict;
 use clr_needs::Need;
+use clr_phrases::rule_sentence;
 use clr_plan::Plan;
 use clr_plan_scenes::Field;
-use clr_plan_words::{Setting, answer_words, rule_of};
-use clr_wording::rule_sentence;
+use clr_plan_sentences::{Setting, answer_words, rule_of};
 use std::alloc::{AllocError, Global};
 
 /// Returns what sentences are made of.

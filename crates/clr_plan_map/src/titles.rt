@@ -9,7 +9,7 @@ use clr_map_frames::VERDICT_SIZE;
 use clr_plan::{Plan, plan_lines};
 use clr_plan_scenes::LEFT;
 use clr_rows::Schema;
-use clr_svg::{Anchor, Colour, Element, Label, Layer, Pixels, Spot, Weight};
+use clr_svg::{Anchor, Colour, Element, Label, Layer, PagePoint, Pixels, Weight};
 use std::alloc::{AllocError, Global};
 
 /// Returns the word for what a plan says: that its members are cleared, that they aren't, that they weren't looked at, or that memory ran out.
@@ -39,7 +39,7 @@ fn verdict_label(alloc: Global, plan: &Plan) -> Result<Label, AllocError>
 {
     let words = String::from_str(alloc, plan_word(plan))?;
     Ok(Label {
-        at: Spot {
+        at: PagePoint {
             x: LEFT,
             y: Pixels::whole(46),
         },

@@ -5,7 +5,7 @@ use crate::chips::{Look, add_label};
 use clr_cert::Entry;
 use clr_drawing::{Labels, SOFT, Sketch};
 use clr_plan::Plan;
-use clr_plan_scenes::Scene;
+use clr_plan_scenes::MapScene;
 use clr_rows::CellId;
 use clr_svg::Pixels;
 use std::alloc::AllocError;
@@ -14,14 +14,14 @@ use std::alloc::AllocError;
 const MOST_ENTRIES: usize = 12;
 
 /// Returns a cell as a label names it.
-fn cell_words(scene: &Scene<'_>, cell: CellId) -> Result<String, AllocError> {
+fn cell_words(scene: &MapScene<'_>, cell: CellId) -> Result<String, AllocError> {
     let table = scene.field.schema.name_of_table(cell.table);
     let key = cell.key;
     format!(in scene.field.alloc; "{table} {key}")
 }
 
 /// Returns who serves a need, and until when.
-fn witness_words(scene: &Scene<'_>, entry: &Entry) -> Result<String, AllocError> {
+fn witness_words(scene: &MapScene<'_>, entry: &Entry) -> Result<String, AllocError> {
     let mut words = cell_words(scene, entry.one.cell)?;
     if let Some(two) = entry.two {
         words.push_str(", then ")?;
@@ -35,7 +35,7 @@ fn witness_words(scene: &Scene<'_>, entry: &Entry) -> Result<String, AllocError>
 fn add_witness_label(
     sketch: &mut Sketch,
     labels: &mut Labels,
-    scene: &Scene<'_>,
+    scene: &MapScene<'_>,
     entry: &Entry,
 ) -> Result<(), AllocError> {
     let field = scene.field;
@@ -70,7 +70,7 @@ fn is_repeated(entries: &[Entry], at: usize, entry: &Entry) -> bool {
 pub(crate) fn add_witness_labels(
     sketch: &mut Sketch,
     labels: &mut Labels,
-    scene: &Scene<'_>,
+    scene: &MapScene<'_>,
     plan: &Plan,
 ) -> Result<(), AllocError> {
     let Plan::Cleared(certificate) = plan else {

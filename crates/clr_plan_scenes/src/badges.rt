@@ -5,9 +5,9 @@ ghost use Rattle.std.specs.List.{flat_map};
 ghost use Rattle.clr_plan_scenes.specs.Badges.{badge_words, column_name, is_between, same_words, server_words};
 
 use crate::causes::Mark;
+use clr_phrases::Metres;
 use clr_rows::Schema;
 use clr_rules::{Col, Rule};
-use clr_wording::Metres;
 use std::alloc::{AllocError, Global};
 
 /// Returns whether a ring marks a place where no row can stand.

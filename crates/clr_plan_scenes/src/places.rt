@@ -2,17 +2,17 @@
 
 ghost use Rattle.std.specs.Prelude.{◌≡◌};
 ghost use Rattle.clr_steps.specs.Quiet.{MergeSet};
-ghost use Rattle.clr_plan_words.specs.Versions.{AreMembers};
+ghost use Rattle.clr_plan_sentences.specs.Versions.{AreMembers};
 ghost use Rattle.clr_plan_scenes.specs.Causes.{IsMeetingPlace, IsNear, IsNeedPlace, middle_of_first};
 
 use crate::causes::CauseRow;
 use crate::fields::Field;
 use clr_drawing::middle_of;
 use clr_needs::Need;
-use clr_plan_words::need_place;
+use clr_phrases::Meeting;
+use clr_plan_sentences::need_place;
 use clr_rows::Place;
 use clr_segments::part;
-use clr_wording::Meeting;
 
 /// Where a cause is.
 #[derive(Clone, Copy)]

@@ -16,7 +16,7 @@ use clr_segments::Bounds;
 /// What a map shows: the rows with their designs, the cause if there is one, the box of everything, the view, and how much detail there is
 /// room for in the rows of the root, and in these and the changes together.
 #[derive(Clone, Copy)]
-pub struct Scene<'a> {
+pub struct MapScene<'a> {
     pub field: Field<'a>,
     pub cause: Option<&'a Cause>,
     pub whole: Bounds,
@@ -85,16 +85,16 @@ fn view_of_plan(
     view_of(world_of_changes(whole, changed.unwrap_or(whole)), least)
 }
 
-impl<'a> Scene<'a> {
+impl<'a> MapScene<'a> {
     /// Returns the scene of a plan with this cause, if it has one: it shows what is round the cause, or else round the changes, and all where
     /// that isn't much more.
-    pub fn new(field: Field<'a>, cause: Option<&'a Cause>) -> Scene<'a> {
+    pub fn new(field: Field<'a>, cause: Option<&'a Cause>) -> MapScene<'a> {
         let changed = extent_of_changes(field.designs);
         let whole = extent_of_everything(field.rows, changed);
         let view = view_of_plan(field.designs, cause, whole, changed);
         let rows = seen_rows(field.rows, &view);
         let all = rows.saturating_add(seen_changes(field.designs, &view));
-        Scene {
+        MapScene {
             field,
             cause,
             whole,

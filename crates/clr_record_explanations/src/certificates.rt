@@ -17,7 +17,7 @@ use std::alloc::{AllocError, Global};
 
 /// The fault of a certificate, the number of its record, counted from 1 without blank lines, and what is said of it.
 #[derive(Debug, Drop)]
-pub struct CertificateFault {
+pub struct ExplainedCertificateFault {
     pub fault: CertFault,
     pub number: usize,
     pub remark: Remark,
@@ -51,7 +51,7 @@ pub fn explain_certificate(
     alloc: Global,
     schema: &Schema,
     text: &[u8],
-) -> Result<Option<CertificateFault>, AllocError>
+) -> Result<Option<ExplainedCertificateFault>, AllocError>
     ensures none { IfOk result (λ found. IfNone found (IsOk (certificate_in schema.now text.now))) }
     ensures told { IfOk result (λ found. IfSome found (λ f. certificate_in schema.now text.now ≡ Err (f.number, f.fault))) }
     ensures at { IfOk result (λ found. IfSome found (λ f. IsRecordRemark text.now f.number f.remark)) }
@@ -59,7 +59,7 @@ pub fn explain_certificate(
     match find_certificate_fault(alloc, schema, text)? {
         Some(found) => {
             let remark = remark_on(alloc, schema, text, &found)?;
-            Ok(Some(CertificateFault {
+            Ok(Some(ExplainedCertificateFault {
                 fault: found.fault,
                 number: found.record,
                 remark,

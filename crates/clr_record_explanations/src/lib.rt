@@ -16,6 +16,6 @@ mod scripts;
 mod steps;
 mod tables;
 
-pub use certificates::{CertificateFault, explain_certificate};
+pub use certificates::{ExplainedCertificateFault, explain_certificate};
 pub use fault_words::{certificate_fault_words, script_fault_words};
-pub use scripts::{ScriptFault, explain_script};
+pub use scripts::{ExplainedScriptFault, explain_script};

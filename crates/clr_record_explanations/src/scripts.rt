@@ -20,7 +20,7 @@ use std::alloc::{AllocError, Global};
 
 /// The fault of a script, the number of its record, counted from 1 without blank lines, and what is said of it.
 #[derive(Debug, Drop)]
-pub struct ScriptFault {
+pub struct ExplainedScriptFault {
     pub fault: RecordFault,
     pub number: usize,
     pub remark: Remark,
@@ -69,7 +69,7 @@ pub fn explain_script(
     alloc: Global,
     schema: &Schema,
     text: &[u8],
-) -> Result<Option<ScriptFault>, AllocError>
+) -> Result<Option<ExplainedScriptFault>, AllocError>
     ensures none { IfOk result (λ found. IfNone found (IsOk (script_in_text schema.now text.now))) }
     ensures told { IfOk result (λ found. IfSome found (λ f. script_in_text schema.now text.now ≡ Err (f.number, f.fault))) }
     ensures at { IfOk result (λ found. IfSome found (λ f. IsRecordRemark text.now f.number f.remark)) }
@@ -77,7 +77,7 @@ pub fn explain_script(
     match find_script_fault(alloc, schema, text)? {
         Some(found) => {
             let remark = remark_on(alloc, schema, text, &found)?;
-            Ok(Some(ScriptFault {
+            Ok(Some(ExplainedScriptFault {
                 fault: found.fault,
                 number: found.record,
                 remark,

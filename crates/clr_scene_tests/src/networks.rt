@@ -1,7 +1,7 @@
 //! Offices of texts: nodes, mains and hydrants, and what members change there.
 
-use clr_drafts::read_office;
 use clr_engine::Office;
+use clr_office_texts::read_office;
 use std::alloc::{AllocError, Global};
 use std::test::Fail;
 

@@ -6,9 +6,9 @@ use Rattle.clr_svg.specs.declared.elements.Anchor.TheVariants.{Start, Middle, En
 use Rattle.clr_svg.specs.declared.elements.Element.{Element}
 use Rattle.clr_svg.specs.declared.elements.Element.TheVariants.{Path, Circle, Rectangle, Words}
 use Rattle.clr_svg.specs.declared.elements.Label.{Label}
-use Rattle.clr_svg.specs.declared.elements.Spot.{Spot}
-use Rattle.clr_svg.specs.declared.elements.Step.{Step}
-use Rattle.clr_svg.specs.declared.elements.Step.TheVariants.{Begin, Line, Close}
+use Rattle.clr_svg.specs.declared.elements.PagePoint.{PagePoint}
+use Rattle.clr_svg.specs.declared.elements.PathCommand.{PathCommand}
+use Rattle.clr_svg.specs.declared.elements.PathCommand.TheVariants.{Begin, Line, Close}
 use Rattle.clr_svg.specs.declared.elements.Weight.{Weight}
 use Rattle.clr_svg.specs.declared.elements.Weight.TheVariants.{Plain, Strong}
 use Rattle.clr_svg.specs.declared.inks.Ink.{Ink}
@@ -17,28 +17,28 @@ use Rattle.clr_svg.specs.Escapes.{escaped}
 use Rattle.clr_svg.specs.Inks.{fill_text, ink_text}
 use Rattle.clr_svg.specs.Numbers.{attribute, pixels_text, spot_text}
 
-abbrev pub step_text : Step → List ℕ
+abbrev pub step_text : PathCommand → List ℕ
 step_text (Begin s) = codes "M" ++ spot_text s
 step_text (Line s) = codes "L" ++ spot_text s
 step_text Close = codes "Z"
 
-unfoldable pub steps_text : List Step → List ℕ
+unfoldable pub steps_text : List PathCommand → List ℕ
 steps_text steps = flat_map step_text steps
 
 -- an element without content, on a line of its own
 abbrev pub empty_element : List ℕ → List ℕ → List ℕ
 empty_element name attributes = codes "<" ++ name ++ attributes ++ codes "/>\n"
 
-abbrev pub path_text : List Step → Ink → List ℕ
+abbrev pub path_text : List PathCommand → Ink → List ℕ
 path_text steps ink = empty_element (codes "path") (attribute (codes "d") (steps_text steps) ++ ink_text ink)
 
-abbrev pub circle_text : Spot → Pixels → Ink → List ℕ
+abbrev pub circle_text : PagePoint → Pixels → Ink → List ℕ
 circle_text middle radius ink =
     empty_element (codes "circle")
     (attribute (codes "cx") (pixels_text middle.x) ++ attribute (codes "cy") (pixels_text middle.y) ++ attribute (codes "r") (pixels_text radius)
     ++ ink_text ink)
 
-abbrev pub rectangle_text : Spot → Pixels → Pixels → Pixels → Ink → List ℕ
+abbrev pub rectangle_text : PagePoint → Pixels → Pixels → Pixels → Ink → List ℕ
 rectangle_text corner width height radius ink =
     empty_element (codes "rect")
     (attribute (codes "x") (pixels_text corner.x) ++ attribute (codes "y") (pixels_text corner.y) ++ attribute (codes "width") (pixels_text width)

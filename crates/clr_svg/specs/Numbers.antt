@@ -3,7 +3,7 @@ use Rattle.std.specs.Prelude.{ℕ, ℤ, List, [], ◌∷◌, ◌++◌, ◌+◌, 
 use Rattle.std.specs.Fmt.{decimal}
 use Rattle.std.specs.Int.{is_negative}
 use Rattle.clr_svg.specs.declared.colours.Colour.{Colour}
-use Rattle.clr_svg.specs.declared.elements.Spot.{Spot}
+use Rattle.clr_svg.specs.declared.elements.PagePoint.{PagePoint}
 use Rattle.clr_svg.specs.declared.pixels.Pixels.{Pixels}
 
 abbrev pub sign_text : ℤ → List ℕ
@@ -20,7 +20,7 @@ pixels_text p = sign_text p.tenths ++ decimal (unsigned_abs p.tenths / 10) ++ te
 unfoldable pub pair_text : Pixels → Pixels → List ℕ
 pair_text p q = pixels_text p ++ codes " " ++ pixels_text q
 
-abbrev pub spot_text : Spot → List ℕ
+abbrev pub spot_text : PagePoint → List ℕ
 spot_text s = pair_text s.x s.y
 
 abbrev pub hex_digit : ℕ → ℕ

@@ -2,9 +2,9 @@
 use Rattle.std.specs.Prelude.{ℕ, List, ◌++◌, codes, Option, Some, None}
 use Rattle.std.specs.List.{flat_map}
 use Rattle.clr_svg.specs.declared.elements.Element.{Element}
-use Rattle.clr_svg.specs.declared.elements.Spot.{Spot}
+use Rattle.clr_svg.specs.declared.elements.PagePoint.{PagePoint}
 use Rattle.clr_svg.specs.declared.pages.Layer.{Layer}
-use Rattle.clr_svg.specs.declared.pages.Page.{Page}
+use Rattle.clr_svg.specs.declared.pages.SvgPage.{SvgPage}
 use Rattle.clr_svg.specs.declared.pages.Window.{Window}
 use Rattle.clr_svg.specs.declared.pixels.Pixels.{Pixels}
 use Rattle.clr_svg.specs.Elements.{element_text}
@@ -15,11 +15,11 @@ abbrev pub elements_text : List Element → List ℕ
 elements_text elements = flat_map element_text elements
 
 -- a rectangle by its corner and its size
-unfoldable pub box_text : Spot → Pixels → Pixels → List ℕ
+unfoldable pub box_text : PagePoint → Pixels → Pixels → List ℕ
 box_text corner width height = spot_text corner ++ codes " " ++ pair_text width height
 
 -- a size, and the rectangle of this size at a spot as what is shown
-unfoldable pub size_text : Spot → Pixels → Pixels → List ℕ
+unfoldable pub size_text : PagePoint → Pixels → Pixels → List ℕ
 size_text corner width height =
     attribute (codes "width") (pixels_text width) ++ attribute (codes "height") (pixels_text height)
     ++ attribute (codes "viewBox") (box_text corner width height)
@@ -63,11 +63,11 @@ unfoldable pub letters_text : List ℕ
 letters_text = attribute (codes "font-family") (codes "Inter, Segoe UI, Arial, DejaVu Sans, sans-serif")
 
 -- the title is escaped
-unfoldable pub title_text : Page → List ℕ
+unfoldable pub title_text : SvgPage → List ℕ
 title_text page = codes "<title>" ++ escaped page.title.items ++ codes "</title>\n"
 
 -- the description is escaped
-unfoldable pub description_text : Page → List ℕ
+unfoldable pub description_text : SvgPage → List ℕ
 description_text page = codes "<desc>" ++ escaped page.description.items ++ codes "</desc>\n"
 
 -- the beginning of the one element that a page is
@@ -75,9 +75,9 @@ unfoldable pub opening_text : Pixels → Pixels → List ℕ
 opening_text width height = codes "<svg" ++ namespace_text ++ page_size_text width height ++ ends_text ++ letters_text ++ codes ">\n"
 
 -- what stands before the layers
-unfoldable pub head_text : Page → List ℕ
+unfoldable pub head_text : SvgPage → List ℕ
 head_text page = opening_text page.width page.height ++ title_text page ++ description_text page
 
 -- a page is one element, with a title, a description and its layers
-unfoldable pub page_text : Page → List ℕ
+unfoldable pub page_text : SvgPage → List ℕ
 page_text page = head_text page ++ layers_text page.layers.items ++ codes "</svg>\n"

@@ -14,18 +14,18 @@ use std::alloc::AllocError;
 
 /// A point of a page: its distance from the left edge and from the top.
 #[derive(Clone, Copy, PartialEq, Eq)]
-pub struct Spot {
+pub struct PagePoint {
     pub x: Pixels,
     pub y: Pixels,
 }
 
 /// A step of a path.
 #[derive(Clone, Copy)]
-pub enum Step {
+pub enum PathCommand {
     /// A new figure begins at this spot.
-    Begin(Spot),
+    Begin(PagePoint),
     /// A straight line leads to this spot.
-    Line(Spot),
+    Line(PagePoint),
     /// A straight line leads back to where the figure began.
     Close,
 }
@@ -48,7 +48,7 @@ pub enum Weight {
 /// A line of text, in UTF-8.
 #[derive(Drop)]
 pub struct Label {
-    pub at: Spot,
+    pub at: PagePoint,
     pub anchor: Anchor,
     pub size: Pixels,
     pub weight: Weight,
@@ -60,17 +60,17 @@ pub struct Label {
 #[derive(Drop)]
 pub enum Element {
     Path {
-        steps: Vec<Step>,
+        steps: Vec<PathCommand>,
         ink: Ink,
     },
     Circle {
-        middle: Spot,
+        middle: PagePoint,
         radius: Pixels,
         ink: Ink,
     },
     /// A rectangle by its upper left corner, with corners of this radius.
     Rectangle {
-        corner: Spot,
+        corner: PagePoint,
         width: Pixels,
         height: Pixels,
         radius: Pixels,
@@ -79,24 +79,24 @@ pub enum Element {
     Words(Label),
 }
 
-fn add_step(text: &mut Vec<u8>, step: Step) -> Result<(), AllocError>
+fn add_step(text: &mut Vec<u8>, step: PathCommand) -> Result<(), AllocError>
     ensures { OnOk result (text.new.items ≡ text.old.items ++ step_text step) }
 {
     match step {
-        Step::Begin(spot) => {
+        PathCommand::Begin(spot) => {
             text.extend_from_slice(b"M")?;
             add_pair(text, spot.x, spot.y)
         }
-        Step::Line(spot) => {
+        PathCommand::Line(spot) => {
             text.extend_from_slice(b"L")?;
             add_pair(text, spot.x, spot.y)
         }
-        Step::Close => text.extend_from_slice(b"Z"),
+        PathCommand::Close => text.extend_from_slice(b"Z"),
     }
 }
 
 #[tactic(auto, unfolding(crate::specs::Elements::steps_text))]
-fn add_steps(text: &mut Vec<u8>, steps: &[Step]) -> Result<(), AllocError>
+fn add_steps(text: &mut Vec<u8>, steps: &[PathCommand]) -> Result<(), AllocError>
     ensures { OnOk result (text.new.items ≡ text.old.items ++ steps_text steps.now) }
 {
     for step in steps {
@@ -107,7 +107,7 @@ fn add_steps(text: &mut Vec<u8>, steps: &[Step]) -> Result<(), AllocError>
 
 /// Adds the attribute of steps.
 #[tactic(auto, unfolding(crate::specs::Numbers::attribute))]
-fn add_route(text: &mut Vec<u8>, steps: &[Step]) -> Result<(), AllocError>
+fn add_route(text: &mut Vec<u8>, steps: &[PathCommand]) -> Result<(), AllocError>
     ensures { OnOk result (text.new.items ≡ text.old.items ++ attribute (codes "d") (steps_text steps.now)) }
 {
     text.extend_from_slice(b" d=\"")?;
@@ -115,7 +115,7 @@ fn add_route(text: &mut Vec<u8>, steps: &[Step]) -> Result<(), AllocError>
     text.extend_from_slice(b"\"")
 }
 
-fn add_path(text: &mut Vec<u8>, steps: &[Step], ink: &Ink) -> Result<(), AllocError>
+fn add_path(text: &mut Vec<u8>, steps: &[PathCommand], ink: &Ink) -> Result<(), AllocError>
     ensures { OnOk result (text.new.items ≡ text.old.items ++ path_text steps.now ink.now) }
 {
     text.extend_from_slice(b"<path")?;
@@ -124,7 +124,12 @@ fn add_path(text: &mut Vec<u8>, steps: &[Step], ink: &Ink) -> Result<(), AllocEr
     text.extend_from_slice(b"/>\n")
 }
 
-fn add_circle(text: &mut Vec<u8>, middle: Spot, radius: Pixels, ink: &Ink) -> Result<(), AllocError>
+fn add_circle(
+    text: &mut Vec<u8>,
+    middle: PagePoint,
+    radius: Pixels,
+    ink: &Ink,
+) -> Result<(), AllocError>
     ensures { OnOk result (text.new.items ≡ text.old.items ++ circle_text middle radius ink.now) }
 {
     text.extend_from_slice(b"<circle")?;
@@ -137,7 +142,7 @@ fn add_circle(text: &mut Vec<u8>, middle: Spot, radius: Pixels, ink: &Ink) -> Re
 
 fn add_rectangle(
     text: &mut Vec<u8>,
-    corner: Spot,
+    corner: PagePoint,
     width: Pixels,
     height: Pixels,
     radius: Pixels,

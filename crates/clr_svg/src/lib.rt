@@ -19,9 +19,9 @@ mod pages;
 mod pixels;
 
 pub use colours::{Colour, add_colour};
-pub use elements::{Anchor, Element, Label, Spot, Step, Weight};
+pub use elements::{Anchor, Element, Label, PagePoint, PathCommand, Weight};
 pub use escapes::add_escaped;
 pub use inks::{Dash, Ink, Stroke};
 pub use laws::escaped_texts_are_harmless;
-pub use pages::{Layer, Page, Window, write_page};
+pub use pages::{Layer, SvgPage, Window, write_page};
 pub use pixels::Pixels;

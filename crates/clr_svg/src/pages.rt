@@ -6,7 +6,7 @@ ghost use Rattle.clr_svg.specs.Pages.{box_text, description_text, elements_text,
 ghost use Rattle.clr_svg.specs.Pages.{layers_text, letters_text, namespace_text, opening_text, page_size_text};
 ghost use Rattle.clr_svg.specs.Pages.{page_text, size_text, title_text, whole_text, window_text};
 
-use crate::elements::{Element, Spot, add_element};
+use crate::elements::{Element, PagePoint, add_element};
 use crate::escapes::add_escaped;
 use crate::numbers::{add_length, add_pair, add_word};
 use crate::pixels::Pixels;
@@ -15,7 +15,7 @@ use std::alloc::{AllocError, Global};
 /// A rectangle of a page, by its upper left corner, beyond which nothing of a layer is seen.
 #[derive(Clone, Copy)]
 pub struct Window {
-    pub corner: Spot,
+    pub corner: PagePoint,
     pub width: Pixels,
     pub height: Pixels,
 }
@@ -29,7 +29,7 @@ pub struct Layer {
 
 /// A page: its size, its title and its description in UTF-8, and its layers, the later ones over the earlier ones.
 #[derive(Drop)]
-pub struct Page {
+pub struct SvgPage {
     pub width: Pixels,
     pub height: Pixels,
     pub title: Vec<u8>,
@@ -49,7 +49,7 @@ fn add_elements(text: &mut Vec<u8>, elements: &[Element]) -> Result<(), AllocErr
 #[tactic(auto, unfolding(crate::specs::Pages::box_text))]
 fn add_box(
     text: &mut Vec<u8>,
-    corner: Spot,
+    corner: PagePoint,
     width: Pixels,
     height: Pixels,
 ) -> Result<(), AllocError>
@@ -64,7 +64,7 @@ fn add_box(
 #[tactic(auto, unfolding(crate::specs::Numbers::attribute))]
 fn add_view(
     text: &mut Vec<u8>,
-    corner: Spot,
+    corner: PagePoint,
     width: Pixels,
     height: Pixels,
 ) -> Result<(), AllocError>
@@ -79,7 +79,7 @@ fn add_view(
 #[tactic(auto, unfolding(crate::specs::Pages::size_text))]
 fn add_size(
     text: &mut Vec<u8>,
-    corner: Spot,
+    corner: PagePoint,
     width: Pixels,
     height: Pixels,
 ) -> Result<(), AllocError>
@@ -143,7 +143,7 @@ fn add_letters(text: &mut Vec<u8>) -> Result<(), AllocError>
 
 /// Adds the title of a page.
 #[tactic(auto, unfolding(crate::specs::Pages::title_text))]
-fn add_title(text: &mut Vec<u8>, page: &Page) -> Result<(), AllocError>
+fn add_title(text: &mut Vec<u8>, page: &SvgPage) -> Result<(), AllocError>
     ensures { OnOk result (text.new.items ≡ text.old.items ++ title_text page.now) }
 {
     text.extend_from_slice(b"<title>")?;
@@ -153,7 +153,7 @@ fn add_title(text: &mut Vec<u8>, page: &Page) -> Result<(), AllocError>
 
 /// Adds the description of a page.
 #[tactic(auto, unfolding(crate::specs::Pages::description_text))]
-fn add_description(text: &mut Vec<u8>, page: &Page) -> Result<(), AllocError>
+fn add_description(text: &mut Vec<u8>, page: &SvgPage) -> Result<(), AllocError>
     ensures { OnOk result (text.new.items ≡ text.old.items ++ description_text page.now) }
 {
     text.extend_from_slice(b"<desc>")?;
@@ -212,7 +212,7 @@ fn add_opening(text: &mut Vec<u8>, width: Pixels, height: Pixels) -> Result<(), 
 
 /// Adds what stands before the layers of a page.
 #[tactic(auto, unfolding(crate::specs::Pages::head_text))]
-fn add_head(text: &mut Vec<u8>, page: &Page) -> Result<(), AllocError>
+fn add_head(text: &mut Vec<u8>, page: &SvgPage) -> Result<(), AllocError>
     ensures { OnOk result (text.new.items ≡ text.old.items ++ head_text page.now) }
 {
     add_opening(text, page.width, page.height)?;
@@ -222,7 +222,7 @@ fn add_head(text: &mut Vec<u8>, page: &Page) -> Result<(), AllocError>
 
 /// Returns the text of a page, which is SVG 1.1.
 #[tactic(auto, unfolding(crate::specs::Pages::page_text))]
-pub fn write_page(alloc: Global, page: &Page) -> Result<Vec<u8>, AllocError>
+pub fn write_page(alloc: Global, page: &SvgPage) -> Result<Vec<u8>, AllocError>
     ensures written { IfOk result (λ text. text.items ≡ page_text page.now) }
 {
     let mut text = Vec::new(alloc);

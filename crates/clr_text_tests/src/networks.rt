@@ -1,6 +1,6 @@
 //! A network, by its tables.
 
-use clr_office_text::read_office;
+use clr_office_reading::read_office;
 use clr_rows::Schema;
 use std::alloc::Global;
 

@@ -28,6 +28,6 @@ mod tree;
 pub use clr_change::{ChangeSet, Edit, EditFault, Edits, first_conflict, stage};
 pub use clr_contents::View;
 pub use clr_deltas::{DeltaView, StoredPart};
-pub use clr_parts::{MarkPart, Part, PartFault};
+pub use clr_workspace_parts::{MarkPart, Part, PartFault};
 pub use clr_workspaces::{Keep, MOST_LEVELS, MOST_SAVEPOINTS, MOST_WORKSPACES, Rebase};
 pub use tree::Tree;

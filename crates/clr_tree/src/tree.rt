@@ -9,7 +9,7 @@ ghost use Rattle.clr_workspaces.specs.Marks.{find_mark, is_held, is_saved, mark_
 ghost use Rattle.clr_workspaces.specs.Workspaces.{workspace_at, find, parent_of as position_of_parent, children_of, depth_of, live_workspace};
 ghost use Rattle.clr_workspaces.specs.Operations.{after_create, after_remove, after_write, after_mark, after_unmark};
 ghost use Rattle.clr_workspaces.specs.Operations.{after_roll_to, after_roll_all, after_rebase, own_changes, set_kept};
-ghost use Rattle.clr_parts.specs.Parts.{workspace_of, list_of, spaces_of, first_fault, workspaces_fault, IsFirstPartFault};
+ghost use Rattle.clr_workspace_parts.specs.Parts.{workspace_of, list_of, spaces_of, first_fault, workspaces_fault, IsFirstPartFault};
 ghost use Rattle.clr_workspaces.specs.Soundness.{IsSound};
 ghost use Rattle.clr_workspaces.specs.declared.rebases.Rebase.TheVariants as rebase;
 ghost use Rattle.clr_tree.specs.Trees.{tree_of, stored_count_at, saved_at, needed, needed_delta, needed_of_marks};
@@ -26,8 +26,10 @@ use clr_deltas::{
 use clr_operations::{
     create, mark, merge_changes, rebase, refresh_changes, remove, roll_all, roll_to, write_rows,
 };
-use clr_parts::{Part, PartFault, judge_marks, live_part, part_at, push_deltas, push_parts};
 use clr_rows::{CellId, Row, Sheet};
+use clr_workspace_parts::{
+    Part, PartFault, judge_marks, live_part, part_at, push_deltas, push_parts,
+};
 use clr_workspaces::{MOST_LEVELS, MOST_SAVEPOINTS, MOST_WORKSPACES, Rebase};
 use std::alloc::{AllocError, Global};
 use std::marker::Model;

@@ -1,4 +1,4 @@
-//! Parts by their differences, of which some are neutral, and deeds that make the same workspaces.
+//! Parts by their differences, of which some are neutral, and operations that make the same workspaces.
 
 use crate::fixtures::{cell, numbered_sheet, row_of, words};
 use clr_deltas::{Delta, Differences, StoredMark, StoredPart};

@@ -1,4 +1,4 @@
-//! Workspaces on three levels, which deeds change.
+//! Workspaces on three levels, which operations change.
 
 use crate::scripts::{act_lines, tree_after};
 use crate::texts::{counts_text, news_text};
@@ -34,17 +34,17 @@ B under A base 1=2 3=1 now 1=5 2=7 3=1 4=3 saved s 1=2 3=1 saved t 1=2 3=1 4=3 c
 C under B base 1=5 3=1 4=3 now 1=5 4=3 5=6 saved s 1=5 3=1 4=3
 ";
 
-/// Returns what is new in three levels after deeds and a sweep.
-pub fn news_after(alloc: Global, deeds: &str) -> Result<String, AllocError> {
+/// Returns what is new in three levels after operations and a sweep.
+pub fn news_after(alloc: Global, operations: &str) -> Result<String, AllocError> {
     let mut tree = tree_after(alloc, THREE_LEVELS)?;
-    act_lines(alloc, &mut tree, deeds)?;
+    act_lines(alloc, &mut tree, operations)?;
     tree.sweep();
     news_text(alloc, &tree, THREE_LEVELS_TEXT)
 }
 
-/// Returns how many differences are stored of the workspaces under LIVE after deeds and a sweep.
-pub fn counts_after(alloc: Global, deeds: &str) -> Result<String, AllocError> {
-    let mut tree = tree_after(alloc, deeds)?;
+/// Returns how many differences are stored of the workspaces under LIVE after operations and a sweep.
+pub fn counts_after(alloc: Global, operations: &str) -> Result<String, AllocError> {
+    let mut tree = tree_after(alloc, operations)?;
     tree.sweep();
     counts_text(alloc, &tree)
 }

@@ -1,7 +1,7 @@
 //! Deeds as texts. A line has the name of a workspace, a word, and what belongs to it.
 
-use crate::deeds::{Deed, act};
 use crate::fixtures::numbered_sheet;
+use crate::operations::{TreeOperation, act};
 use clr_tree::{Keep, Tree};
 use std::alloc::{AllocError, Global};
 
@@ -17,12 +17,12 @@ fn number(text: &str) -> Option<i64> {
     text.parse::<i64>().ok()
 }
 
-fn put(text: &str) -> Option<Deed<'_>> {
+fn put(text: &str) -> Option<TreeOperation<'_>> {
     let (key, row) = split_word(text);
-    Some(Deed::Put(number(key)?, number(row)?))
+    Some(TreeOperation::Put(number(key)?, number(row)?))
 }
 
-fn resolve(text: &str) -> Option<Deed<'_>> {
+fn resolve(text: &str) -> Option<TreeOperation<'_>> {
     let (key, word) = split_word(text);
     let keep = match word {
         "parent" => Keep::Parent,
@@ -30,27 +30,27 @@ fn resolve(text: &str) -> Option<Deed<'_>> {
         "base" => Keep::Base,
         _ => return None,
     };
-    Some(Deed::Resolve(number(key)?, keep))
+    Some(TreeOperation::Resolve(number(key)?, keep))
 }
 
-/// Returns the deed of a word, with what belongs to it.
-fn deed_of<'a>(word: &str, rest: &'a str) -> Option<Deed<'a>> {
+/// Returns the operation of a word, with what belongs to it.
+fn deed_of<'a>(word: &str, rest: &'a str) -> Option<TreeOperation<'a>> {
     match word {
-        "create" => Some(Deed::Create(rest)),
-        "remove" => Some(Deed::Remove),
+        "create" => Some(TreeOperation::Create(rest)),
+        "remove" => Some(TreeOperation::Remove),
         "put" => put(rest),
-        "delete" => Some(Deed::Delete(number(rest)?)),
-        "mark" => Some(Deed::Mark(rest)),
-        "unmark" => Some(Deed::Unmark(rest)),
-        "rollto" => Some(Deed::RollTo(rest)),
-        "rollall" => Some(Deed::RollAll),
-        "refresh" => Some(Deed::Refresh),
-        "merge" => Some(Deed::Merge),
-        "refresh_changes" => Some(Deed::RefreshChanges),
-        "merge_changes" => Some(Deed::MergeChanges),
+        "delete" => Some(TreeOperation::Delete(number(rest)?)),
+        "mark" => Some(TreeOperation::Mark(rest)),
+        "unmark" => Some(TreeOperation::Unmark(rest)),
+        "rollto" => Some(TreeOperation::RollTo(rest)),
+        "rollall" => Some(TreeOperation::RollAll),
+        "refresh" => Some(TreeOperation::Refresh),
+        "merge" => Some(TreeOperation::Merge),
+        "refresh_changes" => Some(TreeOperation::RefreshChanges),
+        "merge_changes" => Some(TreeOperation::MergeChanges),
         "resolve" => resolve(rest),
-        "hold" => Some(Deed::Hold),
-        "release" => Some(Deed::Release),
+        "hold" => Some(TreeOperation::Hold),
+        "release" => Some(TreeOperation::Release),
         _ => None,
     }
 }
@@ -62,9 +62,9 @@ pub fn parts_of(line: &str) -> (&str, &str, &str) {
     (name, word, rest)
 }
 
-/// Returns what a line says: a deed, and to the workspace of which name. There is none where it can't be
+/// Returns what a line says: a operation, and to the workspace of which name. There is none where it can't be
 /// read.
-pub fn deed_in(line: &str) -> Option<(&str, Deed<'_>)> {
+pub fn deed_in(line: &str) -> Option<(&str, TreeOperation<'_>)> {
     let (name, word, rest) = parts_of(line);
     Some((name, deed_of(word, rest)?))
 }
@@ -72,7 +72,7 @@ pub fn deed_in(line: &str) -> Option<(&str, Deed<'_>)> {
 /// Does what a line says, which is nothing where it can't be read.
 pub fn act_line(alloc: Global, tree: &mut Tree, line: &str) -> Result<(), AllocError> {
     match deed_in(line) {
-        Some((name, deed)) => act(alloc, tree, name, deed),
+        Some((name, operation)) => act(alloc, tree, name, operation),
         None => Ok(()),
     }
 }

@@ -1,4 +1,4 @@
-//! Parts by their differences, of which some are neutral, beside deeds that make the same workspaces.
+//! Parts by their differences, of which some are neutral, beside operations that make the same workspaces.
 
 use clr_tree::Tree;
 use clr_tree_test_kit::{SAME_DEEDS, delta_tree, news_text, tree_after};
@@ -6,7 +6,7 @@ use std::alloc::Global;
 use std::process::Abort;
 use std::test::Fail;
 
-/// What the deeds make.
+/// What the operations make.
 const SAME_TEXT: &str = "LIVE now 1=1 2=1 3=1
 A under LIVE base 1=1 2=5 3=1 now 1=1 2=5 3=2 saved s 1=1 2=5 3=7 child B kept
 B under A base 1=1 2=5 3=2 now 1=3 3=2 kept

@@ -1,7 +1,7 @@
 //! Workspaces with whole contents, in which each operation is as it is defined.
 
 use clr_tree::Keep;
-use clr_tree_test_kit::Deed;
+use clr_tree_test_kit::TreeOperation;
 use std::alloc::{AllocError, Global};
 
 /// Keys are below this number.
@@ -170,16 +170,20 @@ impl Space {
     }
 
     /// Does what concerns this workspace alone, under a parent with this content.
-    pub(crate) fn act(&mut self, deed: Deed<'static>, above: &Content) -> Result<(), AllocError> {
-        match deed {
-            Deed::Mark(name) => self.save(name)?,
-            Deed::Unmark(name) => self.drop_savepoint(name),
-            Deed::RollTo(name) => self.roll_to(name),
-            Deed::RollAll => self.roll_all(),
-            Deed::Refresh | Deed::RefreshChanges => self.refresh(above),
-            Deed::Resolve(key, keep) => self.resolve(place_of(key), keep, above),
-            Deed::Hold => self.kept = true,
-            Deed::Release => self.kept = false,
+    pub(crate) fn act(
+        &mut self,
+        operation: TreeOperation<'static>,
+        above: &Content,
+    ) -> Result<(), AllocError> {
+        match operation {
+            TreeOperation::Mark(name) => self.save(name)?,
+            TreeOperation::Unmark(name) => self.drop_savepoint(name),
+            TreeOperation::RollTo(name) => self.roll_to(name),
+            TreeOperation::RollAll => self.roll_all(),
+            TreeOperation::Refresh | TreeOperation::RefreshChanges => self.refresh(above),
+            TreeOperation::Resolve(key, keep) => self.resolve(place_of(key), keep, above),
+            TreeOperation::Hold => self.kept = true,
+            TreeOperation::Release => self.kept = false,
             _ => {}
         }
         Ok(())

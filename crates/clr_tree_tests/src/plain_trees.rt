@@ -3,7 +3,7 @@
 use crate::plain_spaces::{
     Content, KEYS, Mark, Space, content_text, count_differences, place_of, put_over,
 };
-use clr_tree_test_kit::Deed;
+use clr_tree_test_kit::TreeOperation;
 use std::alloc::{AllocError, Global};
 
 /// The most levels under LIVE.
@@ -101,19 +101,19 @@ impl PlainTree {
     pub(crate) fn act(
         &mut self,
         name: &'static str,
-        deed: Deed<'static>,
+        operation: TreeOperation<'static>,
     ) -> Result<(), AllocError> {
-        if let Deed::Create(parent) = deed {
+        if let TreeOperation::Create(parent) = operation {
             return self.create(name, parent);
         }
         let Some(at) = self.find(name) else {
             return Ok(());
         };
-        match deed {
-            Deed::Put(key, number) => self.put(at, key, number),
-            Deed::Delete(key) => self.put(at, key, 0),
-            Deed::Remove | Deed::RollAll if self.has_child(name) => {}
-            _ => self.act_under_parent(name, at, deed)?,
+        match operation {
+            TreeOperation::Put(key, number) => self.put(at, key, number),
+            TreeOperation::Delete(key) => self.put(at, key, 0),
+            TreeOperation::Remove | TreeOperation::RollAll if self.has_child(name) => {}
+            _ => self.act_under_parent(name, at, operation)?,
         }
         Ok(())
     }
@@ -157,29 +157,34 @@ impl PlainTree {
         &mut self,
         name: &'static str,
         at: usize,
-        deed: Deed<'static>,
+        operation: TreeOperation<'static>,
     ) -> Result<(), AllocError> {
         let Some(above) = self.find_parent(at) else {
             return Ok(());
         };
-        match deed {
-            Deed::Remove => self.remove(above, name),
-            Deed::Merge | Deed::MergeChanges => self.merge(above, at),
-            Deed::Refresh | Deed::RefreshChanges => {
+        match operation {
+            TreeOperation::Remove => self.remove(above, name),
+            TreeOperation::Merge | TreeOperation::MergeChanges => self.merge(above, at),
+            TreeOperation::Refresh | TreeOperation::RefreshChanges => {
                 self.drop_mark(above, name);
                 self.push_mark(above, name)?;
-                self.act_over(above, at, deed)?;
+                self.act_over(above, at, operation)?;
             }
-            _ => self.act_over(above, at, deed)?,
+            _ => self.act_over(above, at, operation)?,
         }
         Ok(())
     }
 
     /// Does something to a workspace alone, under its parent.
-    fn act_over(&mut self, above: usize, at: usize, deed: Deed<'static>) -> Result<(), AllocError> {
+    fn act_over(
+        &mut self,
+        above: usize,
+        at: usize,
+        operation: TreeOperation<'static>,
+    ) -> Result<(), AllocError> {
         let content = self.current(above);
         match self.spaces.get_mut(at) {
-            Some(space) => space.act(deed, &content),
+            Some(space) => space.act(operation, &content),
             None => Ok(()),
         }
     }

@@ -1,14 +1,16 @@
-//! Random deeds on a tree, and the same ones on a tree of whole copies.
+//! Random operations on a tree, and the same ones on a tree of whole copies.
 
 use crate::plain_trees::PlainTree;
 use clr_call_test_kit::Dice;
 use clr_tree::{Keep, Tree};
-use clr_tree_test_kit::{Deed, SAME_DEEDS, act, counts_text, deed_in, delta_tree, tree_text};
+use clr_tree_test_kit::{
+    SAME_DEEDS, TreeOperation, act, counts_text, deed_in, delta_tree, tree_text,
+};
 use std::alloc::{AllocError, Global};
 use std::process::Abort;
 use std::test::Fail;
 
-/// How many deeds are to change a tree.
+/// How many operations are to change a tree.
 const DEEDS: usize = 10_000;
 
 /// The most throws, some of which change nothing.
@@ -19,7 +21,7 @@ const NAMES: [&str; 12] = [
 ];
 
 /// Returns what is done next, and to which workspace. Savepoints have the names of the first workspaces.
-fn deed(dice: &mut Dice) -> (&'static str, Deed<'static>) {
+fn operation(dice: &mut Dice) -> (&'static str, TreeOperation<'static>) {
     let name = NAMES[dice.throw(12) as usize];
     let other = NAMES[dice.throw(12) as usize];
     let savepoint = NAMES[dice.throw(4) as usize + 1];
@@ -30,30 +32,30 @@ fn deed(dice: &mut Dice) -> (&'static str, Deed<'static>) {
         1 => Keep::Child,
         _ => Keep::Base,
     };
-    let deed = match dice.throw(18) {
-        0 | 1 | 2 => Deed::Create(other),
-        3 => Deed::Remove,
-        4 | 5 | 6 => Deed::Put(key, number),
-        7 => Deed::Delete(key),
-        8 | 9 => Deed::Mark(savepoint),
-        10 => Deed::Unmark(savepoint),
-        11 => Deed::RollTo(savepoint),
-        12 => Deed::RollAll,
-        13 => Deed::Refresh,
-        14 => Deed::Merge,
-        15 => Deed::Resolve(key, keep),
-        16 => Deed::Hold,
-        _ => Deed::Release,
+    let operation = match dice.throw(18) {
+        0 | 1 | 2 => TreeOperation::Create(other),
+        3 => TreeOperation::Remove,
+        4 | 5 | 6 => TreeOperation::Put(key, number),
+        7 => TreeOperation::Delete(key),
+        8 | 9 => TreeOperation::Mark(savepoint),
+        10 => TreeOperation::Unmark(savepoint),
+        11 => TreeOperation::RollTo(savepoint),
+        12 => TreeOperation::RollAll,
+        13 => TreeOperation::Refresh,
+        14 => TreeOperation::Merge,
+        15 => TreeOperation::Resolve(key, keep),
+        16 => TreeOperation::Hold,
+        _ => TreeOperation::Release,
     };
-    (name, deed)
+    (name, operation)
 }
 
 /// Returns the tree of whole copies after lines.
 fn plain_tree_after(alloc: Global, lines: &'static str) -> Result<PlainTree, AllocError> {
     let mut plain = PlainTree::new(alloc, [0, 1, 1, 1, 0, 0, 0, 0])?;
     for line in lines.lines() {
-        if let Some((name, deed)) = deed_in(line) {
-            plain.act(name, deed)?;
+        if let Some((name, operation)) = deed_in(line) {
+            plain.act(name, operation)?;
         }
     }
     Ok(plain)
@@ -83,10 +85,10 @@ impl Pair {
         &mut self,
         alloc: Global,
         name: &'static str,
-        deed: Deed<'static>,
+        operation: TreeOperation<'static>,
     ) -> Result<(), AllocError> {
-        act(alloc, &mut self.tree, name, deed)?;
-        self.plain.act(name, deed)?;
+        act(alloc, &mut self.tree, name, operation)?;
+        self.plain.act(name, operation)?;
         self.tree.sweep();
         Ok(())
     }
@@ -109,8 +111,8 @@ impl Pair {
 
     /// Does something to both, and says whether it changed anything.
     fn step(&mut self, rt: &impl Abort, alloc: Global, dice: &mut Dice) -> Result<bool, Fail> {
-        let (name, deed) = deed(dice);
-        self.act(alloc, name, deed)?;
+        let (name, operation) = operation(dice);
+        self.act(alloc, name, operation)?;
         self.check_counts(rt, alloc)?;
         let text = self.text(rt, alloc)?;
         let changes = text.as_str() != self.last.as_str();
@@ -119,7 +121,7 @@ impl Pair {
     }
 }
 
-/// Returns how many deeds change a tree, which whole copies follow.
+/// Returns how many operations change a tree, which whole copies follow.
 fn count_changes(
     rt: &impl Abort,
     alloc: Global,

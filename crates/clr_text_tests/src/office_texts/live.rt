@@ -3,7 +3,7 @@
 use crate::office_texts::answers::with_path;
 use crate::questions::check;
 use crate::texts::sheet_text;
-use clr_office_text::read_office;
+use clr_office_reading::read_office;
 use std::alloc::Global;
 
 /// Nodes, mains and hydrants, with a node and two mains that cross there.

@@ -1,7 +1,7 @@
 //! Rules of office texts.
 
 use crate::questions::check;
-use clr_office_text::read_office;
+use clr_office_reading::read_office;
 use std::alloc::Global;
 
 /// A network with a rule of each kind.

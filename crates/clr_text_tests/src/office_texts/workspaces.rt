@@ -3,7 +3,7 @@
 use crate::questions::check;
 use crate::texts::{add_part, change_text};
 use clr_deltas::{Differences, StoredMark};
-use clr_office_text::{StoredPart, read_office};
+use clr_office_reading::{StoredPart, read_office};
 use clr_rows::{CellId, Row};
 use std::alloc::Global;
 

@@ -1,8 +1,8 @@
 use Rattle.std.proofs.Common.{refl}
 use Rattle.std.specs.Prelude.{⊤}
 use Rattle.std.proofs.lemmas.Option.{MatchOption-at_some}
-use Rattle.clr_drafts.specs.Drafts.{draft_in}
-use Rattle.clr_why.specs.Shorts.{IsShortOfficeFault}
+use Rattle.clr_office_texts.specs.Drafts.{draft_in}
+use Rattle.clr_text_diagnosis.specs.Shorts.{IsShortOfficeFault}
 use Rattle.clr_desk.proofs.PlaceLemmas.{office_told}
 use Rattle.clr_desk.proofs.fault_places.office_place.Goals as goal
 

@@ -2,7 +2,7 @@ use Rattle.std.proofs.Common.{refl}
 use Rattle.std.specs.Prelude.{⊤}
 use Rattle.std.proofs.lemmas.Option.{MatchOption-at_some}
 use Rattle.clr_cert.specs.Certificates.{certificate_in}
-use Rattle.clr_why.specs.Shorts.{IsShortCertificateFault}
+use Rattle.clr_text_diagnosis.specs.Shorts.{IsShortCertificateFault}
 use Rattle.clr_desk.proofs.PlaceLemmas.{certificate_told}
 use Rattle.clr_desk.proofs.fault_places.place_over_schema.Goals as goal
 

@@ -1,7 +1,7 @@
 use Rattle.std.proofs.Common.{◌≡◌, ◌∙◌, ◌++◌, ◌∷◌, [], Ok, ap, subst, sym}
-use Rattle.clr_drafts.specs.Drafts.{draft_in}
-use Rattle.clr_drafts.specs.Writing.{text_of}
-use Rattle.clr_office_json.specs.OfficeData.{office_data}
+use Rattle.clr_office_texts.specs.Drafts.{draft_in}
+use Rattle.clr_office_texts.specs.Writing.{text_of}
+use Rattle.clr_office_writing.specs.OfficeData.{office_data}
 use Rattle.clr_desk.specs.Formats.{in_lines, in_one_line, lines_of}
 use Rattle.clr_desk.specs.LineEnds.{lined}
 use Rattle.clr_desk.proofs.LinedTexts.{lined_value}

@@ -1,5 +1,5 @@
 use Rattle.std.proofs.Common.{◌≡◌, take}
-use Rattle.clr_desk.specs.declared.line_ends.Place.TheVariants.{Between}
+use Rattle.clr_desk.specs.declared.line_ends.JsonState.TheVariants.{Between}
 use Rattle.clr_desk.specs.LineEnds.{lined_from}
 use Rattle.clr_desk.proofs.LineEnds.{last_of, place_of}
 use Rattle.clr_desk.proofs.line_ends.with_line_ends.Given as goal

@@ -1,5 +1,5 @@
 use Rattle.std.proofs.Common.{IfSome}
-use Rattle.clr_views.specs.Areas.{CoversNone}
+use Rattle.clr_viewports.specs.Areas.{CoversNone}
 use Rattle.clr_drawing.proofs.labels.cheapest_place.Given as goal
 
 -- what was found so far covers nothing that is taken

@@ -1,5 +1,5 @@
 use Rattle.std.proofs.Common.{take}
-use Rattle.clr_views.specs.Areas.{CoversNone}
+use Rattle.clr_viewports.specs.Areas.{CoversNone}
 use Rattle.clr_drawing.proofs.labels.covers_none.Given as goal
 
 -- none of those so far is covered

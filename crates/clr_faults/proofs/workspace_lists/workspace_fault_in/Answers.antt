@@ -1,7 +1,7 @@
 use Rattle.std.proofs.Common.{[], ◌∷◌, map, refl}
 use Rattle.std.proofs.lemmas.List.{map-append}
 use Rattle.clr_deltas.specs.NamedDeltas.{stored_delta}
-use Rattle.clr_office_text.proofs.NameTurns.{none_read}
+use Rattle.clr_office_reading.proofs.NameTurns.{none_read}
 use Rattle.clr_faults.specs.Readings.{deltas_with}
 use Rattle.clr_faults.proofs.Firsts.{goes_on, ends, is_done, deltas, deltas_fail}
 use Rattle.clr_faults.proofs.workspace_lists.workspace_fault_in.Goals as goal

@@ -1,7 +1,7 @@
 use Rattle.std.proofs.Common.{◌≡◌, [], drop, map}
 use Rattle.serde_json.specs.View.{items_view}
 use Rattle.clr_deltas.specs.NamedDeltas.{stored_delta}
-use Rattle.clr_office_text.specs.Workspaces.{HasNames}
+use Rattle.clr_office_reading.specs.Workspaces.{HasNames}
 use Rattle.clr_faults.specs.FirstFaults.{first_fault_from}
 use Rattle.clr_faults.specs.Readings.{deltas_with}
 use Rattle.clr_faults.proofs.workspace_lists.workspace_fault_in.Given as goal

@@ -1,7 +1,7 @@
 use Rattle.std.proofs.Common.{◌∙◌, ◌+◌, ap, sym, subst, take}
-use Rattle.clr_versions.specs.Versions.{row_and_life}
+use Rattle.clr_row_versions.specs.Versions.{row_and_life}
 use Rattle.clr_foot.proofs.NewRows.{AreFiledAt, all_filed, none_filed, none_pending, not_filed, one_filed, one_pending, settled_too}
-use Rattle.clr_versions.proofs.Searches.{sets_of}
+use Rattle.clr_row_versions.proofs.Searches.{sets_of}
 use Rattle.clr_foot.proofs.new_rows.file_new_rows.Goals as goal
 use Rattle.clr_foot.proofs.new_rows.file_new_rows.Goals.{in-Some+in_ok-note, in_default}
 

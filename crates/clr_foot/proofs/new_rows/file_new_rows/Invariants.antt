@@ -1,7 +1,7 @@
 use Rattle.std.proofs.Common.{◌≡◌, take}
 use Rattle.std.specs.FinMap as finite
 use Rattle.clr_foot.proofs.NewRows.{AreFiledAt}
-use Rattle.clr_versions.proofs.Searches.{sets_of}
+use Rattle.clr_row_versions.proofs.Searches.{sets_of}
 use Rattle.clr_foot.proofs.new_rows.file_new_rows.Given as goal
 
 -- the rows of the cells so far are filed

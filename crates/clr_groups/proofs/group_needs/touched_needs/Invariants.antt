@@ -1,5 +1,5 @@
 use Rattle.std.proofs.Common.{[], take}
-use Rattle.clr_versions.specs.Gains.{Gains, OfSome}
+use Rattle.clr_row_versions.specs.Gains.{Gains, OfSome}
 use Rattle.clr_groups.specs.GroupNeeds.{IsOfPlace}
 use Rattle.clr_groups.proofs.TouchedPairs.{IsOfPairs}
 use Rattle.clr_groups.proofs.group_needs.touched_needs.Given as goal

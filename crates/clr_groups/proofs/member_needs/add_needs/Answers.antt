@@ -1,5 +1,5 @@
 use Rattle.clr_needs.proofs.Reading.{read_in}
-use Rattle.clr_versions.proofs.Gaining.{of_one_more}
+use Rattle.clr_row_versions.proofs.Gaining.{of_one_more}
 use Rattle.clr_foot.specs.Scenes.{setting_in}
 use Rattle.clr_groups.specs.MemberNeeds.{IsOfNeed, IsPair}
 use Rattle.clr_groups.proofs.member_needs.add_needs.Goals as goal

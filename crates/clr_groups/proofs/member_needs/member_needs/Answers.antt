@@ -1,5 +1,5 @@
 use Rattle.std.proofs.Common.{[], ◌≡◌, length, arith, refl, subst, sym}
-use Rattle.clr_versions.specs.Gains.{Gains}
+use Rattle.clr_row_versions.specs.Gains.{Gains}
 use Rattle.clr_foot.specs.Scenes.{model_of, setting_in}
 use Rattle.clr_groups.specs.MemberNeeds.{IsOfTies, IsPair}
 use Rattle.clr_groups.proofs.MemberNeedLists.{OfBelow, member_need_exact, none_below, one_below}

@@ -1,6 +1,6 @@
 use Rattle.std.proofs.Common.{◌∙◌, ◌≤◌, [], ℕ, Global, List, Vec, Contains, ap, length, map, subst, sym}
 use Rattle.clr_foot.specs.Scenes.{IsReady, model_at, model_of, setting_of}
-use Rattle.clr_versions.specs.Versions.{FitsSetting}
+use Rattle.clr_row_versions.specs.Versions.{FitsSetting}
 use Rattle.clr_groups.proofs.GroupParts.{group_few, group_fits, group_read, group_ready, group_there, group_within}
 use Rattle.clr_groups.proofs.scenes.group_scene.Goals as goal
 

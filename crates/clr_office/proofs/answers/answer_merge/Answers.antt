@@ -3,7 +3,7 @@ use Rattle.clr_steps.specs.Offices.{Office}
 use Rattle.clr_cert.specs.declared.certificates.Certificate.{Certificate}
 use Rattle.clr_check.specs.Cases.{case_of}
 use Rattle.clr_office.specs.Clearances.{IsMergeOutcome}
-use Rattle.clr_reports.specs.Outcomes.{Outcome}
+use Rattle.clr_office_reports.specs.Outcomes.{Outcome}
 use Rattle.clr_office.specs.NameHints.{AreHintsOfCase, AreNameHints}
 use Rattle.clr_office.proofs.CaseTexts.{case_made, fault_made, no_case_hints}
 use Rattle.clr_office.proofs.answers.answer_merge.Goals as goal

@@ -1,9 +1,9 @@
 use Rattle.std.proofs.Common.{◌∷◌, Ok, OnOk, refl, subst, sym}
 use Rattle.clr_merge_sets.specs.MergeSetNames.{merge_set}
-use Rattle.clr_drafts.specs.Drafts.{draft_in}
+use Rattle.clr_office_texts.specs.Drafts.{draft_in}
 use Rattle.clr_office.specs.Answers.{IsPlanPrint}
 use Rattle.clr_office.specs.NameHints.{AreHintsIn}
-use Rattle.clr_reports.specs.Outcomes.{outcome_of}
+use Rattle.clr_office_reports.specs.Outcomes.{outcome_of}
 use Rattle.clr_office.proofs.Prints.{held_made, hints_opened, no_hints_made}
 use Rattle.clr_office.proofs.answers.answer_plan.Goals as goal
 

@@ -3,7 +3,7 @@ use Rattle.clr_steps.specs.Offices.{Office}
 use Rattle.clr_clearance.specs.Plans.{merges}
 use Rattle.clr_lines.specs.Verdicts.{verdict_text}
 use Rattle.clr_office.specs.Clearances.{IsMergeOutcome}
-use Rattle.clr_reports.specs.Outcomes.{outcome_of}
+use Rattle.clr_office_reports.specs.Outcomes.{outcome_of}
 use Rattle.clr_office.proofs.CaseTexts.{merged, not_merged}
 use Rattle.clr_office.proofs.merges.merge_members.Goals as goal
 

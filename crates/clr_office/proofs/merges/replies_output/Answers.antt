@@ -1,6 +1,6 @@
 use Rattle.clr_steps.specs.Steps.{is_lost}
 use Rattle.clr_lines.specs.Replies.{reply_text}
-use Rattle.clr_reports.specs.Outcomes.{is_refused}
+use Rattle.clr_office_reports.specs.Outcomes.{is_refused}
 use Rattle.clr_office.proofs.ReplyLines.{any_end, any_more, lines_end, lines_more}
 use Rattle.clr_office.proofs.merges.replies_output.Goals as goal
 

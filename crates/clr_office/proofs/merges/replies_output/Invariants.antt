@@ -2,7 +2,7 @@ use Rattle.std.proofs.Common.{◌≡◌, ◌++◌, ◌||◌, drop}
 use Rattle.std.specs.List.{flat_map, list_any}
 use Rattle.clr_steps.specs.Steps.{is_lost}
 use Rattle.clr_lines.specs.Replies.{reply_text}
-use Rattle.clr_reports.specs.Outcomes.{is_refused}
+use Rattle.clr_office_reports.specs.Outcomes.{is_refused}
 use Rattle.clr_office.proofs.merges.replies_output.Given as goal
 
 -- what was said of the replies so far makes with what is to be said of the rest the whole

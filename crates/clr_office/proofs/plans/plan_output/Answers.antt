@@ -6,7 +6,7 @@ use Rattle.clr_plan.specs.Plans.{IsPlan}
 use Rattle.clr_plan.specs.Promises.{IsExact, Promises}
 use Rattle.clr_plan.specs.PlanLines.{plan_text}
 use Rattle.clr_office.specs.Outcomes.{IsPlanned}
-use Rattle.clr_reports.proofs.Outcomes.{parts_are}
+use Rattle.clr_office_reports.proofs.Outcomes.{parts_are}
 use Rattle.clr_office.proofs.plans.plan_output.Goals as goal
 
 pub returns : goal.returns

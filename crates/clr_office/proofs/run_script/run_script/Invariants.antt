@@ -1,5 +1,5 @@
 use Rattle.std.proofs.Common.{drop}
-use Rattle.clr_reports.specs.Outcomes.{outcome_of}
+use Rattle.clr_office_reports.specs.Outcomes.{outcome_of}
 use Rattle.clr_office.proofs.ScriptOutcomes.{Leads}
 use Rattle.clr_office.proofs.run_script.run_script.Given as goal
 

@@ -1,7 +1,7 @@
 use Rattle.std.proofs.Common.{false, subst, sym}
 use Rattle.clr_foot.specs.Scenes.{setting_in}
 use Rattle.clr_foot.specs.Ties.{IsChangedNeighbour}
-use Rattle.clr_versions.specs.Versions.{Finds, row_of}
+use Rattle.clr_row_versions.specs.Versions.{Finds, row_of}
 use Rattle.clr_foot.proofs.TieLaws.{changed_gains, never_paired}
 use Rattle.clr_foot.proofs.scenes.Scene.add_beside_changed.Goals as goal
 

@@ -1,7 +1,7 @@
 use Rattle.std.proofs.Common.{false, subst, sym}
 use Rattle.clr_foot.specs.Scenes.{setting_in}
 use Rattle.clr_foot.specs.Touches.{IsNeighbour}
-use Rattle.clr_versions.specs.Versions.{Finds, row_of}
+use Rattle.clr_row_versions.specs.Versions.{Finds, row_of}
 use Rattle.clr_foot.proofs.TouchSteps.{alone_beside_old, beside_gains}
 use Rattle.clr_foot.proofs.scenes.Scene.add_beside_old.Goals as goal
 

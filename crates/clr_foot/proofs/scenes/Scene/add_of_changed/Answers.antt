@@ -2,7 +2,7 @@ use Rattle.clr_needs.specs.Needs.{IsTouched}
 use Rattle.clr_needs.proofs.Reading.{item_in}
 use Rattle.clr_foot.specs.Scenes.{setting_in}
 use Rattle.clr_foot.specs.Touches.{IsNeedOfChanged}
-use Rattle.clr_versions.proofs.Gaining.{of_all, of_none, of_one_read}
+use Rattle.clr_row_versions.proofs.Gaining.{of_all, of_none, of_one_read}
 use Rattle.clr_foot.proofs.scenes.Scene.add_of_changed.Goals as goal
 
 pub loop-version-init : goal.loop-version-init

@@ -1,5 +1,5 @@
 use Rattle.std.proofs.Common.{take}
-use Rattle.clr_versions.specs.Gains.{Gains, OfSome}
+use Rattle.clr_row_versions.specs.Gains.{Gains, OfSome}
 use Rattle.clr_needs.specs.Needs.{IsTouched}
 use Rattle.clr_foot.specs.Scenes.{setting_in}
 use Rattle.clr_foot.specs.Touches.{IsNeedOfNew}

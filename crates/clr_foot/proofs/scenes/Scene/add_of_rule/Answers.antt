@@ -1,8 +1,8 @@
 use Rattle.std.proofs.Common.{subst, true, false}
 use Rattle.clr_foot.specs.Scenes.{setting_in}
 use Rattle.clr_foot.specs.Touches.{IsInCells}
-use Rattle.clr_versions.specs.Versions.{Finds}
-use Rattle.clr_versions.proofs.Searches.{sets_of}
+use Rattle.clr_row_versions.specs.Versions.{Finds}
+use Rattle.clr_row_versions.proofs.Searches.{sets_of}
 use Rattle.clr_foot.proofs.TouchSteps.{rule_gains}
 use Rattle.clr_foot.proofs.scenes.Scene.add_of_rule.Goals as goal
 

@@ -1,5 +1,5 @@
 use Rattle.std.proofs.Common.{take}
-use Rattle.clr_versions.specs.Gains.{Gains}
+use Rattle.clr_row_versions.specs.Gains.{Gains}
 use Rattle.clr_foot.specs.Touches.{IsNeedServedAmong}
 use Rattle.clr_foot.proofs.scenes.Scene.add_served.Given as goal
 

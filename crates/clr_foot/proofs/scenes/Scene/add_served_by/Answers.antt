@@ -2,7 +2,7 @@ use Rattle.std.proofs.Common.{subst, sym}
 use Rattle.clr_rows.proofs.BeginningLaws.{on_err}
 use Rattle.clr_foot.specs.Scenes.{setting_in}
 use Rattle.clr_foot.specs.Serving.{MayBeServed}
-use Rattle.clr_versions.specs.Versions.{AreAt, FindsAll, row_of}
+use Rattle.clr_row_versions.specs.Versions.{AreAt, FindsAll, row_of}
 use Rattle.clr_foot.proofs.TouchSteps.{none_served_by, served_gains, some_served}
 use Rattle.clr_foot.proofs.scenes.Scene.add_served_by.Goals as goal
 

@@ -1,5 +1,5 @@
 use Rattle.std.proofs.Common.{◌∙◌, sym}
-use Rattle.clr_versions.specs.Versions.{row_and_life}
+use Rattle.clr_row_versions.specs.Versions.{row_and_life}
 use Rattle.clr_foot.specs.Scenes.{setting_in}
 use Rattle.clr_foot.specs.declared.ties.TieKind.TheVariants.{Any, Touching, Other}
 use Rattle.clr_foot.proofs.InvolvedLaws.{told_names}

@@ -1,6 +1,6 @@
 use Rattle.clr_foot.specs.Scenes.{setting_in}
 use Rattle.clr_foot.specs.Ties.{IsTieOf, MayTie}
-use Rattle.clr_versions.proofs.Gaining.{of_one_read}
+use Rattle.clr_row_versions.proofs.Gaining.{of_one_read}
 use Rattle.clr_foot.proofs.scenes.Scene.add_ties.Goals as goal
 
 pub loop-version-preserved : goal.loop-version-preserved

@@ -1,5 +1,5 @@
 use Rattle.std.proofs.Common.{take}
-use Rattle.clr_versions.specs.Gains.{Gains, OfSome}
+use Rattle.clr_row_versions.specs.Gains.{Gains, OfSome}
 use Rattle.clr_foot.specs.Scenes.{setting_in}
 use Rattle.clr_foot.specs.Ties.{IsTieOf, MayTie}
 use Rattle.clr_foot.proofs.scenes.Scene.add_ties.Given as goal

@@ -2,9 +2,9 @@ use Rattle.std.proofs.Common.{false, refl, subst, sym}
 use Rattle.clr_rows.proofs.BeginningLaws.{on_err}
 use Rattle.clr_foot.specs.Scenes.{setting_in}
 use Rattle.clr_foot.specs.Touches.{IsNeighbour}
-use Rattle.clr_versions.specs.Versions.{AreAt, FindsAll, row_of}
+use Rattle.clr_row_versions.specs.Versions.{AreAt, FindsAll, row_of}
 use Rattle.clr_foot.proofs.TouchSteps.{alone_gains, none_with, some_with, with_gains}
-use Rattle.clr_versions.proofs.Gaining.{none_gained}
+use Rattle.clr_row_versions.proofs.Gaining.{none_gained}
 use Rattle.clr_foot.proofs.scenes.Scene.add_with.Goals as goal
 
 pub add_pairs-requires-clause-others : goal.add_pairs-requires-clause-others

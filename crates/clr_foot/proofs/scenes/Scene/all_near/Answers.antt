@@ -1,7 +1,7 @@
 use Rattle.std.proofs.Common.{◌∙◌, ◌++◌, ap, false}
 use Rattle.clr_foot.specs.Scenes.{setting_in}
 use Rattle.clr_foot.specs.Touches.{IsNeighbour}
-use Rattle.clr_versions.specs.Versions.{row_of}
+use Rattle.clr_row_versions.specs.Versions.{row_of}
 use Rattle.clr_foot.proofs.VersionLists.{finds_all}
 use Rattle.clr_foot.proofs.scenes.Scene.all_near.Goals as goal
 

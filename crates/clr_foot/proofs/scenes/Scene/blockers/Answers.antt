@@ -5,7 +5,7 @@ use Rattle.clr_needs.specs.Needs.{AreServers}
 use Rattle.clr_foot.specs.Scenes.{setting_in}
 use Rattle.clr_needs.proofs.BlockerLaws.{AreBlockersTo, all_block}
 use Rattle.clr_needs.proofs.ListedNumbers.{none_listed, one_left_out, one_listed}
-use Rattle.clr_versions.proofs.Searches.{sets_of}
+use Rattle.clr_row_versions.proofs.Searches.{sets_of}
 use Rattle.clr_foot.proofs.scenes.Scene.blockers.Goals as goal
 use Rattle.clr_foot.proofs.scenes.Scene.blockers.Goals.{else-is_blocker, then-is_blocker+in_ok-push}
 

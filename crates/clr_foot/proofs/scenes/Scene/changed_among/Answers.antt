@@ -1,8 +1,8 @@
 use Rattle.std.proofs.Common.{[], ◌⊎◌, inl, inr, Contains}
 use Rattle.clr_rules.proofs.Elements.{among}
 use Rattle.clr_needs.proofs.Reading.{read_in}
-use Rattle.clr_versions.specs.Gains.{OfSome}
-use Rattle.clr_versions.proofs.Gaining.{gains_as, of_all, of_one_more}
+use Rattle.clr_row_versions.specs.Gains.{OfSome}
+use Rattle.clr_row_versions.proofs.Gaining.{gains_as, of_all, of_one_more}
 use Rattle.clr_foot.specs.Scenes.{setting_in}
 use Rattle.clr_foot.specs.Ties.{IsChangedCell}
 use Rattle.clr_foot.proofs.scenes.Scene.changed_among.Goals as goal

@@ -1,9 +1,9 @@
 use Rattle.std.proofs.Common.{Contains, false, subst, sym}
 use Rattle.std.specs.Prelude.{◌↔◌}
 use Rattle.clr_finders.specs.Sharing.{found_cells}
-use Rattle.clr_versions.proofs.Searches.{sets_of}
-use Rattle.clr_versions.specs.Versions.{Finds}
-use Rattle.clr_versions.specs.Gains.{OfSome}
+use Rattle.clr_row_versions.proofs.Searches.{sets_of}
+use Rattle.clr_row_versions.specs.Versions.{Finds}
+use Rattle.clr_row_versions.specs.Gains.{OfSome}
 use Rattle.clr_foot.specs.Ties.{IsChangedCell}
 use Rattle.clr_foot.specs.Touches.{IsLookedUpIn}
 use Rattle.clr_foot.specs.Scenes.{setting_in}

@@ -4,7 +4,7 @@ use Rattle.clr_needs.proofs.BreakLaws.{kept_more}
 use Rattle.clr_needs.proofs.Reading.{read_of}
 use Rattle.clr_needs.proofs.NeedOrder.{unread}
 use Rattle.clr_foot.proofs.LeastBroken.{first_is_least, listed_possible, none_is_broken}
-use Rattle.clr_versions.proofs.Searches.{sets_of}
+use Rattle.clr_row_versions.proofs.Searches.{sets_of}
 use Rattle.clr_foot.proofs.scenes.Scene.first_broken.Goals as goal
 
 pub is_broken-requires-clause-possible : goal.is_broken-requires-clause-possible

@@ -2,7 +2,7 @@ use Rattle.std.proofs.Common.{subst}
 use Rattle.clr_foot.specs.FirstServers.{IsFirstAt, IsFoundCell}
 use Rattle.clr_foot.specs.Scenes.{setting_in}
 use Rattle.clr_foot.proofs.FirstServerLaws.{is_least, server_found, still_behind}
-use Rattle.clr_versions.proofs.Searches.{sets_of}
+use Rattle.clr_row_versions.proofs.Searches.{sets_of}
 use Rattle.clr_foot.proofs.scenes.Scene.first_sought.Goals as goal
 
 pub loop-tried-preserved : goal.loop-tried-preserved

@@ -1,12 +1,12 @@
 use Rattle.std.proofs.Common.{[], ◌≤◌, subst, sym, refl, true, false}
-use Rattle.clr_versions.specs.Gains.{Reaches}
+use Rattle.clr_row_versions.specs.Gains.{Reaches}
 use Rattle.clr_new_pairs.specs.NewPairs.{Passes}
 use Rattle.clr_needs.specs.Needs.{IsTouched}
 use Rattle.clr_foot.specs.Scenes.{setting_in}
 use Rattle.clr_foot.specs.Touches.{IsInCells}
-use Rattle.clr_versions.specs.Versions.{Finds}
+use Rattle.clr_row_versions.specs.Versions.{Finds}
 use Rattle.clr_needs.proofs.NeedOrder.{need_exact}
-use Rattle.clr_versions.proofs.Searches.{sets_of}
+use Rattle.clr_row_versions.proofs.Searches.{sets_of}
 use Rattle.clr_foot.proofs.TouchSteps.{IsTouchedBelow, all_touched, no_rule_yet, one_rule_more}
 use Rattle.clr_foot.proofs.scenes.Scene.list_touched.Goals as goal
 

@@ -1,9 +1,9 @@
 use Rattle.std.proofs.Common.{[]}
-use Rattle.clr_versions.specs.Gains.{Reaches}
+use Rattle.clr_row_versions.specs.Gains.{Reaches}
 use Rattle.clr_new_pairs.specs.NewPairs.{Passes}
 use Rattle.clr_needs.specs.Needs.{IsTouched}
 use Rattle.clr_foot.specs.Scenes.{setting_in}
-use Rattle.clr_versions.proofs.Searches.{sets_of}
+use Rattle.clr_row_versions.proofs.Searches.{sets_of}
 use Rattle.clr_foot.proofs.TouchSteps.{IsTouchedBelow}
 use Rattle.clr_foot.proofs.scenes.Scene.list_touched.Given as goal
 

@@ -1,7 +1,7 @@
 use Rattle.std.proofs.Common.{subst, sym}
-use Rattle.clr_versions.specs.Versions.{FitNewRows}
-use Rattle.clr_versions.proofs.Searches.{sets_of}
-use Rattle.clr_versions.proofs.VersionFits.{fit_new_rows}
+use Rattle.clr_row_versions.specs.Versions.{FitNewRows}
+use Rattle.clr_row_versions.proofs.Searches.{sets_of}
+use Rattle.clr_row_versions.proofs.VersionFits.{fit_new_rows}
 use Rattle.clr_foot.proofs.scenes.Scene.new.Goals as goal
 
 pub file_new_rows-requires : goal.file_new_rows-requires

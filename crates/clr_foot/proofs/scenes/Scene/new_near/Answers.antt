@@ -1,7 +1,7 @@
 use Rattle.std.proofs.Common.{List, Contains, subst, sym}
 use Rattle.clr_rows.specs.declared.cells.CellId.{CellId}
 use Rattle.clr_finders.specs.Sharing.{found_cells}
-use Rattle.clr_versions.proofs.Searches.{sets_of}
+use Rattle.clr_row_versions.proofs.Searches.{sets_of}
 use Rattle.clr_foot.proofs.VersionLists.{new_found}
 use Rattle.clr_foot.proofs.scenes.Scene.new_near.Goals as goal
 

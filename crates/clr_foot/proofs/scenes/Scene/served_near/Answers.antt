@@ -2,7 +2,7 @@ use Rattle.std.proofs.Common.{◌∙◌, ◌+◌, Contains, ap, false, subst, sy
 use Rattle.clr_needs.proofs.Reading.{item_in}
 use Rattle.clr_foot.specs.Scenes.{setting_in}
 use Rattle.clr_foot.specs.Touches.{IsNeighbour}
-use Rattle.clr_versions.specs.Versions.{FindsAll, row_of}
+use Rattle.clr_row_versions.specs.Versions.{FindsAll, row_of}
 use Rattle.clr_foot.proofs.ServingLaws.{AreKept, all_are_near, all_kept, none_kept, one_kept, one_left}
 use Rattle.clr_foot.proofs.scenes.Scene.served_near.Goals as goal
 use Rattle.clr_foot.proofs.scenes.Scene.served_near.Goals.{else-may_be_served, then-may_be_served+in_ok-push}

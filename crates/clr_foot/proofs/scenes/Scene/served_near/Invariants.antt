@@ -1,5 +1,5 @@
 use Rattle.clr_foot.specs.Scenes.{setting_in}
-use Rattle.clr_versions.specs.Versions.{row_of}
+use Rattle.clr_row_versions.specs.Versions.{row_of}
 use Rattle.clr_foot.proofs.ServingLaws.{AreKept}
 use Rattle.clr_foot.proofs.scenes.Scene.served_near.Given as goal
 

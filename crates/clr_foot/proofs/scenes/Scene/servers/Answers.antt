@@ -6,7 +6,7 @@ use Rattle.clr_needs.specs.Needs.{Lists}
 use Rattle.clr_needs.specs.Orders.{version_cmp}
 use Rattle.clr_foot.specs.Scenes.{setting_in}
 use Rattle.clr_foot.specs.Touches.{IsServerOf}
-use Rattle.clr_versions.specs.Versions.{row_of}
+use Rattle.clr_row_versions.specs.Versions.{row_of}
 use Rattle.clr_foot.proofs.ServerLaws.{at_too, possible_number, possible_there, serving_same, subjects_call}
 use Rattle.clr_foot.proofs.scenes.Scene.servers.Goals as goal
 

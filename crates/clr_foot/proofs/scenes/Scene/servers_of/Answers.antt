@@ -2,7 +2,7 @@ use Rattle.std.proofs.Common.{true, false, subst, sym}
 use Rattle.clr_needs.specs.declared.needs.VersionId.{VersionId}
 use Rattle.clr_foot.specs.Scenes.{setting_in}
 use Rattle.clr_foot.specs.Touches.{IsNeighbour}
-use Rattle.clr_versions.specs.Versions.{AreAt, Finds, row_of}
+use Rattle.clr_row_versions.specs.Versions.{AreAt, Finds, row_of}
 use Rattle.clr_needs.proofs.NeedOrder.{version_exact}
 use Rattle.clr_foot.proofs.ServerLaws.{servers_exactly}
 use Rattle.clr_foot.proofs.scenes.Scene.servers_of.Goals as goal

@@ -1,6 +1,6 @@
 use Rattle.std.proofs.Common.{◌∙◌, ap, slice_get}
 use Rattle.clr_finders.proofs.SharingLemmas.{row_spots_under}
-use Rattle.clr_versions.specs.Versions.{row_of}
+use Rattle.clr_row_versions.specs.Versions.{row_of}
 use Rattle.clr_foot.proofs.VersionLists.{copied_is, copied_some}
 use Rattle.clr_foot.proofs.scenes.Scene.spots_of.Goals as goal
 

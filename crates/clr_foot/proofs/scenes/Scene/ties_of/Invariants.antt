@@ -1,5 +1,5 @@
 use Rattle.std.proofs.Common.{[]}
-use Rattle.clr_versions.specs.Gains.{Gains}
+use Rattle.clr_row_versions.specs.Gains.{Gains}
 use Rattle.clr_foot.specs.Scenes.{setting_in}
 use Rattle.clr_foot.specs.Ties.{MayTie}
 use Rattle.clr_foot.proofs.TieLaws.{IsTieBelow}

@@ -1,4 +1,4 @@
-use Rattle.clr_versions.proofs.Searches.{sets_of}
+use Rattle.clr_row_versions.proofs.Searches.{sets_of}
 use Rattle.clr_foot.proofs.TouchSteps.{none_left_out}
 use Rattle.clr_foot.proofs.scenes.Scene.touched_needs.Goals as goal
 

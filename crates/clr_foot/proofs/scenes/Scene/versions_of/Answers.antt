@@ -2,8 +2,8 @@ use Rattle.std.proofs.Common.{◌∙◌, ◌<◌, ◌++◌, List, ap, subst, fal
 use Rattle.std.specs.FinMap as finite
 use Rattle.std.proofs.lemmas.List.{length-map}
 use Rattle.clr_rows.specs.declared.cells.CellId.{CellId}
-use Rattle.clr_versions.specs.Versions.{Finds}
-use Rattle.clr_versions.proofs.Searches.{set_at, sets_of}
+use Rattle.clr_row_versions.specs.Versions.{Finds}
+use Rattle.clr_row_versions.proofs.Searches.{set_at, sets_of}
 use Rattle.clr_foot.specs.Scenes.{setting_in}
 use Rattle.clr_foot.specs.Touches.{IsInCells}
 use Rattle.clr_foot.proofs.TieLaws.{member_versions}

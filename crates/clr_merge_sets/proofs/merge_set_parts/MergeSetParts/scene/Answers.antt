@@ -2,7 +2,7 @@ use Rattle.std.proofs.Common.{◌≡◌, ◌∙◌, ap, subst, sym}
 use Rattle.clr_finders.specs.Sharing.{IsSettledFor}
 use Rattle.clr_needs.specs.Members.{AreApart, setting}
 use Rattle.clr_foot.specs.Scenes.{IsReady, setting_of}
-use Rattle.clr_versions.specs.Versions.{FitsSetting}
+use Rattle.clr_row_versions.specs.Versions.{FitsSetting}
 use Rattle.clr_steps.specs.Quiet.{root_content}
 use Rattle.clr_clearance.specs.MergeSets.{setting_by_position}
 use Rattle.clr_merge_sets.proofs.MergeSetLemmas.{made_with, merge_set_fits}

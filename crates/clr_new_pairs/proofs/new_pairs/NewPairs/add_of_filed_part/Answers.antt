@@ -1,5 +1,5 @@
 use Rattle.std.proofs.Common.{◌∙◌, None, sym}
-use Rattle.clr_versions.specs.Candidates.{IsNeedAmong}
+use Rattle.clr_row_versions.specs.Candidates.{IsNeedAmong}
 use Rattle.clr_new_pairs.specs.NewPairs.{IsNeedOfFiledPart}
 use Rattle.clr_new_pairs.proofs.NewPairLaws.{filed_part_past, gains_up_to, got_in, its_filed_part, no_filed_part}
 use Rattle.clr_new_pairs.proofs.new_pairs.NewPairs.add_of_filed_part.Goals as goal

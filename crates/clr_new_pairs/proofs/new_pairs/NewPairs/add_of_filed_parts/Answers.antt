@@ -1,7 +1,7 @@
 use Rattle.std.proofs.Common.{None}
-use Rattle.clr_versions.specs.Candidates.{IsNeedAmong}
+use Rattle.clr_row_versions.specs.Candidates.{IsNeedAmong}
 use Rattle.clr_new_pairs.specs.NewPairs.{IsNeedOfFiledPart, UpTo}
-use Rattle.clr_versions.proofs.Gaining.{of_all, of_none, of_one_more}
+use Rattle.clr_row_versions.proofs.Gaining.{of_all, of_none, of_one_more}
 use Rattle.clr_new_pairs.proofs.new_pairs.NewPairs.add_of_filed_parts.Goals as goal
 
 pub loop-filed-init : goal.loop-filed-init

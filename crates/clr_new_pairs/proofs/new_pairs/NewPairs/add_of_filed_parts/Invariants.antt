@@ -1,6 +1,6 @@
 use Rattle.std.proofs.Common.{None, take}
-use Rattle.clr_versions.specs.Candidates.{IsNeedAmong}
-use Rattle.clr_versions.specs.Gains.{Gains, OfSome}
+use Rattle.clr_row_versions.specs.Candidates.{IsNeedAmong}
+use Rattle.clr_row_versions.specs.Gains.{Gains, OfSome}
 use Rattle.clr_new_pairs.specs.NewPairs.{IsNeedOfFiledPart, UpTo}
 use Rattle.clr_new_pairs.proofs.new_pairs.NewPairs.add_of_filed_parts.Given as goal
 

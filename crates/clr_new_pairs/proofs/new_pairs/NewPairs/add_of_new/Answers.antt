@@ -1,12 +1,12 @@
 use Rattle.std.proofs.Common.{◌∙◌, None, ap}
 use Rattle.clr_rules.specs.Calls.{part_count}
-use Rattle.clr_versions.specs.Candidates.{IsNeedAmong}
+use Rattle.clr_row_versions.specs.Candidates.{IsNeedAmong}
 use Rattle.clr_new_pairs.specs.NewPairs.{IsNeedWithBefore}
-use Rattle.clr_versions.specs.RootVersions.{setting_in}
-use Rattle.clr_versions.specs.Versions.{row_of}
+use Rattle.clr_row_versions.specs.RootVersions.{setting_in}
+use Rattle.clr_row_versions.specs.Versions.{row_of}
 use Rattle.clr_new_pairs.proofs.NewPairLaws.{IsNeedWithPartTo, before_stays, gains_up_to, no_part_filed, no_part_yet, one_part_filed, one_part_more}
 use Rattle.clr_new_pairs.proofs.NewPairLaws.{unpaired_filed, unpaired_needs, version_filed}
-use Rattle.clr_versions.proofs.VersionFits.{fit_one}
+use Rattle.clr_row_versions.proofs.VersionFits.{fit_one}
 use Rattle.clr_new_pairs.proofs.new_pairs.NewPairs.add_of_new.Goals as goal
 
 pub returns-then-not-may_be_paired-clause-filed : goal.returns-then-not-may_be_paired-clause-filed

@@ -1,6 +1,6 @@
 use Rattle.std.proofs.Common.{None}
-use Rattle.clr_versions.specs.Candidates.{IsNeedAmong}
-use Rattle.clr_versions.specs.Gains.{Gains}
+use Rattle.clr_row_versions.specs.Candidates.{IsNeedAmong}
+use Rattle.clr_row_versions.specs.Gains.{Gains}
 use Rattle.clr_new_pairs.specs.NewPairs.{AreFiledBefore, ArePartsFiled, UpTo}
 use Rattle.clr_new_pairs.proofs.NewPairLaws.{IsNeedWithPartTo}
 use Rattle.clr_new_pairs.proofs.new_pairs.NewPairs.add_of_new.Given as goal

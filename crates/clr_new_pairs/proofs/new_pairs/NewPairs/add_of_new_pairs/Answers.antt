@@ -1,7 +1,7 @@
 use Rattle.std.proofs.Common.{subst}
 use Rattle.std.specs.Prelude.{IfSome}
 use Rattle.clr_new_pairs.specs.NewPairs.{HasBreakAt, IsNeedOfTwo, Passes}
-use Rattle.clr_versions.proofs.Gaining.{gains_reach}
+use Rattle.clr_row_versions.proofs.Gaining.{gains_reach}
 use Rattle.clr_new_pairs.proofs.NewPairLaws.{IsNeedBefore, all_positions, no_position_yet, none_filed, one_position_more}
 use Rattle.clr_new_pairs.proofs.new_pairs.NewPairs.add_of_new_pairs.Goals as goal
 

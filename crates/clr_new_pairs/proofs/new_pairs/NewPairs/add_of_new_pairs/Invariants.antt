@@ -1,4 +1,4 @@
-use Rattle.clr_versions.specs.Gains.{Reaches}
+use Rattle.clr_row_versions.specs.Gains.{Reaches}
 use Rattle.clr_new_pairs.specs.NewPairs.{AreFiledBefore, IsNeedOfTwo, Passes}
 use Rattle.clr_new_pairs.proofs.NewPairLaws.{IsNeedBefore}
 use Rattle.clr_new_pairs.proofs.new_pairs.NewPairs.add_of_new_pairs.Given as goal

@@ -3,13 +3,13 @@ use Rattle.clr_spots.specs.RoleSpots.{subject_spots_under}
 use Rattle.clr_spots.specs.Spots.{are_many, unless_many}
 use Rattle.clr_spots.specs.declared.spot_maps.FiledPart.{FiledPart}
 use Rattle.clr_spots.specs.Filing.{with_filed, near}
-use Rattle.clr_versions.specs.Candidates.{IsNeedAmong}
-use Rattle.clr_versions.specs.Gains.{OfSome}
+use Rattle.clr_row_versions.specs.Candidates.{IsNeedAmong}
+use Rattle.clr_row_versions.specs.Gains.{OfSome}
 use Rattle.clr_new_pairs.specs.NewPairs.{IsNeedOfFiledPart, IsNeedWithPart, UpTo, filed_part}
-use Rattle.clr_versions.specs.RootVersions.{setting_in}
-use Rattle.clr_versions.proofs.Gaining.{gains_as}
+use Rattle.clr_row_versions.specs.RootVersions.{setting_in}
+use Rattle.clr_row_versions.proofs.Gaining.{gains_as}
 use Rattle.clr_new_pairs.proofs.NewPairLaws.{part_found}
-use Rattle.clr_versions.proofs.VersionFits.{fit_one}
+use Rattle.clr_row_versions.proofs.VersionFits.{fit_one}
 use Rattle.clr_new_pairs.proofs.new_pairs.NewPairs.add_of_part_at.Goals as goal
 
 pub subject_spots-requires-clause-fit : goal.subject_spots-requires-clause-fit

@@ -1,8 +1,8 @@
 use Rattle.std.proofs.Common.{List, map, ap, sym, subst, ◌∙◌}
 use Rattle.std.proofs.lemmas.Result.{err_from_is_err_and}
-use Rattle.clr_parts.specs.Parts.{workspace_of, first_fault, IsFirstPartFault}
-use Rattle.clr_parts.specs.declared.parts.Part.{Part}
-use Rattle.clr_parts.proofs.BuildLemmas.{sound_deltas, none_wrong, marks_wrong}
+use Rattle.clr_workspace_parts.specs.Parts.{workspace_of, first_fault, IsFirstPartFault}
+use Rattle.clr_workspace_parts.specs.declared.parts.Part.{Part}
+use Rattle.clr_workspace_parts.proofs.BuildLemmas.{sound_deltas, none_wrong, marks_wrong}
 use Rattle.clr_tree.proofs.tree.Tree.build.Goals as goal
 
 pub of_map-requires : goal.of_map-requires

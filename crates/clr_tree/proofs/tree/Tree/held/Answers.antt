@@ -1,6 +1,6 @@
 use Rattle.std.proofs.Common.{List, ap, sym, ◌∙◌}
 use Rattle.clr_workspaces.specs.Marks.{Mark, is_held}
-use Rattle.clr_parts.proofs.MarkLemmas.{held_as_stored}
+use Rattle.clr_workspace_parts.proofs.MarkLemmas.{held_as_stored}
 use Rattle.clr_tree.proofs.tree.Tree.held.Goals as goal
 
 pub returns : goal.returns

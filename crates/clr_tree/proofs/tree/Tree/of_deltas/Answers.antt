@@ -1,6 +1,6 @@
 use Rattle.std.proofs.lemmas.Result.{err_from_is_err_and}
-use Rattle.clr_parts.specs.Parts.{spaces_of}
-use Rattle.clr_parts.proofs.BuildLemmas.{sound_deltas, none_wrong, marks_wrong}
+use Rattle.clr_workspace_parts.specs.Parts.{spaces_of}
+use Rattle.clr_workspace_parts.proofs.BuildLemmas.{sound_deltas, none_wrong, marks_wrong}
 use Rattle.clr_tree.proofs.tree.Tree.of_deltas.Goals as goal
 
 pub of_map-requires : goal.of_map-requires

@@ -1,7 +1,7 @@
 use Rattle.std.proofs.Common.{◌≡◌, subst}
 use Rattle.std.specs.Prelude.{IfOk}
 use Rattle.clr_workspaces.specs.Workspaces.{Workspace}
-use Rattle.clr_parts.specs.Parts.{workspace_of}
+use Rattle.clr_workspace_parts.specs.Parts.{workspace_of}
 use Rattle.clr_tree.proofs.LiveLemmas.{first_is}
 use Rattle.clr_tree.proofs.ModelLemmas.{within_tree}
 use Rattle.clr_tree.proofs.tree.Tree.part.Goals as goal

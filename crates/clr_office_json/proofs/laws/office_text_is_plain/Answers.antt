@@ -1,5 +1,0 @@
-use Rattle.clr_office_json.proofs.Plainness.{plain}
-use Rattle.clr_office_json.proofs.laws.office_text_is_plain.Goals as goal
-
-pub returns : goal.returns
-returns c = plain

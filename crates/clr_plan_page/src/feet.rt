@@ -1,0 +1,114 @@
+//! The foot of a report: the command and the lines on which the report stands.
+
+ghost use Rattle.std.specs.Prelude.{◌≡◌, ◌++◌, codes, map, IfOk, OnOk};
+ghost use Rattle.std.specs.List.{flat_map};
+ghost use Rattle.clr_plan.specs.PlanLines.{plan_text};
+ghost use Rattle.clr_plan_page.specs.Reports.{EndsWith, command_text, under_text, word_text};
+
+use clr_html::{Block, InlineText, Section};
+use clr_plan::{Plan, plan_lines};
+use clr_rows::{LIVE, Schema};
+use std::alloc::{AllocError, Global};
+
+/// The command that asks for a plan under LIVE.
+const PLAN: &str = "clr_office plan DB";
+
+/// The command that asks for a plan under a root, which comes next.
+const PLANUNDER: &str = "clr_office planunder DB";
+
+/// The commands that ask for a plan are these.
+pub fn commands_of_reports()
+    ensures plan { PLAN.now ≡ codes "clr_office plan DB" }
+    ensures planunder { PLANUNDER.now ≡ codes "clr_office planunder DB" }
+{}
+
+/// Adds a word of a command, behind a space.
+fn add_word(text: &mut Vec<u8>, word: &str) -> Result<(), AllocError>
+    ensures { OnOk result (text.new.items ≡ text.old.items ++ word_text word.now) }
+{
+    text.extend_from_slice(b" ")?;
+    text.extend_from_slice(word.as_bytes())
+}
+
+/// Adds words of a command, each behind a space.
+fn add_words(text: &mut Vec<u8>, words: &[&str]) -> Result<(), AllocError>
+    ensures { OnOk result (text.new.items ≡ text.old.items ++ flat_map word_text (map (λ word. word.now) words.now)) }
+{
+    for word in words {
+        add_word(text, word)?;
+    }
+    Ok(())
+}
+
+/// Adds what is asked of which office and which root.
+fn add_under(text: &mut Vec<u8>, root: &str) -> Result<(), AllocError>
+    ensures { OnOk result (text.new.items ≡ text.old.items ++ under_text root.now) }
+{
+    if root == LIVE {
+        return text.extend_from_slice(PLAN.as_bytes());
+    }
+    text.extend_from_slice(PLANUNDER.as_bytes())?;
+    add_word(text, root)
+}
+
+/// Adds the command that prints the plan of members of a root.
+#[tactic(auto, unfolding(crate::specs::Reports::command_text))]
+fn add_command(text: &mut Vec<u8>, root: &str, members: &[&str]) -> Result<(), AllocError>
+    ensures { OnOk result (text.new.items ≡ text.old.items ++ command_text (map (λ name. name.now) members.now) root.now) }
+{
+    add_under(text, root)?;
+    add_words(text, members)?;
+    text.extend_from_slice(b"\n")
+}
+
+/// Returns the command that prints the plan of members of a root, and the lines that it prints.
+fn lines_of(
+    alloc: Global,
+    schema: &Schema,
+    root: &str,
+    members: &[&str],
+    plan: &Plan,
+) -> Result<Vec<u8>, AllocError>
+    ensures { IfOk result (λ text. text.items ≡ command_text (map (λ name. name.now) members.now) root.now
+        ++ plan_text schema.now (map (λ name. name.now) members.now) root.now plan.now) }
+{
+    let lines = plan_lines(alloc, schema, members, root, plan)?;
+    let mut text = Vec::new(alloc);
+    add_command(&mut text, root, members)?;
+    text.extend_from_slice(lines.as_slice())?;
+    Ok(text)
+}
+
+/// Returns what the lines at the foot of a report are.
+fn note_of(plan: &Plan) -> &'static str {
+    match plan {
+        Plan::Cleared(_) => {
+            "This page stands on the lines that this command prints; DB is the file of the office. The lines behind the first \
+             are a certificate, which clr_office check reads."
+        }
+        _ => {
+            "This page stands on the lines that this command prints; DB is the file of the office."
+        }
+    }
+}
+
+/// Returns the last section of a report: what its lines are, and then the command and the lines.
+pub(crate) fn foot_of(
+    alloc: Global,
+    schema: &Schema,
+    root: &str,
+    members: &[&str],
+    plan: &Plan,
+) -> Result<Section, AllocError>
+    ensures { IfOk result (λ section. EndsWith section (command_text (map (λ name. name.now) members.now) root.now
+        ++ plan_text schema.now (map (λ name. name.now) members.now) root.now plan.now)) }
+{
+    let heading = Vec::from_slice(alloc, b"To look again")?;
+    let note = Vec::from_slice(alloc, note_of(plan).as_bytes())?;
+    let lines = lines_of(alloc, schema, root, members, plan)?;
+    let mut blocks = Vec::new(alloc);
+    blocks.push(Block::Heading(heading))?;
+    blocks.push(Block::Paragraph(InlineText::Soft(note)))?;
+    blocks.push(Block::Lines(lines))?;
+    Ok(Section { blocks })
+}

@@ -1,0 +1,75 @@
+//! What would help.
+
+ghost use Rattle.std.specs.Prelude.{◌≡◌, ◌++◌, map, IfOk, OnOk};
+ghost use Rattle.std.specs.List.{flat_map};
+ghost use Rattle.clr_html.specs.Words.{words_of_row};
+ghost use Rattle.clr_plan_page.specs.Reasons.{AreTrialsShown, TellsTrials, trial_rows, trial_words};
+ghost use Rattle.clr_html.specs.declared.blocks.Block.TheVariants as block;
+ghost use Rattle.clr_plan_page.specs.Sections.{Adds};
+
+use crate::sections::{Builder, row_of, table_of};
+use clr_html::{Block, Table, TableRow};
+use clr_work_orders::Trial;
+use std::alloc::{AllocError, Global};
+
+/// Returns the row of a trial.
+fn trial_row(alloc: Global, trial: &Trial) -> Result<TableRow, AllocError>
+    ensures { IfOk result (λ row. words_of_row row ≡ trial_words trial.now) }
+{
+    if trial.is_cleared {
+        return row_of(alloc, &[trial.words.as_str(), "cleared"]);
+    }
+    row_of(alloc, &[trial.words.as_str(), "not cleared"])
+}
+
+/// Adds the row of a trial, where it has this answer.
+fn add_trial(
+    alloc: Global,
+    rows: &mut Vec<TableRow>,
+    trial: &Trial,
+    is_cleared: bool,
+) -> Result<(), AllocError>
+    ensures { OnOk result (map words_of_row rows.new.items ≡ map words_of_row rows.old.items ++ trial_rows is_cleared trial.now) }
+{
+    if trial.is_cleared == is_cleared {
+        rows.push(trial_row(alloc, trial)?)?;
+    }
+    Ok(())
+}
+
+/// Adds the rows of the trials that have this answer.
+fn add_trials(
+    alloc: Global,
+    rows: &mut Vec<TableRow>,
+    trials: &[Trial],
+    is_cleared: bool,
+) -> Result<(), AllocError>
+    ensures { OnOk result (map words_of_row rows.new.items ≡ map words_of_row rows.old.items ++ flat_map (trial_rows is_cleared) trials.now) }
+{
+    for trial in trials {
+        add_trial(alloc, rows, trial, is_cleared)?;
+    }
+    Ok(())
+}
+
+/// Returns the table of trials, the cleared ones first.
+fn trials_table(alloc: Global, trials: &[Trial]) -> Result<Table, AllocError>
+    ensures { IfOk result (λ table. AreTrialsShown trials.now (block.Table table)) }
+{
+    let mut table = table_of(alloc, &["Tried", "Then all that are left are"])?;
+    add_trials(alloc, &mut table.rows, trials, true)?;
+    add_trials(alloc, &mut table.rows, trials, false)?;
+    Ok(table)
+}
+
+/// Adds what was tried and what the planner says of it, the cleared ones first; nothing where nothing was tried.
+pub(crate) fn add_remedies(section: &mut Builder, trials: &[Trial]) -> Result<(), AllocError>
+    ensures { OnOk result (Adds (TellsTrials trials.now) section.old.blocks.items section.new.blocks.items) }
+{
+    if trials.is_empty() {
+        return Ok(());
+    }
+    section.add_heading("What would help, each by itself")?;
+    let table = trials_table(section.alloc, trials)?;
+    section.add(Block::Table(table))
+}

@@ -1,0 +1,160 @@
+//! The report of a plan.
+
+ghost use Rattle.std.specs.Prelude.{◌≡◌, map, IfOk, OnOk};
+ghost use Rattle.clr_merge_sets.specs.MergeSetNames.{merge_set};
+ghost use Rattle.clr_plan_page.specs.Clashes.{AreDesigns};
+ghost use Rattle.clr_plan_page.specs.Reasons.{AreReasons, IsWhy};
+ghost use Rattle.clr_plan_page.specs.Reports.{AreBetween, IsReport, IsReportPage};
+ghost use Rattle.clr_plan_page.specs.Sections.{Adds};
+
+use crate::causes::add_cause;
+use crate::clashes::add_clashes;
+use crate::designs::add_designs;
+use crate::feet::foot_of;
+use crate::heads::{about, head_of, title_of};
+use crate::needs::add_needs;
+use crate::remedies::add_remedies;
+use crate::sections::Builder;
+use clr_engine::Office;
+use clr_html::{HtmlPage, Section, write_page};
+use clr_plan::Plan;
+use clr_plan_map::plan_map;
+use clr_plan_sentences::{PlannedDesigns, Setting, answer_words};
+use clr_rows::Schema;
+use clr_work_orders::{Trial, try_remedies};
+use std::alloc::{AllocError, Global};
+
+/// Adds what serves each need of a cleared plan; or the cause of a blocked one, and what was tried to help.
+fn add_reasons(
+    section: &mut Builder,
+    setting: Setting<'_>,
+    plan: &Plan,
+    trials: &[Trial],
+) -> Result<(), AllocError>
+    ensures { OnOk result (Adds (AreReasons plan.now trials.now) section.old.blocks.items section.new.blocks.items) }
+{
+    match plan {
+        Plan::Cleared(certificate) => {
+            add_needs(section, setting, certificate.entries.as_slice())
+        }
+        Plan::Blocked { cause, .. } => {
+            add_cause(section, setting, cause)?;
+            add_remedies(section, trials)
+        }
+        Plan::Unfit(_) => Ok(()),
+        Plan::OutOfMemory => Ok(()),
+    }
+}
+
+/// Returns why a plan says what it says, and what would help.
+fn why_of(setting: Setting<'_>, plan: &Plan, trials: &[Trial]) -> Result<Section, AllocError>
+    ensures { IfOk result (λ section. IsWhy plan.now trials.now section.blocks.items) }
+{
+    let mut section = Builder::new(setting.alloc);
+    section.add_heading("Why")?;
+    let answer = answer_words(setting, plan)?;
+    section.add_paragraph(answer.as_str())?;
+    add_reasons(&mut section, setting, plan, trials)?;
+    Ok(section.into_section())
+}
+
+/// Returns the members that a plan's order names.
+fn leaders_of(plan: &Plan) -> &[usize] {
+    match plan {
+        Plan::Blocked { order, .. } => order.as_slice(),
+        _ => &[],
+    }
+}
+
+/// Returns the designs, and the smallest sets of them that can't be merged together.
+fn designs_of(setting: Setting<'_>, plan: &Plan) -> Result<Section, AllocError>
+    ensures { IfOk result (λ section. AreDesigns setting.entry.office.now
+        (merge_set setting.entry.members.now.root.now (map (λ name. name.now) setting.entry.members.now.names.now)) section.blocks.items) }
+{
+    let mut section = Builder::new(setting.alloc);
+    section.add_heading("The designs")?;
+    add_designs(&mut section, setting, leaders_of(plan))?;
+    add_clashes(&mut section, setting)?;
+    Ok(section.into_section())
+}
+
+/// Returns what stands between the head and the foot.
+fn sections_between(
+    alloc: Global,
+    office: &Office,
+    root: &str,
+    members: &[&str],
+    plan: &Plan,
+    trials: &[Trial],
+) -> Result<Vec<Section>, AllocError>
+    ensures { IfOk result (λ sections. AreBetween office.now (merge_set root.now (map (λ name. name.now) members.now)) plan.now trials.now sections.items) }
+{
+    let changes = PlannedDesigns::read(alloc, office, root, members)?;
+    let setting = Setting {
+        alloc,
+        office,
+        members: &changes,
+    };
+    let why = why_of(setting, plan, trials)?;
+    let designs = designs_of(setting, plan)?;
+    let mut sections = Vec::new(alloc);
+    sections.push(why)?;
+    sections.push(designs)?;
+    Ok(sections)
+}
+
+/// Returns the page of a report with this picture, and with these sections between its head and its
+/// foot.
+fn page_of(
+    alloc: Global,
+    schema: &Schema,
+    root: &str,
+    members: &[&str],
+    plan: &Plan,
+    picture: Vec<u8>,
+    mut between: Vec<Section>,
+) -> Result<HtmlPage, AllocError>
+    ensures { IfOk result (IsReportPage schema.now (merge_set root.now (map (λ name. name.now) members.now)) plan.now picture.items between.items) }
+{
+    let about = about(alloc, root, members)?;
+    let title = title_of(alloc, plan, about.as_str())?;
+    let head = head_of(alloc, plan, about.as_str(), picture)?;
+    let foot = foot_of(alloc, schema, root, members, plan)?;
+    let mut sections = Vec::new(alloc);
+    sections.push(head)?;
+    sections.append(&mut between)?;
+    sections.push(foot)?;
+    Ok(HtmlPage { title, sections })
+}
+
+/// Returns the report of a plan of members of a root, as the text of a page of hypertext in one file, which loads nothing. It begins with the
+/// word for what the plan says and with the map; then it tells why, with the rows of the cause and what was tried to help, or with what
+/// serves each need; what each design changes; and the smallest sets of designs that can't be merged together. It ends with the command of
+/// `clr_office` that prints the lines of the plan, in which DB stands for the office's file, and with these lines. Each text of the office is
+/// escaped. Lengths and places are in metres with three decimals. Of a design or a certificate the first 400 rows are told. The office is
+/// left as it was, unless memory runs out.
+pub fn plan_report(
+    alloc: Global,
+    office: &mut Office,
+    root: &str,
+    members: &[&str],
+    plan: &Plan,
+) -> Result<Vec<u8>, AllocError>
+    ensures report { IfOk result (λ text. IsReport office.old (merge_set root.now (map (λ name. name.now) members.now)) plan.now text.items) }
+    ensures back { IfOk result (λ text. office.new ≡ office.old) }
+{
+    let picture = plan_map(alloc, office, root, members, plan)?;
+    let trials = try_remedies(alloc, office, root, members, plan)?;
+    let between = sections_between(alloc, office, root, members, plan, trials.as_slice())?;
+    let page = page_of(
+        alloc,
+        office.schema(),
+        root,
+        members,
+        plan,
+        picture,
+        between,
+    )?;
+    let text = write_page(alloc, &page)?;
+    Ok(text)
+}

@@ -1,0 +1,114 @@
+//! What sections are made of.
+
+ghost use Rattle.std.specs.Prelude.{◌≡◌, ◌++◌, ◌∷◌, [], map, IfOk, OnOk};
+ghost use Rattle.clr_html.specs.Words.{words_of_row, words_of_text};
+ghost use Rattle.clr_plan_page.specs.Sections.{Adds, AddsOne, AreSaid, IsHeading};
+
+use clr_html::{Block, InlineText, Section, Table, TableRow};
+use std::alloc::{AllocError, Global};
+
+/// Blocks that become a section.
+#[derive(Drop)]
+pub(crate) struct Builder {
+    pub(crate) alloc: Global,
+    blocks: Vec<Block>,
+}
+
+/// Returns a plain text.
+pub(crate) fn plain_text(alloc: Global, words: &str) -> Result<InlineText, AllocError>
+    ensures { IfOk result (λ text. words_of_text text ≡ words.now) }
+{
+    Ok(InlineText::Plain(Vec::from_slice(alloc, words.as_bytes())?))
+}
+
+/// Returns a text in bold letters.
+fn strong_text(alloc: Global, words: &str) -> Result<InlineText, AllocError>
+    ensures { IfOk result (λ text. words_of_text text ≡ words.now) }
+{
+    Ok(InlineText::Strong(Vec::from_slice(alloc, words.as_bytes())?))
+}
+
+/// Returns an empty table with these heads.
+pub(crate) fn table_of(alloc: Global, heads: &[&str]) -> Result<Table, AllocError>
+    ensures heads { IfOk result (λ table. map words_of_text table.heads.items ≡ map (λ head. head.now) heads.now) }
+    ensures rows { IfOk result (λ table. table.rows.items ≡ []) }
+{
+    let mut texts = Vec::with_capacity(alloc, heads.len())?;
+    for head in heads {
+        texts.push(plain_text(alloc, head)?)?;
+    }
+    Ok(Table {
+        heads: texts,
+        rows: Vec::new(alloc),
+    })
+}
+
+/// Returns the text of a cell, in bold letters where it is the first.
+fn cell_text(alloc: Global, is_first: bool, words: &str) -> Result<InlineText, AllocError>
+    ensures { IfOk result (λ text. words_of_text text ≡ words.now) }
+{
+    if is_first {
+        strong_text(alloc, words)
+    } else {
+        plain_text(alloc, words)
+    }
+}
+
+/// Returns a row of cells, the first of them in bold letters.
+pub(crate) fn row_of(alloc: Global, cells: &[&str]) -> Result<TableRow, AllocError>
+    ensures { IfOk result (λ row. words_of_row row ≡ map (λ cell. cell.now) cells.now) }
+{
+    let mut texts = Vec::with_capacity(alloc, cells.len())?;
+    for cell in cells {
+        let text = cell_text(alloc, texts.is_empty(), cell)?;
+        texts.push(text)?;
+    }
+    Ok(TableRow { cells: texts })
+}
+
+impl Builder {
+    /// Returns a section with nothing in it.
+    pub(crate) fn new(alloc: Global) -> Builder
+        ensures { result.blocks.items ≡ [] }
+    {
+        Builder {
+            alloc,
+            blocks: Vec::new(alloc),
+        }
+    }
+
+    /// Adds a heading.
+    pub(crate) fn add_heading(&mut self, words: &str) -> Result<(), AllocError>
+        ensures { OnOk result (AddsOne (IsHeading words.now) self.old.blocks.items self.new.blocks.items) }
+    {
+        let words = Vec::from_slice(self.alloc, words.as_bytes())?;
+        self.add(Block::Heading(words))
+    }
+
+    /// Adds a paragraph, where there are words for one.
+    pub(crate) fn add_paragraph(&mut self, words: &str) -> Result<(), AllocError>
+        ensures { OnOk result (Adds (AreSaid words.now) self.old.blocks.items self.new.blocks.items) }
+    {
+        if words.is_empty() {
+            return Ok(());
+        }
+        let text = plain_text(self.alloc, words)?;
+        self.add(Block::Paragraph(text))
+    }
+
+    /// Adds a block.
+    pub(crate) fn add(&mut self, block: Block) -> Result<(), AllocError>
+        ensures { OnOk result (self.new.blocks.items ≡ self.old.blocks.items ++ block ∷ []) }
+    {
+        Ok(self.blocks.push(block)?)
+    }
+
+    /// Returns the section.
+    pub(crate) fn into_section(self) -> Section
+        ensures { result.blocks ≡ self.blocks }
+    {
+        Section {
+            blocks: self.blocks,
+        }
+    }
+}

@@ -1,6 +1,0 @@
-use Rattle.clr_plan_report.specs.Sections.{Adds, ArePlain}
-use Rattle.clr_plan_report.proofs.designs.add_designs.Given as goal
-
--- plain blocks are added
-abbrev pub invariant-loop-at : goal.invariant-loop-at
-invariant-loop-at l = Adds ArePlain l.initial.section.blocks.items l.section.blocks.items

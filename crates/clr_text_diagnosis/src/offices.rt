@@ -1,0 +1,96 @@
+//! Why an office text can't be used.
+ghost use Rattle.std.specs.Prelude.{◌≡◌, IfNone, IfOk, IfSome, IsOk, Ok};
+ghost use Rattle.clr_office_texts.specs.Drafts.{draft_in};
+ghost use Rattle.clr_office_reading.specs.Offices.{office_in};
+ghost use Rattle.clr_text_diagnosis.specs.Whys.{AreOfficeLines, IsOfficeWhy, IsRemarkedOfficeFault};
+
+use crate::needs::unheld_lines;
+use crate::whys::Why;
+use clr_engine::{AdmitFault, Draft};
+use clr_explanations::{OfficeFault, explain_office, explain_standing, office_fault_words};
+use clr_fault_lines::fault_lines;
+use clr_office_texts::{TextFault, read_office};
+use std::alloc::{AllocError, Global};
+
+/// Returns the fault of the workspaces of a text that can be read, and what is said of it, or none where
+/// they stand.
+fn standing_fault(alloc: Global, text: &[u8]) -> Result<Option<OfficeFault>, AllocError>
+    requires { IsOk (office_in text.now) }
+    ensures none { IfOk result (λ found. IfNone found (IsOk (draft_in text.now))) }
+    ensures told { IfOk result (λ found. IfSome found (λ f. IsRemarkedOfficeFault text.now f.fault f.remark)) }
+{
+    match explain_standing(alloc, text)? {
+        Some(remark) => Ok(Some(OfficeFault {
+            fault: TextFault::BadPart,
+            remark,
+        })),
+        None => Ok(None),
+    }
+}
+
+/// Returns the fault of an office text, and what is said of it, or none where it is an office.
+pub(crate) fn office_fault(alloc: Global, text: &[u8]) -> Result<Option<OfficeFault>, AllocError>
+    ensures none { IfOk result (λ found. IfNone found (IsOk (draft_in text.now))) }
+    ensures told { IfOk result (λ found. IfSome found (λ f. IsRemarkedOfficeFault text.now f.fault f.remark)) }
+{
+    match explain_office(alloc, text)? {
+        Some(found) => Ok(Some(found)),
+        None => standing_fault(alloc, text),
+    }
+}
+
+/// Returns the lines of the fault of an office text.
+#[tactic(auto, using(crate::proofs::RemarkLemmas::is_within))]
+pub(crate) fn office_lines(
+    alloc: Global,
+    text: &[u8],
+    found: &OfficeFault,
+) -> Result<Vec<u8>, AllocError>
+    requires { IsRemarkedOfficeFault text.now found.now.fault found.now.remark }
+    ensures { IfOk result (λ lines. AreOfficeLines text.now lines.items) }
+{
+    let lines = fault_lines(alloc, text, office_fault_words(found.fault), &found.remark)?;
+    Ok(lines)
+}
+
+/// Returns what is found in a draft.
+fn why_draft(alloc: Global, draft: Draft, text: &[u8]) -> Result<Why, AllocError>
+    requires { draft_in text.now ≡ Ok draft }
+    ensures { IfOk result (IsOfficeWhy text.now) }
+{
+    let _text = text;
+    match draft.admit() {
+        Ok(_) => Ok(Why::NoFault),
+        Err((draft, fault)) => match fault {
+            AdmitFault::Broken { position, need } => {
+                let lines = unheld_lines(alloc, &draft, position, &need)?;
+                Ok(Why::Unheld(lines))
+            }
+            AdmitFault::OutOfMemory => Err(AllocError),
+        },
+    }
+}
+
+/// Returns what is found in an office text without a fault.
+fn why_sound(alloc: Global, text: &[u8]) -> Result<Why, AllocError>
+    ensures { IfOk result (IsOfficeWhy text.now) }
+{
+    match read_office(alloc, text) {
+        Ok(draft) => why_draft(alloc, draft, text),
+        Err(_) => Err(AllocError),
+    }
+}
+
+/// Returns what is found in an office text: that it is an office in which the rules hold, the lines of a rule that doesn't hold, or
+/// those of its fault.
+pub fn why_office(alloc: Global, text: &[u8]) -> Result<Why, AllocError>
+    ensures why { IfOk result (IsOfficeWhy text.now) }
+{
+    match office_fault(alloc, text)? {
+        Some(found) => {
+            let lines = office_lines(alloc, text, &found)?;
+            Ok(Why::Faulty(lines))
+        }
+        None => why_sound(alloc, text),
+    }
+}

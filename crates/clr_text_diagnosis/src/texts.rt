@@ -1,0 +1,150 @@
+//! Why a script or a certificate over an office can't be used.
+ghost use Rattle.std.specs.Prelude.{◌≡◌, Err, IfOk, Ok};
+ghost use Rattle.clr_cert.specs.Certificates.{certificate_in};
+ghost use Rattle.clr_office_texts.specs.Drafts.{draft_in};
+ghost use Rattle.clr_record_explanations.specs.RecordRemarks.{IsRecordRemark};
+ghost use Rattle.clr_scripts.specs.Scripts.{script_in_text};
+ghost use Rattle.clr_text_diagnosis.specs.Whys.{AreCertificateLines, AreScriptLines, IsCertificateWhy, IsScriptWhy};
+
+use crate::offices::{office_fault, office_lines};
+use crate::whys::Why;
+use clr_engine::Draft;
+use clr_fault_lines::fault_lines;
+use clr_office_texts::read_office;
+use clr_record_explanations::{
+    CertificateFault, ScriptFault, certificate_fault_words, explain_certificate, explain_script,
+    script_fault_words,
+};
+use clr_rows::Schema;
+use std::alloc::{AllocError, Global};
+
+/// Returns the lines of the fault of a script.
+fn script_lines(
+    alloc: Global,
+    schema: &Schema,
+    text: &[u8],
+    found: &ScriptFault,
+) -> Result<Vec<u8>, AllocError>
+    requires told { script_in_text schema.now text.now ≡ Err (found.now.number, found.now.fault) }
+    requires at { IsRecordRemark text.now found.now.number found.now.remark }
+    ensures { IfOk result (λ lines. AreScriptLines schema.now text.now lines.items) }
+{
+    let _schema = schema;
+    let lines = fault_lines(alloc, text, script_fault_words(found.fault), &found.remark)?;
+    Ok(lines)
+}
+
+/// Returns the lines of the fault of a certificate.
+fn certificate_lines(
+    alloc: Global,
+    schema: &Schema,
+    text: &[u8],
+    found: &CertificateFault,
+) -> Result<Vec<u8>, AllocError>
+    requires told { certificate_in schema.now text.now ≡ Err (found.now.number, found.now.fault) }
+    requires at { IsRecordRemark text.now found.now.number found.now.remark }
+    ensures { IfOk result (λ lines. AreCertificateLines schema.now text.now lines.items) }
+{
+    let _schema = schema;
+    let lines = fault_lines(
+        alloc,
+        text,
+        certificate_fault_words(found.fault),
+        &found.remark,
+    )?;
+    Ok(lines)
+}
+
+/// Returns what is found in a script over the draft of an office text.
+fn why_script_over(
+    alloc: Global,
+    draft: &Draft,
+    office: &[u8],
+    script: &[u8],
+) -> Result<Why, AllocError>
+    requires { draft_in office.now ≡ Ok draft.now }
+    ensures { IfOk result (IsScriptWhy office.now script.now) }
+{
+    let _office = office;
+    let schema = draft.schema();
+    match explain_script(alloc, schema, script)? {
+        Some(found) => {
+            let lines = script_lines(alloc, schema, script, &found)?;
+            Ok(Why::Faulty(lines))
+        }
+        None => Ok(Why::NoFault),
+    }
+}
+
+/// Returns what is found in a certificate over the draft of an office text.
+fn why_certificate_over(
+    alloc: Global,
+    draft: &Draft,
+    office: &[u8],
+    certificate: &[u8],
+) -> Result<Why, AllocError>
+    requires { draft_in office.now ≡ Ok draft.now }
+    ensures { IfOk result (IsCertificateWhy office.now certificate.now) }
+{
+    let _office = office;
+    let schema = draft.schema();
+    match explain_certificate(alloc, schema, certificate)? {
+        Some(found) => {
+            let lines = certificate_lines(alloc, schema, certificate, &found)?;
+            Ok(Why::Faulty(lines))
+        }
+        None => Ok(Why::NoFault),
+    }
+}
+
+/// Returns what is found in a script over an office text without a fault.
+fn why_script_of_draft(alloc: Global, office: &[u8], script: &[u8]) -> Result<Why, AllocError>
+    ensures { IfOk result (IsScriptWhy office.now script.now) }
+{
+    match read_office(alloc, office) {
+        Ok(draft) => why_script_over(alloc, &draft, office, script),
+        Err(_) => Err(AllocError),
+    }
+}
+
+/// Returns what is found in a script over an office text: that it can be read, the lines of its fault, or before it those of the
+/// fault of the office. Whether the rules hold isn't asked.
+pub fn why_script(alloc: Global, office: &[u8], script: &[u8]) -> Result<Why, AllocError>
+    ensures why { IfOk result (IsScriptWhy office.now script.now) }
+{
+    match office_fault(alloc, office)? {
+        Some(found) => {
+            let lines = office_lines(alloc, office, &found)?;
+            Ok(Why::Faulty(lines))
+        }
+        None => why_script_of_draft(alloc, office, script),
+    }
+}
+
+/// Returns what is found in a certificate over an office text without a fault.
+fn why_certificate_of_draft(
+    alloc: Global,
+    office: &[u8],
+    certificate: &[u8],
+) -> Result<Why, AllocError>
+    ensures { IfOk result (IsCertificateWhy office.now certificate.now) }
+{
+    match read_office(alloc, office) {
+        Ok(draft) => why_certificate_over(alloc, &draft, office, certificate),
+        Err(_) => Err(AllocError),
+    }
+}
+
+/// Returns what is found in a certificate over an office text: that it can be read, the lines of its fault, or before it those of
+/// the fault of the office. Whether the rules hold isn't asked.
+pub fn why_certificate(alloc: Global, office: &[u8], certificate: &[u8]) -> Result<Why, AllocError>
+    ensures why { IfOk result (IsCertificateWhy office.now certificate.now) }
+{
+    match office_fault(alloc, office)? {
+        Some(found) => {
+            let lines = office_lines(alloc, office, &found)?;
+            Ok(Why::Faulty(lines))
+        }
+        None => why_certificate_of_draft(alloc, office, certificate),
+    }
+}

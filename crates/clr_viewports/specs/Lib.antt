@@ -1,0 +1,4 @@
+pub mod Areas
+pub mod Details
+pub mod Extents
+pub mod Viewports

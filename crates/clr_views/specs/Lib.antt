@@ -1,4 +1,0 @@
-pub mod Areas
-pub mod Details
-pub mod Extents
-pub mod Views

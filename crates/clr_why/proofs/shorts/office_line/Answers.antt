@@ -1,4 +1,0 @@
-use Rattle.clr_why.proofs.shorts.office_line.Goals as goal
-
-pub returns : goal.returns
-returns c = (c.args.found.now.fault, c.args.found.now.remark, c.requires, c.in_ok-line.ensures.line)

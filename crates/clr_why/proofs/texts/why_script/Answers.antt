@@ -1,5 +1,0 @@
-use Rattle.std.proofs.Common.{inl}
-use Rattle.clr_why.proofs.texts.why_script.Goals as goal
-
-pub returns-in_ok-lines-in-Some : goal.returns-in_ok-lines-in-Some
-returns-in_ok-lines-in-Some c = record { why = inl c.in_ok-lines-in-Some.ensures }

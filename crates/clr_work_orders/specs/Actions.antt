@@ -1,0 +1,30 @@
+-- An action in words.
+use Rattle.std.specs.Prelude.{ℕ, List, [], ◌++◌, codes}
+use Rattle.clr_rows.specs.declared.cells.CellId.{CellId}
+use Rattle.clr_rows.specs.declared.places.Shape.{Shape}
+use Rattle.clr_rows.specs.declared.places.Shape.TheVariants as shape
+use Rattle.clr_rows.specs.declared.tables.TableDef.{TableDef}
+use Rattle.clr_change.specs.declared.edits.Edit.{Edit}
+use Rattle.clr_change.specs.declared.edits.Edit.TheVariants as edit
+use Rattle.clr_workspaces.specs.Marks.{Name}
+use Rattle.clr_lines.specs.Verdicts.{member_name}
+use Rattle.clr_phrases.specs.Places.{place_text}
+use Rattle.clr_work_orders.specs.declared.actions.Action.{Action}
+use Rattle.clr_work_orders.specs.Labels.{cell_label}
+use Rattle.clr_work_orders.specs.declared.actions.Action.TheVariants as action
+
+-- where a row is brought
+abbrev pub brought_text : Shape → List ℕ
+brought_text (shape.At p) = codes " at " ++ place_text p
+brought_text _ = []
+
+-- an edit of a member: a row is brought, or is as it was taken over, or isn't there
+abbrev pub edit_text : List TableDef → Name → Edit → List ℕ
+edit_text tables name (edit.Insert q row) = codes "with " ++ cell_label tables q ++ brought_text row.shape ++ codes " in " ++ name
+edit_text tables name (edit.Update q row) = codes "with " ++ cell_label tables q ++ codes " in " ++ name ++ codes " as it was taken over"
+edit_text tables name (edit.Delete q) = codes "without " ++ cell_label tables q ++ codes " in " ++ name
+
+-- what is said of an action of members
+abbrev pub action_text : List TableDef → List Name → Action → List ℕ
+action_text tables members (action.LeaveOut at) = codes "without " ++ member_name members at
+action_text tables members (action.Make at e) = edit_text tables (member_name members at) e

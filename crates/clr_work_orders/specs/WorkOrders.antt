@@ -1,0 +1,42 @@
+-- What a work order is: sentences, the trials that were made, and the lines of the plan.
+use Rattle.std.specs.Prelude.{◌≡◌, ◌++◌, ◌==◌, ℕ, Bool, true, false, List, [], codes, length, if◌then◌else◌}
+use Rattle.std.specs.List.{flat_map}
+use Rattle.clr_steps.specs.Offices.{Office}
+use Rattle.clr_steps.specs.Quiet.{MergeSet}
+use Rattle.clr_plan.specs.declared.plans.Plan.{Plan}
+use Rattle.clr_plan.specs.Promises.{is_cleared, is_out_of_memory}
+use Rattle.clr_plan.specs.PlanLines.{plan_text}
+use Rattle.clr_work_orders.specs.declared.trials.Trial.{Trial}
+use Rattle.clr_work_orders.specs.declared.work_orders.WorkOrder.{WorkOrder}
+use Rattle.clr_work_orders.specs.Sentences.{IsSentences}
+use Rattle.clr_work_orders.specs.Trials.{AreTrialsOf, IsAnswered}
+
+-- what the planner says of a trial, as a line ends with it
+abbrev pub answer_text : Bool → List ℕ
+answer_text true = codes ": cleared\n"
+answer_text false = codes ": not cleared\n"
+
+abbrev pub trial_line : Trial → List ℕ
+trial_line trial = codes "  - " ++ trial.words ++ answer_text trial.is_cleared
+
+-- the line of a trial that has this answer, and nothing of another
+abbrev pub trial_text : Bool → Trial → List ℕ
+trial_text true trial = if trial.is_cleared then trial_line trial else []
+trial_text false trial = if trial.is_cleared then [] else trial_line trial
+
+-- the lines of trials, those first that are cleared; nothing where nothing was tried
+abbrev pub trials_text : List Trial → List ℕ
+trials_text trials =
+    if length trials == 0 then [] else codes "\nTried, each by itself:\n" ++ flat_map (trial_text true) trials ++ flat_map (trial_text false) trials
+
+-- the sentences of the plan, the trials of its remedies, and then the lines of the plan, whose answer is that of the work order
+pub record IsWorkOrder (o : Office) (s : MergeSet) (order : WorkOrder) : Type 0 where
+  pub plan : Plan
+  pub planned : IsAnswered o s plan
+  pub sentences : List ℕ
+  pub told : IsSentences o s plan sentences
+  pub trials : List Trial
+  pub tried : AreTrialsOf o s plan trials
+  pub text : order.text.items ≡ sentences ++ trials_text trials ++ codes "\n" ++ plan_text o.schema s.members s.root plan
+  pub cleared : order.is_cleared ≡ is_cleared plan
+  pub lost : order.is_lost ≡ is_out_of_memory plan

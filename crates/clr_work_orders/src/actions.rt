@@ -1,0 +1,127 @@
+//! What may be tried, and how it is told.
+
+ghost use Rattle.std.specs.Prelude.{◌≡◌, ◌++◌, IfOk, OnOk, map, string_bytes};
+ghost use Rattle.clr_work_orders.specs.Actions.{action_text, brought_text, edit_text};
+ghost use Rattle.clr_work_orders.specs.Labels.{cell_label};
+
+use clr_change::Edit;
+use clr_lines::member_name;
+use clr_phrases::At;
+use clr_rows::{CellId, Schema, Shape, Words};
+use std::alloc::{AllocError, Global};
+
+/// Something that may clear a set of members. Members are numbered by position.
+#[derive(Debug, Drop)]
+pub enum Action {
+    /// All members but this one are merged.
+    LeaveOut(usize),
+    /// A member makes an edit; the member is given by its position.
+    Make(usize, Edit),
+}
+
+/// Returns a copy of an edit.
+pub(crate) fn copy_edit(edit: &Edit) -> Result<Edit, AllocError>
+    ensures { IfOk result (λ copy. copy ≡ edit.now) }
+{
+    match edit {
+        Edit::Insert(cell, row) => Ok(Edit::Insert(*cell, row.copy()?)),
+        Edit::Update(cell, row) => Ok(Edit::Update(*cell, row.copy()?)),
+        Edit::Delete(cell) => Ok(Edit::Delete(*cell)),
+    }
+}
+
+/// Returns a copy of an action.
+pub(crate) fn copy_action(action: &Action) -> Result<Action, AllocError>
+    ensures { IfOk result (λ copy. copy ≡ action.now) }
+{
+    match action {
+        Action::LeaveOut(member) => Ok(Action::LeaveOut(*member)),
+        Action::Make(member, edit) => Ok(Action::Make(*member, copy_edit(edit)?)),
+    }
+}
+
+/// Adds a cell as `main 20`.
+fn add_label(text: &mut String, schema: &Schema, cell: CellId) -> Result<(), AllocError>
+    ensures { OnOk result (string_bytes text.new ≡ string_bytes text.old ++ cell_label schema.now cell) }
+{
+    let key = cell.key;
+    text.push_str(schema.name_of_table(cell.table))?;
+    text.push_str(" ")?;
+    write!(text, "{key}")
+}
+
+/// Adds where a row is brought, as ` at (30.000, 4.000)`, or nothing of a row that isn't at a place.
+fn add_brought(text: &mut String, shape: &Shape) -> Result<(), AllocError>
+    ensures { OnOk result (string_bytes text.new ≡ string_bytes text.old ++ brought_text shape.now) }
+{
+    match shape {
+        Shape::At(place) => {
+            let place = At(*place);
+            text.push_str(" at ")?;
+            write!(text, "{place}")
+        }
+        _ => Ok(()),
+    }
+}
+
+/// Adds an edit of a member in words, as `with valve 11 at (30.000, 4.000) in Extension`.
+fn add_edit(text: &mut String, schema: &Schema, name: &str, edit: &Edit) -> Result<(), AllocError>
+    ensures { OnOk result (string_bytes text.new ≡ string_bytes text.old ++ edit_text schema.now name.now edit.now) }
+{
+    match edit {
+        Edit::Insert(cell, row) => {
+            text.push_str("with ")?;
+            add_label(text, schema, *cell)?;
+            add_brought(text, &row.shape)?;
+            text.push_str(" in ")?;
+            text.push_str(name)
+        }
+        Edit::Update(cell, _) => {
+            text.push_str("with ")?;
+            add_label(text, schema, *cell)?;
+            text.push_str(" in ")?;
+            text.push_str(name)?;
+            text.push_str(" as it was taken over")
+        }
+        Edit::Delete(cell) => {
+            text.push_str("without ")?;
+            add_label(text, schema, *cell)?;
+            text.push_str(" in ")?;
+            text.push_str(name)
+        }
+    }
+}
+
+/// Returns what is said of an action, as a text.
+fn action_string(
+    alloc: Global,
+    schema: &Schema,
+    names: &[&str],
+    action: &Action,
+) -> Result<String, AllocError>
+    ensures { IfOk result (λ text. string_bytes text ≡ action_text schema.now (map (λ name. name.now) names.now) action.now) }
+{
+    let mut text = String::new(alloc);
+    match action {
+        Action::LeaveOut(member) => {
+            text.push_str("without ")?;
+            text.push_str(member_name(names, *member))?;
+        }
+        Action::Make(member, edit) => {
+            add_edit(&mut text, schema, member_name(names, *member), edit)?;
+        }
+    }
+    Ok(text)
+}
+
+/// Returns what is said of an action of members.
+pub(crate) fn action_words(
+    alloc: Global,
+    schema: &Schema,
+    names: &[&str],
+    action: &Action,
+) -> Result<Words, AllocError>
+    ensures { IfOk result (λ words. words ≡ action_text schema.now (map (λ name. name.now) names.now) action.now) }
+{
+    Ok(Words::new(action_string(alloc, schema, names, action)?))
+}

@@ -1,0 +1,137 @@
+//! What may clear a set of members that is blocked, to be tried.
+
+ghost use Rattle.std.specs.Prelude.{◌≡◌, ◌++◌, IfOk, OnOk, map};
+ghost use Rattle.std.specs.Option.{option_copied};
+ghost use Rattle.clr_merge_sets.specs.MergeSetNames.{merge_set};
+ghost use Rattle.clr_plan_sentences.specs.NeedPlaces.{IsPlaceIn};
+ghost use Rattle.clr_plan_sentences.specs.Versions.{AreMembers};
+ghost use Rattle.clr_work_orders.specs.Labels.{IsPlaceOfCause, set_of};
+ghost use Rattle.clr_work_orders.specs.Remedies.{AreForCause, AreRemedies, for_cause, for_need, leaving_out, server_of};
+ghost use Rattle.clr_phrases.specs.declared.meetings.Meeting.{Meeting as Met};
+
+use crate::actions::Action;
+use crate::bringing::add_serving;
+use crate::undoings::{add_giving_up, add_giving_up_any, add_keeping, add_undoing};
+use clr_clearance::Verdict;
+use clr_engine::Office;
+use clr_needs::Need;
+use clr_plan::Plan;
+use clr_plan_sentences::{
+    PlannedDesigns, Setting, need_place, rule_of, server_changes, server_side,
+};
+use clr_rules::Side;
+use std::alloc::{AllocError, Global};
+
+/// Returns the side whose rows serve a need, if any can.
+fn side_of<'a>(office: &'a Office, need: &Need) -> Option<&'a Side>
+    ensures { option_copied result ≡ server_of office.entry.now need.now }
+{
+    match rule_of(office, need) {
+        Some(rule) => server_side(rule),
+        None => None,
+    }
+}
+
+/// Adds what may serve a need that nothing covers, or take it away.
+fn add_for_need(
+    setting: Setting<'_>,
+    list: &mut Vec<Action>,
+    need: &Need,
+    order: &[usize],
+) -> Result<(), AllocError>
+    ensures { OnOk result (AreMembers setting.entry.office.now (set_of setting.entry.members.now) setting.entry.members.now
+        → (place : Met) × IsPlaceIn setting.entry.office.now (set_of setting.entry.members.now) need.now place
+        × (list.new.items ≡ list.old.items ++ for_need setting.entry.office.now (set_of setting.entry.members.now)
+        setting.entry.members.now.changes.items order.now place need.now)) }
+{
+    let place = need_place(setting.office, setting.members, need);
+    add_serving(setting, list, side_of(setting.office, need), place, order)?;
+    let changes = server_changes(setting.alloc, setting.office, setting.members, need)?;
+    add_keeping(list, setting.members, changes.as_slice())?;
+    add_giving_up(list, setting.members, need.first)?;
+    add_giving_up_any(list, setting.members, need.second)
+}
+
+/// Adds what may take a cause away.
+fn add_for_cause(
+    setting: Setting<'_>,
+    list: &mut Vec<Action>,
+    order: &[usize],
+    cause: &Verdict,
+) -> Result<(), AllocError>
+    ensures { OnOk result (AreMembers setting.entry.office.now (set_of setting.entry.members.now) setting.entry.members.now
+        → (place : Met) × IsPlaceOfCause setting.entry.office.now (set_of setting.entry.members.now) cause.now place
+        × (list.new.items ≡ list.old.items ++ for_cause setting.entry.office.now (set_of setting.entry.members.now)
+        setting.entry.members.now.changes.items order.now place cause.now)) }
+{
+    match cause {
+        Verdict::Conflict { member, cell, .. } => {
+            add_undoing(list, setting.members, *member, *cell)
+        }
+        Verdict::SharedCell {
+            cell,
+            first,
+            second,
+        } => {
+            add_undoing(list, setting.members, *first, *cell)?;
+            add_undoing(list, setting.members, *second, *cell)
+        }
+        Verdict::Uncovered(need) => add_for_need(setting, list, need, order),
+        _ => Ok(()),
+    }
+}
+
+/// Adds that one of several members is left out.
+fn add_leaving_out(
+    list: &mut Vec<Action>,
+    members: &PlannedDesigns<'_>,
+    order: &[usize],
+) -> Result<(), AllocError>
+    ensures { OnOk result (list.new.items ≡ list.old.items ++ leaving_out (set_of members.now) order.now) }
+{
+    if members.names.len() <= 1 {
+        return Ok(());
+    }
+    for member in order {
+        list.push(Action::LeaveOut(*member))?;
+    }
+    Ok(())
+}
+
+/// Returns what may clear a set of members that is blocked in this order for this cause. That one is
+/// left out stands last, and isn't tried where there is but one.
+fn remedies_for(
+    setting: Setting<'_>,
+    order: &[usize],
+    cause: &Verdict,
+) -> Result<Vec<Action>, AllocError>
+    ensures { IfOk result (λ list. AreMembers setting.entry.office.now (set_of setting.entry.members.now) setting.entry.members.now
+        → AreForCause setting.entry.office.now (set_of setting.entry.members.now) setting.entry.members.now.changes.items order.now cause.now list.items) }
+{
+    let mut list = Vec::new(setting.alloc);
+    add_for_cause(setting, &mut list, order, cause)?;
+    add_leaving_out(&mut list, setting.members, order)?;
+    Ok(list)
+}
+
+/// Returns what may clear members of a root that this plan says are blocked, to be tried one by one; nothing of any other plan.
+pub(crate) fn plan_remedies(
+    alloc: Global,
+    office: &Office,
+    root: &str,
+    names: &[&str],
+    plan: &Plan,
+) -> Result<Vec<Action>, AllocError>
+    ensures { IfOk result (λ list. AreRemedies office.now (merge_set root.now (map (λ name. name.now) names.now)) plan.now list.items) }
+{
+    let Plan::Blocked { order, cause } = plan else {
+        return Ok(Vec::new(alloc));
+    };
+    let members = PlannedDesigns::read(alloc, office, root, names)?;
+    let setting = Setting {
+        alloc,
+        office,
+        members: &members,
+    };
+    remedies_for(setting, order.as_slice(), cause)
+}
