@@ -85,6 +85,12 @@ prove_crates() {
     wait $!
 }
 
+# Whether the toolchain keeps on this machine what `rt ci` has proved, as later kits do. By then it has a word for it.
+keeps_proofs() {
+    local tool
+    tool=$(readlink -f "$(command -v rt)") && grep -qs 'is kept: ' "$tool" "${tool%/*}/rtlib.py"
+}
+
 # How many crates of a run aren't proved yet, by what it has said in a file.
 count_left() { echo $(($1 - $(grep -cE '^rt: [a-z_]+ (proved$|is kept: )' "$2"))); }
 
@@ -92,10 +98,15 @@ count_left() { echo $(($1 - $(grep -cE '^rt: [a-z_]+ (proved$|is kept: )' "$2"))
 # proves the crate on which all stand, with the processors that are free. The second begins at the same time, since it first reads all texts, and
 # proves many crates side by side. The third, of all crates, begins once the second has no more crates left than are proved at once: it proves what
 # stands on these, and shares out the processors. Programs are run from its temporary folder, as they may not be from one in memory.
+# Of a toolchain that keeps no proofs there is one run alone, since no run could take what another has proved.
 prove() {
     local at_once temporary=${scratch:-${TMPDIR:-/tmp}} many first second
     trap 'kill $(jobs -p) 2>/dev/null' EXIT
     trap 'exit 143' TERM
+    if ! keeps_proofs; then
+        prove_crates "$room/whole" '' "${TMPDIR:-/tmp}" "${crates[@]}"
+        return
+    fi
     at_once=$(checks_at_once) many=($(crates_up_to_meeting))
     : >"$room/said" || return 1
     prove_crates "$room/first" '' "$temporary" $(crates_up_to "$first_crate") &
@@ -148,12 +159,13 @@ follow() {
     return 1
 }
 
-# Proves the crates by `rt ci`, which makes the program of them. It keeps on this machine what it has proved, so that after an
+# Proves the crates by `rt ci`, which makes the program of them. If the toolchain keeps on this machine what it has proved, then after an
 # interrupt the next start goes on where this one was.
 build() {
-    local digest before made
+    local digest before made after='after an interrupt the next start goes on where this one was'
     command -v rt >/dev/null || refuse "the program isn't built from these sources, and there is no command rt to build it"
-    say "proving the program once, ${#crates[@]} crates: $takes; after an interrupt the next start goes on where this one was"
+    keeps_proofs || after='longer with this toolchain, which keeps no proofs: after an interrupt the next start begins anew'
+    say "proving the program once, ${#crates[@]} crates: $takes; $after"
     room=$(mktemp -d "${TMPDIR:-/tmp}/$program.XXXXXX") || refuse "there is no room for a folder in which the program can be built"
     scratch=$(make_scratch)
     digest=$(digest_of_sources) before=$(listing)
