@@ -61,7 +61,8 @@ pub use offices::{draft_of, open_office, unheld_output};
 pub use outputs::Output;
 pub use reading::{MOST_INPUT_BYTES, inputs_have_a_limit, read_input};
 pub use refusals::{
-    BAD_WORDS, end_run, input_remark, print_fault, print_input_remark, print_parser_message,
+    BAD_WORDS, end_run, exit_statuses, input_remark, print_fault, print_input_remark,
+    print_parser_message,
 };
 pub use replies::reply_output;
 pub use reports::{

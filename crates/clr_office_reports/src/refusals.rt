@@ -17,6 +17,12 @@ pub const BAD_WORDS: u8 = 2;
 /// The exit status where nobody reads what is printed any more, as a shell gives it of a program that the signal SIGPIPE ends.
 const CLOSED_PIPE: u8 = 141;
 
+/// The exit statuses are these.
+pub fn exit_statuses()
+    ensures words { BAD_WORDS ≡ 2 }
+    ensures pipe { CLOSED_PIPE ≡ 141 }
+{}
+
 /// Prints a fault's line on standard error, and gives its exit status. A line that can't be printed
 /// changes nothing.
 pub fn print_fault(rt: &HostRuntime, fault: RunFault) -> u8
