@@ -3,7 +3,7 @@ use Rattle.std.specs.Prelude.{◌≡◌, ◌⊎◌, ℕ, Bool, true, false, List
 use Rattle.std.specs.List.{filter_map}
 use Rattle.clr_html.specs.declared.blocks.Block.{Block}
 use Rattle.clr_html.specs.declared.blocks.Block.TheVariants as block
-use Rattle.clr_html.specs.declared.tables.Row.{Row}
+use Rattle.clr_html.specs.declared.tables.TableRow.{TableRow}
 use Rattle.clr_html.specs.declared.tables.Table.{Table}
 use Rattle.clr_html.specs.Words.{words_of_row, words_of_text}
 use Rattle.clr_workspaces.specs.Marks.{Name}
@@ -23,7 +23,7 @@ abbrev pub set_words : List Name → MergeClash → List ℕ
 set_words members clash = names_text (filter_map (slice_get members) clash.members.items)
 
 -- the words of a row's first cell
-abbrev pub first_words : Row → Option (List ℕ)
+abbrev pub first_words : TableRow → Option (List ℕ)
 first_words row = slice_get (words_of_row row) 0
 
 -- a table with a row for each set, in their order

@@ -1,6 +1,6 @@
 //! Where things stand on the page.
 
-use clr_drawing::{Area, View, grow_box, longer_side};
+use clr_drawing::{Area, Viewport, grow_box, longer_side};
 use clr_segments::Bounds;
 use clr_svg::Pixels;
 
@@ -29,7 +29,7 @@ pub const FOOT: Pixels = Pixels { tenths: 400 };
 const HEIGHTS: (i64, i64) = (4300, 6760);
 
 /// Returns the view of a box on the page, where the map is at least this high, in tenths of a pixel.
-pub(crate) fn view_of(world: Bounds, least: i64) -> View {
+pub(crate) fn view_of(world: Bounds, least: i64) -> Viewport {
     let width = world.most.x.saturating_sub(world.least.x).max(1);
     let height = world.most.y.saturating_sub(world.least.y).max(1);
     let wanted = (RIGHT - LEFT).tenths.saturating_mul(height);
@@ -41,7 +41,7 @@ pub(crate) fn view_of(world: Bounds, least: i64) -> View {
         right: RIGHT,
         bottom: TOP + Pixels::of_tenths(height),
     };
-    View::new(world, frame)
+    Viewport::new(world, frame)
 }
 
 /// Returns the part of the world that a map round a cause shows: all of it where that isn't much more, and otherwise what is round

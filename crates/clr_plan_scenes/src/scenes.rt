@@ -9,7 +9,7 @@ use crate::extents::{extent_of_cause, extent_of_changes, extent_of_everything};
 use crate::fields::Field;
 use crate::layouts::{view_of, world_of_cause, world_of_changes};
 use clr_change::ChangeSet;
-use clr_drawing::{Area, Detail, View};
+use clr_drawing::{Area, Detail, Viewport};
 use clr_rows::{Row, Sheet};
 use clr_segments::Bounds;
 
@@ -20,7 +20,7 @@ pub struct MapScene<'a> {
     pub field: Field<'a>,
     pub cause: Option<&'a Cause>,
     pub whole: Bounds,
-    pub view: View,
+    pub view: Viewport,
     pub detail: Detail,
     pub changes: Detail,
 }
@@ -32,7 +32,7 @@ const HIGH: i64 = 5600;
 const FEW: usize = 6;
 
 /// Returns how many rows with a shape are seen.
-fn seen_rows(rows: &Sheet, view: &View) -> usize {
+fn seen_rows(rows: &Sheet, view: &Viewport) -> usize {
     let mut count = 0usize;
     for (_, row) in rows.iter() {
         if view.sees(&row.shape) {
@@ -42,14 +42,14 @@ fn seen_rows(rows: &Sheet, view: &View) -> usize {
     count
 }
 
-fn is_seen(view: &View, row: Option<&Row>) -> bool {
+fn is_seen(view: &Viewport, row: Option<&Row>) -> bool {
     match row {
         Some(row) => view.sees(&row.shape),
         None => false,
     }
 }
 
-fn seen_in_set(set: &ChangeSet, view: &View) -> usize {
+fn seen_in_set(set: &ChangeSet, view: &Viewport) -> usize {
     let mut count = 0usize;
     for (_, change) in set.iter() {
         if is_seen(view, change.before.as_ref()) || is_seen(view, change.after.as_ref()) {
@@ -60,7 +60,7 @@ fn seen_in_set(set: &ChangeSet, view: &View) -> usize {
 }
 
 /// Returns how many changes are seen.
-fn seen_changes(designs: &Designs<'_>, view: &View) -> usize {
+fn seen_changes(designs: &Designs<'_>, view: &Viewport) -> usize {
     let mut count = 0usize;
     for at in designs.order() {
         if let Some(set) = designs.changes(*at) {
@@ -76,7 +76,7 @@ fn view_of_plan(
     cause: Option<&Cause>,
     whole: Bounds,
     changed: Option<Bounds>,
-) -> View {
+) -> Viewport {
     if let Some(cause) = cause {
         let extent = extent_of_cause(cause).unwrap_or(whole);
         return view_of(world_of_cause(whole, extent), HIGH);

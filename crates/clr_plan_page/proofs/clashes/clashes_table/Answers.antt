@@ -1,5 +1,5 @@
 use Rattle.std.proofs.Common.{◌∙◌, ◌++◌, List, Some, ap, map, refl}
-use Rattle.clr_html.specs.declared.tables.Row.{Row}
+use Rattle.clr_html.specs.declared.tables.TableRow.{TableRow}
 use Rattle.clr_plan_page.specs.Clashes.{first_words, set_words}
 use Rattle.clr_plan_page.proofs.clashes.clashes_table.Goals as goal
 
@@ -11,5 +11,5 @@ returns c =
       table = record { heads = c.in_ok-table.table.heads; rows = c.add_rows.new.rows };
       shown = refl;
       heads = c.in_ok-table.ensures.heads;
-      rows = c.in_ok-add_rows.ensures ∙ ap (λ (rows : List Row). map first_words rows ++ told) c.in_ok-table.ensures.rows;
+      rows = c.in_ok-add_rows.ensures ∙ ap (λ (rows : List TableRow). map first_words rows ++ told) c.in_ok-table.ensures.rows;
     }
