@@ -9,7 +9,7 @@ ghost use Rattle.clr_text_diagnosis.specs.Whys.{IsRemarkedOfficeFault};
 use crate::offices::office_fault;
 use clr_explanations::OfficeFault;
 use clr_fault_lines::short_line;
-use clr_record_explanations::{CertificateFault, explain_certificate};
+use clr_record_explanations::{ExplainedCertificateFault, explain_certificate};
 use clr_rows::Schema;
 use std::alloc::{AllocError, Global};
 
@@ -33,7 +33,7 @@ fn certificate_line(
     schema: &Schema,
     text: &[u8],
     file: &str,
-    found: &CertificateFault,
+    found: &ExplainedCertificateFault,
 ) -> Result<Vec<u8>, AllocError>
     requires told { certificate_in schema.now text.now ≡ Err (found.now.number, found.now.fault) }
     requires at { IsRecordRemark text.now found.now.number found.now.remark }

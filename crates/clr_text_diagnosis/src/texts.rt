@@ -12,8 +12,8 @@ use clr_engine::Draft;
 use clr_fault_lines::fault_lines;
 use clr_office_texts::read_office;
 use clr_record_explanations::{
-    CertificateFault, ScriptFault, certificate_fault_words, explain_certificate, explain_script,
-    script_fault_words,
+    ExplainedCertificateFault, ExplainedScriptFault, certificate_fault_words, explain_certificate,
+    explain_script, script_fault_words,
 };
 use clr_rows::Schema;
 use std::alloc::{AllocError, Global};
@@ -23,7 +23,7 @@ fn script_lines(
     alloc: Global,
     schema: &Schema,
     text: &[u8],
-    found: &ScriptFault,
+    found: &ExplainedScriptFault,
 ) -> Result<Vec<u8>, AllocError>
     requires told { script_in_text schema.now text.now ≡ Err (found.now.number, found.now.fault) }
     requires at { IsRecordRemark text.now found.now.number found.now.remark }
@@ -39,7 +39,7 @@ fn certificate_lines(
     alloc: Global,
     schema: &Schema,
     text: &[u8],
-    found: &CertificateFault,
+    found: &ExplainedCertificateFault,
 ) -> Result<Vec<u8>, AllocError>
     requires told { certificate_in schema.now text.now ≡ Err (found.now.number, found.now.fault) }
     requires at { IsRecordRemark text.now found.now.number found.now.remark }
