@@ -1,4 +1,9 @@
+pub mod CrossingLemmas
 pub mod LineEndLemmas
+pub mod MeetingLemmas
+pub mod MoveLemmas
 pub mod NameLemmas
+pub mod ParallelLemmas
 pub mod PathLemmas
 pub mod PlaceLemmas
+pub mod Words128

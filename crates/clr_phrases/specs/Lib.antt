@@ -1,3 +1,4 @@
+pub mod Crossings
 pub mod Lists
 pub mod Meetings
 pub mod Places

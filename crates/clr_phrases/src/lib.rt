@@ -8,9 +8,11 @@
 //! - `row_words` returns the text of the same name, `side_words` the `side_text` of a side, and
 //!   `field_words` the `fields_text` of what a row has in columns.
 //! - `rule_title` and `rule_sentence` return the texts of the same names.
-//! - `meet_parts` [`told`] tells where two parts meet: a place that is told lies on both.
+//! - `meet_parts` [`told`] tells where two parts meet: a place that is told lies on both, and two parts that are told to meet between
+//!   whole millimetres have one common point, and no common place.
 #![tactic(auto)]
 
+mod crossings;
 mod lists;
 mod measures;
 mod meetings;

@@ -1,10 +1,11 @@
 //! Where two parts meet.
 
-ghost use Rattle.std.specs.Prelude.{◌≡◌, ◌↔◌, true, IfSome, IsTrue};
+ghost use Rattle.std.specs.Prelude.{◌↔◌, IfNone, IfSome, IsTrue};
 ghost use Rattle.clr_rows.specs.Places.{InRange};
-ghost use Rattle.clr_segments.specs.Segments.{LiesOn};
-ghost use Rattle.clr_phrases.specs.Meetings.{IsMeetingOfParts, IsPart};
+ghost use Rattle.clr_segments.specs.Segments.{LiesOn, OneCommonPoint, SomeCommonPoint};
+ghost use Rattle.clr_phrases.specs.Meetings.{IsMeetingOfParts, IsPart, NoCommonPlace};
 
+use crate::crossings::crossing_of_lines;
 use clr_rows::{GREATEST_COORDINATE, Place};
 use clr_segments::{Meet, lies_on, meet};
 
@@ -38,69 +39,48 @@ fn is_part(part: (Place, Place)) -> bool
     is_in_range(a) && is_in_range(b) && !a.same(&b)
 }
 
-/// Returns whether a place lies on a part, its ends counted in. It doesn't where a coordinate is out
-/// of range or the ends are one place.
+/// Returns whether a place lies on a part, its ends counted in.
 fn is_on(p: Place, part: (Place, Place)) -> bool
-    ensures { result ≡ true → LiesOn p part.0 part.1 }
+    requires { IsPart part.0 part.1 }
+    ensures { IsTrue result ↔ LiesOn p part.0 part.1 }
 {
-    is_part(part) && is_in_range(p) && lies_on(p, part.0, part.1)
+    is_in_range(p) && lies_on(p, part.0, part.1)
 }
 
-/// Returns the way from one coordinate to another.
-fn way(from: i64, to: i64) -> Option<i128> {
-    i128::from(to).checked_sub(i128::from(from))
+/// Returns whether a place lies on both parts.
+fn is_on_both(p: Place, first: (Place, Place), second: (Place, Place)) -> bool
+    requires first_part { IsPart first.0 first.1 }
+    requires second_part { IsPart second.0 second.1 }
+    ensures { IsTrue result ↔ (LiesOn p first.0 first.1 × LiesOn p second.0 second.1) }
+{
+    is_on(p, first) && is_on(p, second)
 }
 
-/// Returns the cross product of the way from a to b and the way from c to d.
-fn cross_product(a: Place, b: Place, c: Place, d: Place) -> Option<i128> {
-    let rising = way(a.x, b.x)?.checked_mul(way(c.y, d.y)?)?;
-    let falling = way(a.y, b.y)?.checked_mul(way(c.x, d.x)?)?;
-    rising.checked_sub(falling)
-}
-
-/// Returns the coordinate that lies on the way from one to another after this share of it, where it
-/// is a whole number.
-fn coordinate_at(from: i64, to: i64, numerator: i128, denominator: i128) -> Option<i64> {
-    let shift = way(from, to)?.checked_mul(numerator)?;
-    if shift.checked_rem(denominator)? != 0 {
-        return None;
-    }
-    let coordinate = i128::from(from).checked_add(shift.checked_div(denominator)?)?;
-    i64::try_from(coordinate).ok()
-}
-
-/// Returns the place where the lines through two parts cross, where it has whole coordinates.
-fn crossing_of_lines(first: (Place, Place), second: (Place, Place)) -> Option<Place> {
-    let (a, b) = first;
-    let (c, d) = second;
-    let numerator = cross_product(a, c, c, d)?;
-    let denominator = cross_product(a, b, c, d)?;
-    Some(Place {
-        x: coordinate_at(a.x, b.x, numerator, denominator)?,
-        y: coordinate_at(a.y, b.y, numerator, denominator)?,
-    })
-}
-
-/// Returns the place of whole millimetres at which two parts meet, where there is one and they don't
-/// overlap.
+/// Returns the place of whole millimetres at which two parts with one common point meet, if that
+/// point is one. Parallel parts meet at an end of the first.
 fn common_place(first: (Place, Place), second: (Place, Place)) -> Option<Place>
-    ensures { IfSome result (λ p. LiesOn p first.0 first.1 × LiesOn p second.0 second.1) }
+    requires first_part { IsPart first.0 first.1 }
+    requires second_part { IsPart second.0 second.1 }
+    requires some { SomeCommonPoint first.0 first.1 second.0 second.1 }
+    requires one { OneCommonPoint first.0 first.1 second.0 second.1 }
+    ensures on_both { IfSome result (λ p. LiesOn p first.0 first.1 × LiesOn p second.0 second.1) }
+    ensures none { IfNone result (NoCommonPlace first.0 first.1 second.0 second.1) }
 {
-    let place = match crossing_of_lines(first, second) {
-        Some(place) => place,
-        None if is_on(first.0, second) => first.0,
-        None => first.1,
-    };
-    if is_on(place, first) && is_on(place, second) {
+    let place = crossing_of_lines(first, second);
+    if is_on_both(place, first, second) {
         Some(place)
+    } else if is_on_both(first.0, first, second) {
+        Some(first.0)
+    } else if is_on_both(first.1, first, second) {
+        Some(first.1)
     } else {
         None
     }
 }
 
 /// Returns where two parts meet. Coordinates are millimetres of at most 1,000,000,000 in size, and the
-/// ends of each part differ; of any other parts nothing is told. That a single common point which is
-/// told to lie between whole millimetres does so is tested.
+/// ends of each part differ; of any other parts nothing is told.
+/// For example, the parts from (0, 0) to (1, 1) and from (0, 1) to (1, 0) meet between whole millimetres.
 pub fn meet_parts(first: (Place, Place), second: (Place, Place)) -> Meeting
     ensures told { IsMeetingOfParts first.0 first.1 second.0 second.1 result }
 {
