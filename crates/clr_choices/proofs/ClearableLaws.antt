@@ -9,7 +9,6 @@ use Rattle.clr_workspaces.specs.Marks.{Name}
 use Rattle.clr_needs.specs.Settings.{AreAmong, view_with}
 use Rattle.clr_steps.specs.Offices.{Office}
 use Rattle.clr_steps.specs.Quiet.{MergeSet, is_member, is_root, root_content}
-use Rattle.clr_clearance.specs.declared.verdicts.Verdict.{Verdict}
 use Rattle.clr_clearance.specs.declared.verdicts.Verdict.TheVariants as verdict
 use Rattle.clr_clearance.specs.Safety.{Safe}
 use Rattle.clr_clearance.specs.MergeSets.{AreMergeable, KeepsRules, RootHolds, changed_by, setting_of}

@@ -14,7 +14,7 @@ use Rattle.clr_plan.specs.declared.plans.Plan.{Plan}
 use Rattle.clr_plan.specs.declared.plans.Plan.TheVariants as plan
 use Rattle.clr_choices.specs.ChoiceLines.{left_text, refusal_text}
 use Rattle.clr_choices.specs.Clearable.{AreClearable, IsPlanOf}
-use Rattle.clr_choices.specs.Progress.{AreMade, IsAdded, IsChosen, IsFollowed, IsProgress, IsTried, taken_so_far}
+use Rattle.clr_choices.specs.Progress.{IsAdded, IsChosen, IsFollowed, IsProgress, IsTried, taken_so_far}
 use Rattle.clr_choices.specs.Trials.{AreTrials, IsRefusal, IsTold, IsTrialAt, Trial, is_taken, taken_in}
 use Rattle.clr_choices.specs.declared.choices.Choice.{Choice}
 use Rattle.clr_choices.specs.declared.progress.Progress.{Progress}
@@ -80,7 +80,7 @@ module _ (o : Office) (root : Name) where
       }
 
   -- nothing is tried yet
-  pub begun : (progress : Progress) → progress.count ≡ 0 → progress.left.items ≡ [] → progress.is_any_left ≡ false
+  begun : (progress : Progress) → progress.count ≡ 0 → progress.left.items ≡ [] → progress.is_any_left ≡ false
       → IsPlanOf o (merge_set root progress.cleared.items) (plan.Cleared progress.certificate) → IsProgress o root [] progress
   begun progress count left any planned = (
     [],
@@ -92,6 +92,13 @@ module _ (o : Office) (root : Name) where
       any_left = any;
     },
   )
+
+  pub begun_with : (progress : Progress) (cleared : List Name) (c : Certificate) → progress.cleared.items ≡ cleared → progress.certificate ≡ c
+      → progress.count ≡ 0 → progress.left.items ≡ [] → progress.is_any_left ≡ false → IsPlanOf o (merge_set root cleared) (plan.Cleared c)
+      → IsProgress o root [] progress
+  begun_with progress cleared c same certificate count left any planned =
+      begun progress count left any (subst (λ (ms : List Name). IsPlanOf o (merge_set root ms) (plan.Cleared progress.certificate)) (sym same)
+      (subst (λ d. IsPlanOf o (merge_set root cleared) (plan.Cleared d)) (sym certificate) planned))
 
   module _ (names : List Name) (name : Name) (old new : Progress) where
     more_left : (ts : List Trial) (t : Trial) → left_text o.schema root t ≡ [] → flat_map (left_text o.schema root) (ts ++ t ∷ []) ≡ flat_map (left_text o.schema root) ts

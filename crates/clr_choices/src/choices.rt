@@ -1,5 +1,6 @@
 //! Names that are gone through in their order.
-ghost use Rattle.std.specs.Prelude.{◌≡◌, [], false, map, IfOk, IfSome};
+ghost use Rattle.std.specs.Prelude.{◌≡◌, List, [], false, IfOk, IfSome};
+ghost use Rattle.clr_workspaces.specs.Marks.{Name};
 ghost use Rattle.clr_merge_sets.specs.MergeSetNames.{merge_set};
 ghost use Rattle.clr_plan.specs.declared.plans.Plan.TheVariants as plan;
 ghost use Rattle.clr_choices.specs.Clearable.{IsPlanOf};
@@ -41,6 +42,19 @@ fn none_taken(alloc: Global, cleared: Vec<Words>, certificate: Certificate) -> P
     }
 }
 
+/// Returns the plan of names.
+fn plan_names(
+    alloc: Global,
+    office: &Office,
+    root: &str,
+    names: &[Words],
+) -> Result<Plan, AllocError>
+    ensures { IfOk result (IsPlanOf office.now (merge_set root.now names.now)) }
+{
+    let members = texts(alloc, names)?;
+    Ok(plan_members(alloc, office, root, members.as_slice()))
+}
+
 /// Begins with names that are perhaps cleared together, where a plan clears them.
 fn begin_with(
     alloc: Global,
@@ -50,8 +64,7 @@ fn begin_with(
 ) -> Result<Option<Progress>, AllocError>
     ensures { IfOk result (λ progress. IfSome progress (IsProgress office.now root.now [])) }
 {
-    let members = texts(alloc, names.as_slice())?;
-    match plan_members(alloc, office, root, members.as_slice()) {
+    match plan_names(alloc, office, root, names.as_slice())? {
         Plan::Cleared(certificate) => Ok(Some(none_taken(alloc, names, certificate))),
         _ => Ok(None),
     }
@@ -80,16 +93,16 @@ fn begin(
     Ok(none_taken(alloc, Vec::new(alloc), nobody))
 }
 
-/// Returns the certificate of the members that are taken, which are cleared: it fails only for want of memory.
+/// Returns the certificate of names that are taken. They are cleared together, so that it fails only for want of memory.
 fn certificate_of(
     alloc: Global,
     office: &Office,
     root: &str,
-    members: &[&str],
+    names: &[Words],
 ) -> Result<Certificate, AllocError>
-    ensures { IfOk result (λ c. IsPlanOf office.now (merge_set root.now (map (λ name. name.now) members.now)) (plan.Cleared c)) }
+    ensures { IfOk result (λ c. IsPlanOf office.now (merge_set root.now names.now) (plan.Cleared c)) }
 {
-    match plan_members(alloc, office, root, members) {
+    match plan_names(alloc, office, root, names)? {
         Plan::Cleared(certificate) => Ok(certificate),
         _ => Err(AllocError),
     }
@@ -116,8 +129,7 @@ fn end(alloc: Global, office: &Office, root: &str, progress: Progress) -> Result
     }
     let mut taken = cleared;
     taken.truncate(count);
-    let members = texts(alloc, taken.as_slice())?;
-    let certificate = certificate_of(alloc, office, root, members.as_slice())?;
+    let certificate = certificate_of(alloc, office, root, taken.as_slice())?;
     Ok(Choice {
         taken,
         certificate,
