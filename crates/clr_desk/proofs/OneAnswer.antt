@@ -41,7 +41,6 @@ use Rattle.clr_desk_answers.specs.Printing.{PrintoutOrFault, printout_of}
 use Rattle.clr_desk.specs.Certificates.{IsPlanPrint, plan_print}
 use Rattle.clr_desk.specs.Checks.{IsCheckPrint, check_print}
 use Rattle.clr_desk.specs.Choices as choices
-use Rattle.clr_desk.specs.Choices.{AreTrials, IsChoicePrint, TriedName, choice_print, is_taken, left_text, members_tried, refusal_text, taken_in}
 use Rattle.clr_desk.specs.Formats.{IsFormatPrint, IsInLines, in_lines, in_one_line}
 use Rattle.clr_desk.specs.Merges as merging
 use Rattle.clr_desk.specs.Merges.{IsMergePrintout, merge_print, verdict_print}

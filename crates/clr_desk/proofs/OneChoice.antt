@@ -1,6 +1,7 @@
 -- Names that are tried one after another are taken and left in one way alone.
 use Rattle.std.proofs.Common.{◌≡◌, ◌∙◌, ◌||◌, ◌++◌, ◌∷◌, ℕ, zero, suc, Bool, true, false, cond, not, List, [], Some, ap, append-nil, append_assoc}
-use Rattle.std.proofs.Common.{codes, filter, map, refl, slice_get, subst, sym, take}
+use Rattle.std.proofs.Common.{Option, None, codes, filter, map, refl, slice_get, subst, sym, take}
+use Rattle.std.specs.Prelude.{is_none}
 use Rattle.std.specs.List.{flat_map, list_any}
 use Rattle.std.proofs.lemmas.Bool.{true≢false}
 use Rattle.clr_workspaces.specs.Marks.{Name}
@@ -10,64 +11,62 @@ use Rattle.clr_cert.specs.Texts.{certificate_text}
 use Rattle.clr_merge_sets.specs.MergeSetNames.{merge_set}
 use Rattle.clr_plan.specs.declared.plans.Plan.{Plan}
 use Rattle.clr_plan.specs.declared.plans.Plan.TheVariants as plan
-use Rattle.clr_plan.specs.OnePlan.{AreAlike}
 use Rattle.clr_plan.specs.Promises.{is_cleared, is_out_of_memory}
 use Rattle.clr_plan.proofs.OnePlanLemmas.{one_plan}
 use Rattle.clr_office.specs.Outcomes.{IsPlanned}
 use Rattle.clr_desk_answers.specs.Members.{members_or_children}
 use Rattle.clr_desk_answers.specs.Printing.{PrintoutOrFault, printout_of}
 use Rattle.clr_desk.specs.Certificates.{plan_print}
-use Rattle.clr_desk.specs.Choices.{AreTrials, IsChoicePrint, IsTrialAt, TriedName, choice_print, is_taken, left_text, members_tried, names_line, of_nobody, of_trials}
-use Rattle.clr_desk.specs.Choices.{refusal_text, taken_in}
+use Rattle.clr_choices.specs.ChoiceLines.{left_text, refusal_if_any}
+use Rattle.clr_choices.specs.Trials.{AreTrials, IsTold, IsTrialAt, Trial, is_taken, members_tried, taken_in}
+use Rattle.clr_desk.specs.Choices.{IsChoicePrint, choice_print, names_line, of_nobody, of_trials}
 use Rattle.clr_desk.specs.OneAnswer.{FoundMemory, IsOnePrint}
 use Rattle.clr_desk.proofs.OneAnswer.{found_plan, same_plan_print, same_text}
 
 module _ (o : Office) (root : Name) where
   -- a trial behind those of some names that are taken
-  record IsTrialBehind (front : List Name) (ts : List TriedName) (at : ℕ) (t : TriedName) : Type 0 where
+  record IsTrialBehind (front : List Name) (ts : List Trial) (at : ℕ) (t : Trial) : Type 0 where
     before : t.before ≡ front ++ taken_in (take at ts)
-    planned : IsPlanned o (merge_set root (members_tried t)) t.plan
-    found : is_out_of_memory t.plan ≡ false
+    told : IsTold o (merge_set root (members_tried t)) t.refusal
 
-  abbrev AreBehind : List Name → List TriedName → Type 0
-  AreBehind before ts = (at : ℕ) (t : TriedName) → slice_get ts at ≡ Some t → IsTrialBehind before ts at t
+  abbrev AreBehind : List Name → List Trial → Type 0
+  AreBehind before ts = (at : ℕ) (t : Trial) → slice_get ts at ≡ Some t → IsTrialBehind before ts at t
 
   -- trials that take the same names and leave the others with the same lines
-  record AreSame (ts us : List TriedName) : Type 0 where
+  record AreSame (ts us : List Trial) : Type 0 where
     taken : taken_in ts ≡ taken_in us
-    left : flat_map (left_text o root) ts ≡ flat_map (left_text o root) us
+    left : flat_map (left_text o.schema root) ts ≡ flat_map (left_text o.schema root) us
     any : list_any (λ t. not (is_taken t)) ts ≡ list_any (λ t. not (is_taken t)) us
 
   -- the name of a trial in a list, where it is taken
-  abbrev picked : TriedName → List Name
+  abbrev picked : Trial → List Name
   picked t = cond (is_taken t) (t.name ∷ []) []
 
-  taken_first : (t : TriedName) (ts : List TriedName) → taken_in (t ∷ ts) ≡ picked t ++ taken_in ts
+  taken_first : (t : Trial) (ts : List Trial) → taken_in (t ∷ ts) ≡ picked t ++ taken_in ts
   taken_first t ts = by (is_taken t)
     where
-      by : (b : Bool) → map (λ (u : TriedName). u.name) (cond b (t ∷ filter is_taken ts) (filter is_taken ts)) ≡ cond b (t.name ∷ []) [] ++ taken_in ts
+      by : (b : Bool) → map (λ (u : Trial). u.name) (cond b (t ∷ filter is_taken ts) (filter is_taken ts)) ≡ cond b (t.name ∷ []) [] ++ taken_in ts
       by true = refl
       by false = refl
 
   -- the trials behind the first
-  behind_first : (before : List Name) (t : TriedName) (ts : List TriedName) → AreBehind before (t ∷ ts) → AreBehind (before ++ picked t) ts
+  behind_first : (before : List Name) (t : Trial) (ts : List Trial) → AreBehind before (t ∷ ts) → AreBehind (before ++ picked t) ts
   behind_first before t ts are = λ at u e. let is = are (suc at) u e in record {
     before = is.before ∙ ap (λ l. before ++ l) (taken_first t (take at ts)) ∙ sym (append_assoc before (picked t) (taken_in (take at ts)));
-    planned = is.planned;
-    found = is.found;
+    told = is.told;
   }
 
-  -- the first of two trials of one name behind the same names
-  module _ (t u : TriedName) (name : t.name ≡ u.name) (before : t.before ≡ u.before) (alike : AreAlike t.plan u.plan) where
-    members : members_tried t ≡ members_tried u
-    members = λ i. before i ++ name i ∷ []
+  -- what is told of the same members is the same
+  same_told : (members : List Name) (name : Name) (p q : Option Plan) → IsTold o (merge_set root members) p → IsTold o (merge_set root members) q
+      → (is_none p ≡ is_none q) × (refusal_if_any o.schema root members name p ≡ refusal_if_any o.schema root members name q)
+  same_told members name None None one two = (refl, refl)
+  same_told members name None (Some q) one two = absurd (true≢false (sym (one.cleared q two.planned.plan two.found) ∙ two.uncleared))
+  same_told members name (Some p) None one two = absurd (true≢false (sym (two.cleared p one.planned.plan one.found) ∙ one.uncleared))
+  same_told members name (Some p) (Some q) one two =
+      let alike = one_plan o (merge_set root members) p q one.planned.plan two.planned.plan one.found two.found in
+      (refl, ap (λ text. codes "left " ++ name ++ codes "\n" ++ text) (same_text o.schema members root p q alike).0)
 
-    same_said : (plan_is : is_cleared t.plan ≡ is_cleared u.plan) → left_text o root t ≡ left_text o root u
-    same_said plan_is =
-        (λ i. cond (plan_is i) [] (refusal_text o.schema root (members i) (name i) t.plan))
-        ∙ ap (λ text. cond (is_taken u) [] (codes "left " ++ u.name ++ codes "\n" ++ text)) (same_text o.schema (members_tried u) root t.plan u.plan alike).0
-
-  same_trials : (before : List Name) (ts us : List TriedName) → map (λ (t : TriedName). t.name) ts ≡ map (λ (t : TriedName). t.name) us → AreBehind before ts
+  same_trials : (before : List Name) (ts us : List Trial) → map (λ (t : Trial). t.name) ts ≡ map (λ (t : Trial). t.name) us → AreBehind before ts
       → AreBehind before us
       → AreSame ts us
   same_trials before [] [] names are are_too = record { taken = refl; left = refl; any = refl }
@@ -75,23 +74,26 @@ module _ (o : Office) (root : Name) where
   same_trials before (t ∷ ts) [] names are are_too = absurd cc
   same_trials before (t ∷ ts) (u ∷ us) names are are_too =
       let name : t.name ≡ u.name = cc in
-      let rest_names : map (λ (x : TriedName). x.name) ts ≡ map (λ (x : TriedName). x.name) us = cc in
+      let rest_names : map (λ (x : Trial). x.name) ts ≡ map (λ (x : Trial). x.name) us = cc in
       let one = are 0 t refl in
       let two = are_too 0 u refl in
       let same_before : t.before ≡ u.before = one.before ∙ sym two.before in
-      let planned = subst (λ (ms : List Name). IsPlanned o (merge_set root ms) t.plan) (λ i. same_before i ++ name i ∷ []) one.planned in
-      let alike = one_plan o (merge_set root (members_tried u)) t.plan u.plan planned.plan two.planned.plan one.found two.found in
-      let cleared : is_taken t ≡ is_taken u = (same_text o.schema [] root t.plan u.plan alike).1 in
+      let members : members_tried t ≡ members_tried u = (λ i. same_before i ++ name i ∷ []) in
+      let told = subst (λ (ms : List Name). IsTold o (merge_set root ms) t.refusal) members one.told in
+      let same = same_told (members_tried u) u.name t.refusal u.refusal told two.told in
+      let cleared : is_taken t ≡ is_taken u = same.0 in
+      let lines : left_text o.schema root t ≡ left_text o.schema root u =
+      (λ i. refusal_if_any o.schema root (members i) (name i) t.refusal) ∙ same.1 in
       let pick : picked u ≡ picked t = λ i. cond (sym cleared i) (sym name i ∷ []) [] in
       let rest = same_trials (before ++ picked t) ts us rest_names (behind_first before t ts are)
       (subst (λ l. AreBehind (before ++ l) us) pick (behind_first before u us are_too)) in
       record {
         taken = taken_first t ts ∙ (λ i. sym pick i ++ rest.taken i) ∙ sym (taken_first u us);
-        left = λ i. same_said t u name same_before alike cleared i ++ rest.left i;
+        left = λ i. lines i ++ rest.left i;
         any = λ i. not (cleared i) || rest.any i;
       }
 
-  one_of_trials : (names : List Name) (ts us : List TriedName) (c d : Certificate) → AreTrials o root names ts → AreTrials o root names us
+  one_of_trials : (names : List Name) (ts us : List Trial) (c d : Certificate) → AreTrials o root names ts → AreTrials o root names us
       → IsPlanned o (merge_set root (taken_in ts)) (plan.Cleared c)
       → IsPlanned o (merge_set root (taken_in us)) (plan.Cleared d)
       → choice_print o root ts c ≡ choice_print o root us d
@@ -101,8 +103,8 @@ module _ (o : Office) (root : Name) where
       let certificate : c ≡ d = one_plan o (merge_set root (taken_in us)) (plan.Cleared c) (plan.Cleared d) here.plan planned_too.plan refl refl in
       λ i. printout_of (certificate_text o.schema (certificate i)) (names_line (codes "kept") (same.taken i) ++ same.left i) (same.any i) false
     where
-      behind : (xs : List TriedName) → ((at : ℕ) (t : TriedName) → slice_get xs at ≡ Some t → IsTrialAt o root xs at t) → AreBehind [] xs
-      behind xs each = λ at t e. let is = each at t e in record { before = is.before; planned = is.planned; found = is.found }
+      behind : (xs : List Trial) → ((at : ℕ) (t : Trial) → slice_get xs at ≡ Some t → IsTrialAt o root xs at t) → AreBehind [] xs
+      behind xs each = λ at t e. let is = each at t e in record { before = is.before; told = is.told }
 
   -- nobody is cleared, or isn't
   not_both : (nobody : Certificate) (p : Plan) → IsPlanned o (merge_set root []) (plan.Cleared nobody) → IsPlanned o (merge_set root []) p → is_cleared p ≡ false

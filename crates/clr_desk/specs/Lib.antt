@@ -12,5 +12,4 @@ pub mod LinedTexts
 pub mod Merges
 pub mod OneAnswer
 pub mod Orders
-pub mod Trials
 pub mod Whys

@@ -1,134 +1,23 @@
 //! Members that are taken in their order, as long as they are cleared together.
-ghost use Rattle.std.specs.Prelude.{◌≡◌, ◌∷◌, ◌++◌, [], codes, false, map, IfOk, OnOk};
+ghost use Rattle.std.specs.Prelude.{◌≡◌, ◌∷◌, ◌++◌, [], codes, false, map, IfOk};
 ghost use Rattle.clr_cert.specs.Texts.{certificate_text};
 ghost use Rattle.clr_merge_sets.specs.MergeSetNames.{merge_set};
 ghost use Rattle.clr_office_texts.specs.Drafts.{draft_in};
 ghost use Rattle.clr_plan.specs.declared.plans.Plan.TheVariants as plan;
 ghost use Rattle.clr_office.specs.Outcomes.{IsPlanned};
-ghost use Rattle.clr_desk.specs.Choices.{IsChoicePrint, names_line, refusal_text};
-ghost use Rattle.clr_desk.specs.Trials.{IsAdded, IsChosen, IsTried};
+ghost use Rattle.clr_desk.specs.Choices.{IsChoicePrint, names_line};
 ghost use Rattle.clr_desk_answers.specs.NameHints.{IsHinted};
 ghost use Rattle.clr_desk_answers.specs.Printing.{IsMadePrintout, IsPrintoutIn, printed, printout_of};
 
 use crate::certificates::plan_print;
 use crate::names_lines::names_line;
 use clr_cert::{Certificate, write_certificate};
+use clr_choices::{Choice, choose};
 use clr_desk_answers::{Print, members_asked, notes_of, plan_members, with_hints};
 use clr_engine::Office;
 use clr_office::{Plan, RunFault, Words, open_office, texts_of_names};
-use clr_plan::plan_lines;
 use clr_rows::Schema;
 use std::alloc::{AllocError, Global};
-
-/// What is said of one more name beside those taken.
-#[derive(Drop)]
-enum TriedName {
-    /// The members are cleared together, by this certificate.
-    Taken(Certificate),
-    /// The members aren't cleared together, and these lines say why.
-    Left(Vec<u8>),
-}
-
-/// The members taken so far, the certificate of them, the lines of those that are left, and whether there
-/// are any.
-#[derive(Drop)]
-struct Choice {
-    taken: Vec<Words>,
-    certificate: Certificate,
-    left: Vec<u8>,
-    is_any_left: bool,
-}
-
-/// Returns the line that a name is left, and the lines of the plan that says why.
-fn refusal_lines(
-    alloc: Global,
-    schema: &Schema,
-    root: &str,
-    members: &[&str],
-    name: &str,
-    plan: &Plan,
-) -> Result<Vec<u8>, AllocError>
-    ensures { IfOk result (λ lines. lines.items ≡ refusal_text schema.now root.now (map (λ name. name.now) members.now) name.now plan.now) }
-{
-    let mut lines = Vec::from_slice(alloc, b"left ")?;
-    lines.extend_from_slice(name.as_bytes())?;
-    lines.extend_from_slice(b"\n")?;
-    let told = plan_lines(alloc, schema, members, root, plan)?;
-    lines.extend_from_slice(told.as_slice())?;
-    Ok(lines)
-}
-
-/// Tries one more name with those taken. Where the plan has no memory, this call fails too.
-fn try_name(
-    alloc: Global,
-    office: &Office,
-    root: &str,
-    taken: &[Words],
-    name: &Words,
-) -> Result<TriedName, AllocError>
-    ensures { IfOk result (IsTried office.now root.now taken.now name.now) }
-{
-    let mut members = texts_of_names(alloc, taken)?;
-    members.push(name.as_str())?;
-    match plan_members(alloc, office, root, members.as_slice()) {
-        Plan::Cleared(certificate) => Ok(TriedName::Taken(certificate)),
-        Plan::OutOfMemory => Err(AllocError),
-        plan => {
-            let lines = refusal_lines(
-                alloc,
-                office.schema(),
-                root,
-                members.as_slice(),
-                name.as_str(),
-                &plan,
-            )?;
-            Ok(TriedName::Left(lines))
-        }
-    }
-}
-
-impl Choice {
-    /// Takes a name, or leaves it.
-    fn add(&mut self, name: &Words, trial: TriedName) -> Result<(), AllocError>
-        ensures { OnOk result (IsAdded self.old name.now trial self.new) }
-    {
-        match trial {
-            TriedName::Taken(certificate) => {
-                self.taken.push(name.copy()?)?;
-                self.certificate = certificate;
-            }
-            TriedName::Left(lines) => {
-                self.left.extend_from_slice(lines.as_slice())?;
-                self.is_any_left = true;
-            }
-        }
-        Ok(())
-    }
-}
-
-/// Tries names in their order, where nobody is cleared by this certificate.
-fn choice_of(
-    alloc: Global,
-    office: &Office,
-    root: &str,
-    names: &[Words],
-    certificate: Certificate,
-) -> Result<Choice, AllocError>
-    requires { IsPlanned office.now (merge_set root.now []) (plan.Cleared certificate) }
-    ensures { IfOk result (IsChosen office.now root.now names.now) }
-{
-    let mut choice = Choice {
-        taken: Vec::new(alloc),
-        certificate,
-        left: Vec::new(alloc),
-        is_any_left: false,
-    };
-    for name in names {
-        let trial = try_name(alloc, office, root, choice.taken.as_slice(), name)?;
-        choice.add(name, trial)?;
-    }
-    Ok(choice)
-}
 
 /// Returns the certificate of the members taken, and as notes who they are and why the others are
 /// left.
@@ -156,7 +45,7 @@ fn print_of_choice(
     ensures { IfOk result (λ p. IsChoicePrint root.now names.now office.now (printed p)) }
 {
     let members = members_asked(alloc, office, root, names)?;
-    let choice = choice_of(alloc, office, root, members.as_slice(), certificate)?;
+    let choice = choose(alloc, office, root, members.as_slice(), certificate)?;
     choice_print(alloc, office.schema(), &choice)
 }
 

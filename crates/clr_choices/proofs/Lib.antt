@@ -1,0 +1,2 @@
+mod ClearableLaws
+mod Trying

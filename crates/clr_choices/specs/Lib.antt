@@ -1,0 +1,4 @@
+pub mod ChoiceLines
+pub mod Clearable
+pub mod Progress
+pub mod Trials

@@ -1,0 +1,159 @@
+//! Names that are gone through in their order.
+ghost use Rattle.std.specs.Prelude.{◌≡◌, List, [], false, IfOk, IfSome};
+ghost use Rattle.clr_workspaces.specs.Marks.{Name};
+ghost use Rattle.clr_merge_sets.specs.MergeSetNames.{merge_set};
+ghost use Rattle.clr_plan.specs.declared.plans.Plan.TheVariants as plan;
+ghost use Rattle.clr_choices.specs.Clearable.{IsPlanOf};
+ghost use Rattle.clr_choices.specs.Progress.{IsChosen, IsProgress};
+
+use crate::guesses::{fitting, guess};
+use crate::progress::{Progress, go_on};
+use crate::trials::{plan_members, texts};
+use clr_cert::Certificate;
+use clr_engine::Office;
+use clr_plan::Plan;
+use clr_rows::Words;
+use std::alloc::{AllocError, Global};
+
+/// Of some names those that are taken, the certificate of them, the lines of the others, and whether there
+/// are any.
+#[derive(Drop)]
+pub struct Choice {
+    pub taken: Vec<Words>,
+    pub certificate: Certificate,
+    pub left: Vec<u8>,
+    pub is_any_left: bool,
+}
+
+/// Returns that none of the names that are cleared together by a certificate is taken yet.
+fn none_taken(alloc: Global, cleared: Vec<Words>, certificate: Certificate) -> Progress
+    ensures cleared { result.cleared.items ≡ cleared.items }
+    ensures count { result.count ≡ 0 }
+    ensures certificate { result.certificate ≡ certificate }
+    ensures left { result.left.items ≡ [] }
+    ensures is_any_left { result.is_any_left ≡ false }
+{
+    Progress {
+        cleared,
+        count: 0,
+        certificate,
+        left: Vec::new(alloc),
+        is_any_left: false,
+    }
+}
+
+/// Returns the plan of names.
+fn plan_names(
+    alloc: Global,
+    office: &Office,
+    root: &str,
+    names: &[Words],
+) -> Result<Plan, AllocError>
+    ensures { IfOk result (IsPlanOf office.now (merge_set root.now names.now)) }
+{
+    let members = texts(alloc, names)?;
+    Ok(plan_members(alloc, office, root, members.as_slice()))
+}
+
+/// Begins with names that are perhaps cleared together, where a plan clears them.
+fn begin_with(
+    alloc: Global,
+    office: &Office,
+    root: &str,
+    names: Vec<Words>,
+) -> Result<Option<Progress>, AllocError>
+    ensures { IfOk result (λ progress. IfSome progress (IsProgress office.now root.now [])) }
+{
+    match plan_names(alloc, office, root, names.as_slice())? {
+        Plan::Cleared(certificate) => Ok(Some(none_taken(alloc, names, certificate))),
+        _ => Ok(None),
+    }
+}
+
+/// Begins with all names that fit, where a plan clears them; else with those that are guessed to be taken, where a
+/// plan clears these; and else with nobody, who is cleared by this certificate.
+fn begin(
+    alloc: Global,
+    office: &Office,
+    root: &str,
+    names: &[Words],
+    nobody: Certificate,
+) -> Result<Progress, AllocError>
+    requires { IsPlanOf office.now (merge_set root.now []) (plan.Cleared nobody) }
+    ensures { IfOk result (IsProgress office.now root.now []) }
+{
+    let all = fitting(alloc, office, root, names)?;
+    if let Some(progress) = begin_with(alloc, office, root, all)? {
+        return Ok(progress);
+    }
+    let guessed = guess(alloc, office, root, names)?;
+    if let Some(progress) = begin_with(alloc, office, root, guessed)? {
+        return Ok(progress);
+    }
+    Ok(none_taken(alloc, Vec::new(alloc), nobody))
+}
+
+/// Returns the certificate of names that are taken. They are cleared together, so that it fails only for want of memory.
+fn certificate_of(
+    alloc: Global,
+    office: &Office,
+    root: &str,
+    names: &[Words],
+) -> Result<Certificate, AllocError>
+    ensures { IfOk result (λ c. IsPlanOf office.now (merge_set root.now names.now) (plan.Cleared c)) }
+{
+    match plan_names(alloc, office, root, names)? {
+        Plan::Cleared(certificate) => Ok(certificate),
+        _ => Err(AllocError),
+    }
+}
+
+/// Returns the choice of names that are all gone through.
+fn end(alloc: Global, office: &Office, root: &str, progress: Progress) -> Result<Choice, AllocError>
+    ensures { IfOk result (λ choice. (names : List Name) → IsProgress office.now root.now names progress → IsChosen office.now root.now names choice) }
+{
+    let Progress {
+        cleared,
+        count,
+        certificate,
+        left,
+        is_any_left,
+    } = progress;
+    if cleared.len() <= count {
+        return Ok(Choice {
+            taken: cleared,
+            certificate,
+            left,
+            is_any_left,
+        });
+    }
+    let mut taken = cleared;
+    taken.truncate(count);
+    let certificate = certificate_of(alloc, office, root, taken.as_slice())?;
+    Ok(Choice {
+        taken,
+        certificate,
+        left,
+        is_any_left,
+    })
+}
+
+/// Goes through names in their order, and takes each that is clearable with those taken before it; of each other the
+/// lines say `left` and its name, and then why: the plan of those taken before it and of it. Nobody is to be cleared, by
+/// this certificate. It fails only for want of memory.
+pub fn choose(
+    alloc: Global,
+    office: &Office,
+    root: &str,
+    names: &[Words],
+    nobody: Certificate,
+) -> Result<Choice, AllocError>
+    requires nobody { IsPlanOf office.now (merge_set root.now []) (plan.Cleared nobody) }
+    ensures chosen { IfOk result (IsChosen office.now root.now names.now) }
+{
+    let mut progress = begin(alloc, office, root, names, nobody)?;
+    for name in names {
+        go_on(alloc, office, root, &mut progress, name)?;
+    }
+    end(alloc, office, root, progress)
+}

@@ -1,0 +1,108 @@
+//! One more name beside those that are taken.
+ghost use Rattle.std.specs.Prelude.{◌≡◌, ◌∷◌, [], ◌++◌, map, take, IfOk};
+ghost use Rattle.clr_merge_sets.specs.MergeSetNames.{merge_set};
+ghost use Rattle.clr_choices.specs.ChoiceLines.{refusal_text};
+ghost use Rattle.clr_choices.specs.Clearable.{IsPlanOf};
+ghost use Rattle.clr_choices.specs.Progress.{IsTried};
+
+use clr_cert::Certificate;
+use clr_engine::Office;
+use clr_plan::{Plan, plan, plan_lines};
+use clr_rows::{Schema, Words};
+use std::alloc::{AllocError, Global};
+
+/// What is said of one more name beside those taken.
+#[derive(Drop)]
+pub(crate) enum TriedName {
+    /// The members are cleared together, by this certificate.
+    Taken(Certificate),
+    /// The members aren't cleared together, and these lines say why.
+    Left(Vec<u8>),
+}
+
+/// Returns the texts of names.
+pub(crate) fn texts<'a>(alloc: Global, names: &'a [Words]) -> Result<Vec<&'a str>, AllocError>
+    ensures { IfOk result (λ texts. map (λ text. text.now) texts.items ≡ names.entry.now) }
+{
+    let mut texts = Vec::with_capacity(alloc, names.len())?;
+    for name in names {
+        texts.push(name.as_str())?;
+    }
+    Ok(texts)
+}
+
+/// Returns the first of some names, and one more.
+fn members_with<'a>(
+    alloc: Global,
+    cleared: &'a [Words],
+    count: usize,
+    name: &'a Words,
+) -> Result<Vec<&'a str>, AllocError>
+    ensures { IfOk result (λ texts. map (λ text. text.now) texts.items ≡ take count cleared.entry.now ++ name.entry.now ∷ []) }
+{
+    let mut members = texts(alloc, cleared)?;
+    members.truncate(count);
+    members.push(name.as_str())?;
+    Ok(members)
+}
+
+/// Returns the plan of members of a root, with what it promises.
+pub(crate) fn plan_members(alloc: Global, office: &Office, root: &str, members: &[&str]) -> Plan
+    ensures { IsPlanOf office.now (merge_set root.now (map (λ name. name.now) members.now)) result }
+{
+    plan(alloc, office, root, members)
+}
+
+/// Returns the line that a name is left, and the lines of the plan that says why.
+fn refusal_lines(
+    alloc: Global,
+    schema: &Schema,
+    root: &str,
+    members: &[&str],
+    name: &str,
+    plan: &Plan,
+) -> Result<Vec<u8>, AllocError>
+    ensures { IfOk result (λ lines. lines.items ≡ refusal_text schema.now root.now (map (λ name. name.now) members.now) name.now plan.now) }
+{
+    let mut lines = Vec::from_slice(alloc, b"left ")?;
+    lines.extend_from_slice(name.as_bytes())?;
+    lines.extend_from_slice(b"\n")?;
+    let told = plan_lines(alloc, schema, members, root, plan)?;
+    lines.extend_from_slice(told.as_slice())?;
+    Ok(lines)
+}
+
+/// Tries members, of which the last is a name that is tried. Where the plan has no memory, this call fails too.
+fn try_members(
+    alloc: Global,
+    office: &Office,
+    root: &str,
+    members: &[&str],
+    name: &str,
+) -> Result<TriedName, AllocError>
+    ensures { IfOk result (IsTried office.now root.now (map (λ name. name.now) members.now) name.now) }
+{
+    match plan_members(alloc, office, root, members) {
+        Plan::Cleared(certificate) => Ok(TriedName::Taken(certificate)),
+        Plan::OutOfMemory => Err(AllocError),
+        plan => {
+            let lines = refusal_lines(alloc, office.schema(), root, members, name, &plan)?;
+            Ok(TriedName::Left(lines))
+        }
+    }
+}
+
+/// Tries one more name with the first of some names.
+pub(crate) fn try_name(
+    alloc: Global,
+    office: &Office,
+    root: &str,
+    cleared: &[Words],
+    count: usize,
+    name: &Words,
+) -> Result<TriedName, AllocError>
+    ensures { IfOk result (IsTried office.now root.now (take count cleared.now ++ name.now ∷ []) name.now) }
+{
+    let members = members_with(alloc, cleared, count, name)?;
+    try_members(alloc, office, root, members.as_slice(), name.as_str())
+}
