@@ -1,3 +1,3 @@
 pub mod Entering
+mod Folds
 mod Known
-pub mod Subcommands

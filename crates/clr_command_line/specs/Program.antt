@@ -1,15 +1,11 @@
 -- The command line: subcommands, each with its values.
-use Rattle.std.specs.Prelude.{true, codes, Some}
-use Rattle.clap.specs.Lexer.{usize_max}
-use Rattle.clap.specs.Words.{App, Rule, Text, new_app, new_rule, with_rule, with_subcommand}
+use Rattle.std.specs.Prelude.{codes}
+use Rattle.clap.specs.Words.{App, Rule, Text, new_app, with_rule, with_subcommand}
+use Rattle.clr_command_line.specs.Tables.{demanding, value, values}
 
--- a value that is required
-abbrev pub value : Text → Rule
-value id = record (new_rule id) { required = true }
-
--- name_arguments at the end, none or more
+-- names at the end, none or more
 abbrev pub name_arguments : Rule
-name_arguments = record (new_rule (codes "NAME")) { range = Some (record { start_inclusive = 0; end_inclusive = usize_max }) }
+name_arguments = values (codes "NAME")
 
 -- a subcommand over an office text
 abbrev pub database_command : Text → App
@@ -32,10 +28,6 @@ check = with_rule (database_command (codes "check")) (value (codes "CERT"))
 
 abbrev pub merge : App
 merge = with_rule (with_rule (database_command (codes "merge")) (value (codes "CERT"))) name_arguments
-
--- a program that requires a subcommand, and has a version
-abbrev pub demanding : Text → App
-demanding name = let bare = new_app name in record bare { top = record bare.top { has_version = true; subcommand_required = true } }
 
 -- the subcommands that print something and change nothing
 abbrev pub reporting : App

@@ -4,17 +4,19 @@
 //!   simple command finds in the words; where that takes the words, they are refused for want of
 //!   memory alone. Texts of help and usage are tested only.
 //! - `names`, `database`, `database_with`, `AskFault::of`: what other programs of the same files read
-//!   by them; `over_database`, `with_value`, `with_names`, `add` [`shape`, `plain`]: what they make
-//!   their subcommands of.
+//!   by them.
+//! - `command_of`: the command line that a table describes.
 #![tactic(auto)]
 
-mod arguments;
 mod asks;
 mod command;
+mod described;
 mod reading;
+mod tables;
 mod values;
 
-pub use arguments::{add, over_database, with_names, with_value};
 pub use asks::{Ask, AskFault};
+pub use described::command_of;
 pub use reading::ask_of;
+pub use tables::{Argument, DATABASE, ProgramTable, Subcommand};
 pub use values::{database, database_with, names};

@@ -1,4 +1,3 @@
 mod GivenLemmas
 mod Known
 mod LayerLemmas
-mod Subcommands

@@ -1,17 +1,8 @@
 -- The command line: subcommands, each with its values.
-use Rattle.std.specs.Prelude.{true, codes, Some}
-use Rattle.clap.specs.Lexer.{usize_max}
-use Rattle.clap.specs.Words.{App, Rule, Text, new_app, new_rule, with_rule, with_subcommand}
-use Rattle.clap.specs.declared.builder.action.ArgAction.TheVariants.{SetTrue}
-use Rattle.clr_command_line.specs.Program.{check, database_command, demanding, merge, name_arguments, value}
-
--- an option with one value
-abbrev pub option : Text → Rule
-option name = record (new_rule name) { long = Some name; value_names = 1 }
-
--- an option without a value
-abbrev pub flag : Text → Rule
-flag name = record (new_rule name) { long = Some name; action = Some SetTrue }
+use Rattle.std.specs.Prelude.{codes}
+use Rattle.clap.specs.Words.{App, Rule, Text, new_app, with_rule, with_subcommand}
+use Rattle.clr_command_line.specs.Program.{check, database_command, merge, name_arguments}
+use Rattle.clr_command_line.specs.Tables.{demanding, flag, option, required_values, value}
 
 -- the option by which coordinates are rounded
 abbrev pub round : Rule
@@ -19,7 +10,7 @@ round = flag (codes "round")
 
 -- layers at the end, one or more
 abbrev pub layers : Rule
-layers = record (new_rule (codes "TABLE=FILE")) { required = true; range = Some (record { start_inclusive = 1; end_inclusive = usize_max }) }
+layers = required_values (codes "TABLE=FILE")
 
 -- the option with the name of the root
 abbrev pub root : Rule

@@ -9,13 +9,10 @@
 mod asks;
 mod command;
 mod complaints;
-mod design_commands;
 mod design_reading;
 mod helps;
-mod layer_commands;
 mod layer_reading;
 mod named_layers;
-mod options;
 mod reading;
 mod values;
 
