@@ -1,5 +1,5 @@
 //! Why an office text can't be used.
-ghost use Rattle.std.specs.Prelude.{◌≡◌, IfNone, IfOk, IfSome, IsOk, Ok};
+ghost use Rattle.std.specs.Prelude.{◌≡◌, IfErr, IfNone, IfOk, IfSome, IsOk, Ok};
 ghost use Rattle.clr_office_texts.specs.Drafts.{draft_in};
 ghost use Rattle.clr_office_reading.specs.Offices.{office_in};
 ghost use Rattle.clr_text_diagnosis.specs.Whys.{AreOfficeLines, IsOfficeWhy, IsRemarkedOfficeFault};
@@ -28,14 +28,35 @@ fn standing_fault(alloc: Global, text: &[u8]) -> Result<Option<OfficeFault>, All
     }
 }
 
-/// Returns the fault of an office text, and what is said of it, or none where it is an office.
-pub(crate) fn office_fault(alloc: Global, text: &[u8]) -> Result<Option<OfficeFault>, AllocError>
-    ensures none { IfOk result (λ found. IfNone found (IsOk (draft_in text.now))) }
-    ensures told { IfOk result (λ found. IfSome found (λ f. IsRemarkedOfficeFault text.now f.fault f.remark)) }
+/// Returns the draft of a text that can be read, or the fault of its workspaces and what is said of it.
+fn draft_or_standing_fault(
+    alloc: Global,
+    text: &[u8],
+) -> Result<Result<Draft, OfficeFault>, AllocError>
+    requires { IsOk (office_in text.now) }
+    ensures draft { IfOk result (λ found. IfOk found (λ draft. draft_in text.now ≡ Ok draft)) }
+    ensures told { IfOk result (λ found. IfErr found (λ f. IsRemarkedOfficeFault text.now f.fault f.remark)) }
+{
+    if let Ok(draft) = read_office(alloc, text) {
+        return Ok(Ok(draft));
+    }
+    match standing_fault(alloc, text)? {
+        Some(found) => Ok(Err(found)),
+        None => Err(AllocError),
+    }
+}
+
+/// Returns the draft of an office text, or its fault and what is said of it.
+pub(crate) fn draft_or_fault(
+    alloc: Global,
+    text: &[u8],
+) -> Result<Result<Draft, OfficeFault>, AllocError>
+    ensures draft { IfOk result (λ found. IfOk found (λ draft. draft_in text.now ≡ Ok draft)) }
+    ensures told { IfOk result (λ found. IfErr found (λ f. IsRemarkedOfficeFault text.now f.fault f.remark)) }
 {
     match explain_office(alloc, text)? {
-        Some(found) => Ok(Some(found)),
-        None => standing_fault(alloc, text),
+        Some(found) => Ok(Err(found)),
+        None => draft_or_standing_fault(alloc, text),
     }
 }
 
@@ -71,26 +92,16 @@ fn why_draft(alloc: Global, draft: Draft, text: &[u8]) -> Result<Why, AllocError
     }
 }
 
-/// Returns what is found in an office text without a fault.
-fn why_sound(alloc: Global, text: &[u8]) -> Result<Why, AllocError>
-    ensures { IfOk result (IsOfficeWhy text.now) }
-{
-    match read_office(alloc, text) {
-        Ok(draft) => why_draft(alloc, draft, text),
-        Err(_) => Err(AllocError),
-    }
-}
-
 /// Returns what is found in an office text: that it is an office in which the rules hold, the lines of a rule that doesn't hold, or
 /// those of its fault.
 pub fn why_office(alloc: Global, text: &[u8]) -> Result<Why, AllocError>
     ensures why { IfOk result (IsOfficeWhy text.now) }
 {
-    match office_fault(alloc, text)? {
-        Some(found) => {
+    match draft_or_fault(alloc, text)? {
+        Ok(draft) => why_draft(alloc, draft, text),
+        Err(found) => {
             let lines = office_lines(alloc, text, &found)?;
             Ok(Why::Faulty(lines))
         }
-        None => why_sound(alloc, text),
     }
 }

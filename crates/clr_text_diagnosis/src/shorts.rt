@@ -6,7 +6,7 @@ ghost use Rattle.clr_record_explanations.specs.RecordRemarks.{IsRecordRemark};
 ghost use Rattle.clr_text_diagnosis.specs.Shorts.{IsShortCertificateFault, IsShortOfficeFault};
 ghost use Rattle.clr_text_diagnosis.specs.Whys.{IsRemarkedOfficeFault};
 
-use crate::offices::office_fault;
+use crate::offices::draft_or_fault;
 use clr_explanations::OfficeFault;
 use clr_fault_lines::short_line;
 use clr_record_explanations::{ExplainedCertificateFault, explain_certificate};
@@ -54,9 +54,9 @@ pub fn short_office_fault(
     ensures none { IfOk result (λ found. IfNone found (IsOk (draft_in text.now))) }
     ensures line { IfOk result (λ found. IfSome found (λ line. IsShortOfficeFault text.now file.now line.items)) }
 {
-    match office_fault(alloc, text)? {
-        Some(found) => Ok(Some(office_line(alloc, text, file, &found)?)),
-        None => Ok(None),
+    match draft_or_fault(alloc, text)? {
+        Ok(_) => Ok(None),
+        Err(found) => Ok(Some(office_line(alloc, text, file, &found)?)),
     }
 }
 

@@ -6,11 +6,10 @@ ghost use Rattle.clr_record_explanations.specs.RecordRemarks.{IsRecordRemark};
 ghost use Rattle.clr_scripts.specs.Scripts.{script_in_text};
 ghost use Rattle.clr_text_diagnosis.specs.Whys.{AreCertificateLines, AreScriptLines, IsCertificateWhy, IsScriptWhy};
 
-use crate::offices::{office_fault, office_lines};
+use crate::offices::{draft_or_fault, office_lines};
 use crate::whys::Why;
 use clr_engine::Draft;
 use clr_fault_lines::fault_lines;
-use clr_office_texts::read_office;
 use clr_record_explanations::{
     ExplainedCertificateFault, ExplainedScriptFault, certificate_fault_words, explain_certificate,
     explain_script, script_fault_words,
@@ -97,41 +96,17 @@ fn why_certificate_over(
     }
 }
 
-/// Returns what is found in a script over an office text without a fault.
-fn why_script_of_draft(alloc: Global, office: &[u8], script: &[u8]) -> Result<Why, AllocError>
-    ensures { IfOk result (IsScriptWhy office.now script.now) }
-{
-    match read_office(alloc, office) {
-        Ok(draft) => why_script_over(alloc, &draft, office, script),
-        Err(_) => Err(AllocError),
-    }
-}
-
 /// Returns what is found in a script over an office text: that it can be read, the lines of its fault, or before it those of the
 /// fault of the office. Whether the rules hold isn't asked.
 pub fn why_script(alloc: Global, office: &[u8], script: &[u8]) -> Result<Why, AllocError>
     ensures why { IfOk result (IsScriptWhy office.now script.now) }
 {
-    match office_fault(alloc, office)? {
-        Some(found) => {
+    match draft_or_fault(alloc, office)? {
+        Ok(draft) => why_script_over(alloc, &draft, office, script),
+        Err(found) => {
             let lines = office_lines(alloc, office, &found)?;
             Ok(Why::Faulty(lines))
         }
-        None => why_script_of_draft(alloc, office, script),
-    }
-}
-
-/// Returns what is found in a certificate over an office text without a fault.
-fn why_certificate_of_draft(
-    alloc: Global,
-    office: &[u8],
-    certificate: &[u8],
-) -> Result<Why, AllocError>
-    ensures { IfOk result (IsCertificateWhy office.now certificate.now) }
-{
-    match read_office(alloc, office) {
-        Ok(draft) => why_certificate_over(alloc, &draft, office, certificate),
-        Err(_) => Err(AllocError),
     }
 }
 
@@ -140,11 +115,11 @@ fn why_certificate_of_draft(
 pub fn why_certificate(alloc: Global, office: &[u8], certificate: &[u8]) -> Result<Why, AllocError>
     ensures why { IfOk result (IsCertificateWhy office.now certificate.now) }
 {
-    match office_fault(alloc, office)? {
-        Some(found) => {
+    match draft_or_fault(alloc, office)? {
+        Ok(draft) => why_certificate_over(alloc, &draft, office, certificate),
+        Err(found) => {
             let lines = office_lines(alloc, office, &found)?;
             Ok(Why::Faulty(lines))
         }
-        None => why_certificate_of_draft(alloc, office, certificate),
     }
 }

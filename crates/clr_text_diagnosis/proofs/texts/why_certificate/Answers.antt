@@ -1,5 +1,5 @@
 use Rattle.std.proofs.Common.{inl}
 use Rattle.clr_text_diagnosis.proofs.texts.why_certificate.Goals as goal
 
-pub returns-in_ok-lines-in-Some : goal.returns-in_ok-lines-in-Some
-returns-in_ok-lines-in-Some c = record { why = inl c.in_ok-lines-in-Some.ensures }
+pub returns-in_ok-lines-in-Err : goal.returns-in_ok-lines-in-Err
+returns-in_ok-lines-in-Err c = record { why = inl c.in_ok-lines-in-Err.ensures }

@@ -4,7 +4,7 @@ use Rattle.std.proofs.lemmas.Option.{MatchOption-at_some}
 use Rattle.clr_office_reading.specs.Offices.{office_in}
 use Rattle.clr_explanations.specs.Remarks.{IsOfficeRemark}
 use Rattle.clr_text_diagnosis.proofs.DraftLemmas.{no_draft}
-use Rattle.clr_text_diagnosis.proofs.offices.office_fault.Goals as goal
+use Rattle.clr_text_diagnosis.proofs.offices.draft_or_fault.Goals as goal
 
 pub returns-in-Some-clause-told : goal.returns-in-Some-clause-told
 returns-in-Some-clause-told c =
