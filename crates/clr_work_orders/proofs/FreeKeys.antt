@@ -1,5 +1,5 @@
 -- A key above all keys of a table is free.
-use Rattle.std.proofs.Common.{◌≡◌, ◌==◌, ◌∙◌, ℕ, zero, suc, ℤ, pos, ◌+◌, ◌-◌, ◌%◌, ◌<◌, ◌≤◌, Bool, true, false, cond, max, List, [], ◌∷◌, Option, None, Some, ap, arith, length, map, refl, subst, sym, unsigned_abs}
+use Rattle.std.proofs.Common.{◌≡◌, ◌==◌, ◌∙◌, ℕ, zero, suc, ℤ, pos, ◌<◌, ◌≤◌, Bool, true, false, cond, max, List, [], ◌∷◌, None, Some, ap, arith, length, map, refl, subst, unsigned_abs}
 use Rattle.std.specs.Prelude.{slice_get}
 use Rattle.std.specs.FinMap as finite
 use Rattle.std.specs.FinMap.{find, get-entries}
@@ -18,7 +18,7 @@ use Rattle.clr_workspaces.specs.Marks.{Name}
 use Rattle.clr_steps.specs.Offices.{Office, content_of}
 use Rattle.clr_steps.specs.Readings.{changes_in, if_stands}
 use Rattle.clr_work_orders.specs.Keys.{all_names, greater_key, greatest_in, greatest_key, greatest_of, own_key, standing_key, tip_key}
-use Rattle.clr_work_orders.proofs.KeyLemmas.{IsOwn, own, named}
+use Rattle.clr_work_orders.proofs.KeyLemmas.{own, named}
 
 -- the cell of a table with a key
 abbrev pub cell_at : ℕ → ℕ → CellId

@@ -1,6 +1,8 @@
+pub mod ClearingLemmas
 pub mod FreeKeys
 pub mod KeyLemmas
 pub mod RemedyLemmas
 pub mod Savepoints
 pub mod SentenceLemmas
+pub mod SuspectLemmas
 pub mod TrialLemmas

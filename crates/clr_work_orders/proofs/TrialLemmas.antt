@@ -1,5 +1,5 @@
 -- What trials leave, and what is told of them.
-use Rattle.std.proofs.Common.{◌≡◌, ◌∙◌, ◌++◌, ◌∷◌, [], ℕ, Bool, List, Option, None, Some, true, false, ap, append_assoc, append-nil, arith, codes, inl, inr, refl, subst, sym}
+use Rattle.std.proofs.Common.{◌≡◌, ◌∙◌, ◌++◌, ◌∷◌, [], ℕ, Bool, List, Option, None, Some, true, false, ap, append_assoc, append-nil, inr, refl, subst, sym}
 use Rattle.std.specs.Prelude.{option_to_list, slice_get}
 use Rattle.clr_change.specs.declared.edits.Edit.{Edit}
 use Rattle.clr_workspaces.specs.Marks.{Name}
@@ -19,7 +19,7 @@ use Rattle.clr_work_orders.specs.declared.trials.Trial.{Trial}
 use Rattle.clr_work_orders.specs.Actions.{action_text}
 use Rattle.clr_work_orders.specs.Making.{AddsTrial, IsActionTried, IsBack, IsDone, IsEditJudged, IsEditTried}
 use Rattle.clr_work_orders.specs.declared.actions.Action.TheVariants as action
-use Rattle.clr_work_orders.specs.Trials.{AreTrials, CannotTry, IsRefused, IsTried, IsTrialAnswer, TellsIfCleared, saving}
+use Rattle.clr_work_orders.specs.Trials.{AreTrials, IsTried, IsTrialAnswer, saving}
 use Rattle.clr_work_orders.proofs.Savepoints.{IsBetween, as_before, edited, same}
 
 -- an edit was tried or not, and what was there is there again

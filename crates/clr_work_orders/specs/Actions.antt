@@ -1,6 +1,5 @@
 -- An action in words.
 use Rattle.std.specs.Prelude.{ℕ, List, [], ◌++◌, codes}
-use Rattle.clr_rows.specs.declared.cells.CellId.{CellId}
 use Rattle.clr_rows.specs.declared.places.Shape.{Shape}
 use Rattle.clr_rows.specs.declared.places.Shape.TheVariants as shape
 use Rattle.clr_rows.specs.declared.tables.TableDef.{TableDef}

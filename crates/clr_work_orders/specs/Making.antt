@@ -1,5 +1,5 @@
 -- What each step of a trial leaves.
-use Rattle.std.specs.Prelude.{◌≡◌, ◌++◌, Bool, true, false, List, [], ◌∷◌, Option, Some, None, codes, option_to_list}
+use Rattle.std.specs.Prelude.{◌≡◌, ◌++◌, ℕ, Bool, true, false, List, [], ◌∷◌, Option, Some, None, option_to_list}
 use Rattle.clr_change.specs.declared.edits.Edit.{Edit}
 use Rattle.clr_workspaces.specs.Marks.{Name}
 use Rattle.clr_steps.specs.declared.commands.Command.{Command}
@@ -8,6 +8,8 @@ use Rattle.clr_steps.specs.declared.commands.Reply.TheVariants.{Done}
 use Rattle.clr_steps.specs.Offices.{Office}
 use Rattle.clr_steps.specs.Quiet.{MergeSet}
 use Rattle.clr_steps.specs.Steps.{answer, step}
+use Rattle.clr_plan.specs.declared.plans.Plan.{Plan}
+use Rattle.clr_plan.specs.declared.plans.Plan.TheVariants as plan
 use Rattle.clr_work_orders.specs.declared.actions.Action.{Action}
 use Rattle.clr_work_orders.specs.declared.trials.Trial.{Trial}
 use Rattle.clr_work_orders.specs.Trials.{CannotEdit, CannotTry, IsEdited, IsRefused, IsTried, IsTrialAnswer, TellsIfCleared}
@@ -40,3 +42,16 @@ IsActionTried o s action None = CannotTry o s action
 -- the trial of an action stands behind the others, if it can be tried
 abbrev pub AddsTrial : Office → MergeSet → Action → List Trial → List Trial → Type 0
 AddsTrial o s action old new = (trial : Option Trial) × IsTried o s action trial × (new ≡ old ++ option_to_list trial)
+
+-- the order of a plan that is blocked
+abbrev pub blocked_order : Plan → List ℕ
+blocked_order (plan.Blocked order cause) = order.items
+blocked_order (plan.Cleared c) = []
+blocked_order (plan.Unfit v) = []
+blocked_order plan.OutOfMemory = []
+
+abbrev pub is_blocked : Plan → Bool
+is_blocked (plan.Blocked order cause) = true
+is_blocked (plan.Cleared c) = false
+is_blocked (plan.Unfit v) = false
+is_blocked plan.OutOfMemory = false

@@ -1,5 +1,5 @@
 -- What is tried of members that can't be merged in every order, and what the planner says of it.
-use Rattle.std.specs.Prelude.{◌≡◌, ◌++◌, ◌⊎◌, Bool, false, List, [], ◌∷◌, Option, Some, None, codes, option_to_list, remove, slice_get}
+use Rattle.std.specs.Prelude.{◌≡◌, ◌++◌, ◌⊎◌, ℕ, Bool, true, false, List, [], ◌∷◌, Option, Some, None, codes, option_to_list, remove, slice_get}
 use Rattle.clr_change.specs.declared.edits.Edit.{Edit}
 use Rattle.clr_workspaces.specs.Marks.{Name}
 use Rattle.clr_steps.specs.declared.commands.Command.{Command}
@@ -10,10 +10,12 @@ use Rattle.clr_steps.specs.Offices.{Office}
 use Rattle.clr_steps.specs.Quiet.{MergeSet}
 use Rattle.clr_steps.specs.Refusals.{refusal}
 use Rattle.clr_steps.specs.Steps.{answer, step}
+use Rattle.clr_clearance.specs.declared.verdicts.Verdict.{Verdict}
+use Rattle.clr_clearance.specs.Plans.{IsUnfit}
 use Rattle.clr_merge_sets.specs.MergeSetNames.{merge_set}
 use Rattle.clr_plan.specs.declared.plans.Plan.{Plan}
 use Rattle.clr_plan.specs.Plans.{IsPlan}
-use Rattle.clr_plan.specs.Promises.{IsExact, Promises, is_cleared, is_out_of_memory}
+use Rattle.clr_plan.specs.Promises.{IsExact, IsRefusedOrder, Promises, is_cleared, is_out_of_memory}
 use Rattle.clr_work_orders.specs.declared.actions.Action.{Action}
 use Rattle.clr_work_orders.specs.declared.actions.Action.TheVariants as action
 use Rattle.clr_work_orders.specs.declared.trials.Trial.{Trial}
@@ -26,12 +28,19 @@ pub record IsAnswered (o : Office) (s : MergeSet) (p : Plan) : Type 0 where
   pub promises : Promises o s p
   pub exact : IsExact o s p
 
--- a plan that found its memory is cleared, or isn't
+-- of the merges of some members in an order, with no workspace removed, one meets a conflict or breaks a rule; so the members aren't safe
+abbrev pub HasRefusedOrder : Office → MergeSet → Type 0
+HasRefusedOrder o s = (order : List ℕ) × IsRefusedOrder o s order
+
+-- a yes has a plan that is cleared, with what it promises; a no has a test of names that fails, or an order of merges that is refused
+abbrev pub HasReason : Office → MergeSet → Bool → Type 0
+HasReason o s true = (p : Plan) × IsAnswered o s p × (is_cleared p ≡ true)
+HasReason o s false = ((v : Verdict) × IsUnfit o s v) ⊎ HasRefusedOrder o s
+
+-- each plan that found its memory is cleared, or none is; and why
 pub record TellsIfCleared (o : Office) (s : MergeSet) (cleared : Bool) : Type 0 where
-  pub plan : Plan
-  pub planned : IsAnswered o s plan
-  pub found : is_out_of_memory plan ≡ false
-  pub told : cleared ≡ is_cleared plan
+  pub told : (p : Plan) → IsPlan o s p → is_out_of_memory p ≡ false → cleared ≡ is_cleared p
+  pub reason : HasReason o s cleared
 
 -- the savepoint to which a trial goes back
 abbrev pub saving : Name → Command

@@ -11,10 +11,12 @@
 
 mod actions;
 mod bringing;
+mod clearing;
 mod keys;
 mod laws;
 mod remedies;
 mod sentences;
+mod suspects;
 mod trial_lines;
 mod trials;
 mod undoings;

@@ -6,13 +6,15 @@ ghost use Rattle.clr_merge_sets.specs.MergeSetNames.{merge_set};
 ghost use Rattle.clr_work_orders.specs.declared.trials.TheConstants.{BEFORE_TRIAL as SAVEPOINT};
 ghost use Rattle.clr_work_orders.specs.Actions.{action_text};
 ghost use Rattle.clr_work_orders.specs.Making.{AddsTrial, IsActionTried, IsBack, IsDone, IsEditJudged, IsEditTried};
-ghost use Rattle.clr_work_orders.specs.Trials.{AreTrials, AreTrialsOf, TellsIfCleared};
+ghost use Rattle.clr_work_orders.specs.Trials.{AreTrials, AreTrialsOf};
 
 use crate::actions::{Action, action_words, copy_action, copy_edit};
+use crate::clearing::are_cleared;
 use crate::remedies::plan_remedies;
+use crate::suspects::first_suspects;
 use clr_change::{Edit, Edits};
 use clr_engine::Office;
-use clr_plan::{Plan, plan};
+use clr_plan::Plan;
 use clr_rows::Words;
 use clr_steps::{Command, Reply};
 use std::alloc::{AllocError, Global};
@@ -26,23 +28,6 @@ pub struct Trial {
     pub words: Words,
     pub action: Action,
     pub is_cleared: bool,
-}
-
-/// Returns whether members are cleared, as `plan` answers. Where the plan has no memory, this call fails too.
-fn are_cleared(
-    alloc: Global,
-    office: &Office,
-    root: &str,
-    names: &[&str],
-) -> Result<bool, AllocError>
-    ensures { IfOk result (TellsIfCleared office.now (merge_set root.now (map (λ name. name.now) names.now))) }
-{
-    match plan(alloc, office, root, names) {
-        Plan::Cleared(_) => Ok(true),
-        Plan::Blocked { .. } => Ok(false),
-        Plan::Unfit(_) => Ok(false),
-        Plan::OutOfMemory => Err(AllocError),
-    }
 }
 
 /// Performs a command, and answers whether it was done; where it wasn't, nothing changes.
@@ -117,11 +102,12 @@ fn go_back(alloc: Global, office: &mut Office, ws: &str) -> Result<(), AllocErro
 }
 
 /// Makes an edit, and answers whether the members are cleared then; or none where it can't be made.
-fn judge_edit(
+fn judge_edit<'a>(
     alloc: Global,
     office: &mut Office,
     root: &str,
-    names: &[&str],
+    names: &[&'a str],
+    suspects: &mut Vec<&'a str>,
     ws: &str,
     edit: &Edit,
 ) -> Result<Option<bool>, AllocError>
@@ -130,17 +116,18 @@ fn judge_edit(
     if !make_edit(alloc, office, ws, edit)? {
         return Ok(None);
     }
-    let is_cleared = are_cleared(alloc, office, root, names)?;
+    let is_cleared = are_cleared(alloc, office, root, names, suspects)?;
     Ok(Some(is_cleared))
 }
 
 /// Tries an edit of one of the members behind a savepoint: whether the members are cleared with it, or none
 /// where it can't be made. The office is as before, unless memory runs out.
-fn try_edit(
+fn try_edit<'a>(
     alloc: Global,
     office: &mut Office,
     root: &str,
-    names: &[&str],
+    names: &[&'a str],
+    suspects: &mut Vec<&'a str>,
     ws: &str,
     edit: &Edit,
 ) -> Result<Option<bool>, AllocError>
@@ -151,7 +138,7 @@ fn try_edit(
     if !set_savepoint(alloc, office, ws)? {
         return Ok(None);
     }
-    let told = judge_edit(alloc, office, root, names, ws, edit)?;
+    let told = judge_edit(alloc, office, root, names, suspects, ws, edit)?;
     go_back(alloc, office, ws)?;
     Ok(told)
 }
@@ -172,11 +159,12 @@ fn names_without<'a>(
 
 /// Tries an action: whether the members are cleared with it, or none where it can't be tried. The office is
 /// as before, unless memory runs out.
-fn try_action(
+fn try_action<'a>(
     alloc: Global,
     office: &mut Office,
     root: &str,
-    names: &[&str],
+    names: &[&'a str],
+    suspects: &mut Vec<&'a str>,
     action: &Action,
 ) -> Result<Option<bool>, AllocError>
     ensures told { IfOk result (IsActionTried office.old (merge_set root.now (map (λ name. name.now) names.now)) action.now) }
@@ -185,12 +173,12 @@ fn try_action(
     match action {
         Action::LeaveOut(member) if *member < names.len() => {
             let rest = names_without(alloc, names, *member)?;
-            let is_cleared = are_cleared(alloc, office, root, rest.as_slice())?;
+            let is_cleared = are_cleared(alloc, office, root, rest.as_slice(), suspects)?;
             Ok(Some(is_cleared))
         }
         Action::LeaveOut(_) => Ok(None),
         Action::Make(member, edit) => match names.get(*member) {
-            Some(ws) => try_edit(alloc, office, root, names, ws, edit),
+            Some(ws) => try_edit(alloc, office, root, names, suspects, ws, edit),
             None => Ok(None),
         },
     }
@@ -216,18 +204,19 @@ fn trial_of(
 }
 
 /// Tries an action, and adds what is told of it, if it can be tried. The office is as before, unless memory runs out.
-fn add_trial(
+fn add_trial<'a>(
     alloc: Global,
     office: &mut Office,
     root: &str,
-    names: &[&str],
+    names: &[&'a str],
+    suspects: &mut Vec<&'a str>,
     action: &Action,
     trials: &mut Vec<Trial>,
 ) -> Result<(), AllocError>
     ensures added { OnOk result (AddsTrial office.old (merge_set root.now (map (λ name. name.now) names.now)) action.now trials.old.items trials.new.items) }
     ensures back { OnOk result (office.new ≡ office.old) }
 {
-    match try_action(alloc, office, root, names, action)? {
+    match try_action(alloc, office, root, names, suspects, action)? {
         Some(is_cleared) => {
             Ok(trials.push(trial_of(alloc, office, names, action, is_cleared)?)?)
         }
@@ -237,11 +226,12 @@ fn add_trial(
 
 /// Tries actions, one after another. The office is as before, but where it fails, which is for want of
 /// memory.
-fn try_all(
+fn try_all<'a>(
     alloc: Global,
     office: &mut Office,
     root: &str,
-    names: &[&str],
+    names: &[&'a str],
+    mut suspects: Vec<&'a str>,
     actions: &[Action],
 ) -> Result<Vec<Trial>, AllocError>
     ensures tried { IfOk result (λ trials. AreTrials office.old (merge_set root.now (map (λ name. name.now) names.now)) actions.now trials.items) }
@@ -249,7 +239,15 @@ fn try_all(
 {
     let mut trials = Vec::new(alloc);
     for action in actions {
-        add_trial(alloc, office, root, names, action, &mut trials)?;
+        add_trial(
+            alloc,
+            office,
+            root,
+            names,
+            &mut suspects,
+            action,
+            &mut trials,
+        )?;
     }
     Ok(trials)
 }
@@ -269,5 +267,6 @@ pub fn try_remedies(
     ensures back { IfOk result (λ trials. office.new ≡ office.old) }
 {
     let actions = plan_remedies(alloc, office, root, names, plan)?;
-    try_all(alloc, office, root, names, actions.as_slice())
+    let suspects = first_suspects(alloc, names, plan)?;
+    try_all(alloc, office, root, names, suspects, actions.as_slice())
 }

@@ -1,5 +1,4 @@
-use Rattle.std.proofs.Common.{◌≡◌, ◌∙◌, ℕ, List, ap, map}
-use Rattle.clr_rows.specs.Contents.{Changes}
+use Rattle.std.proofs.Common.{◌∙◌, ℕ, ap, map}
 use Rattle.clr_steps.specs.Readings.{changes_in, if_stands}
 use Rattle.clr_steps.specs.Offices.{content_of}
 use Rattle.clr_work_orders.specs.Keys.{greatest_in, standing_key}

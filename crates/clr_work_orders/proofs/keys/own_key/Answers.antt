@@ -1,4 +1,4 @@
-use Rattle.std.proofs.Common.{◌≡◌, ◌+◌, arith}
+use Rattle.std.proofs.Common.{◌+◌, arith}
 use Rattle.clr_work_orders.specs.Keys.{own_key}
 use Rattle.clr_work_orders.proofs.KeyLemmas.{none_within, told_within}
 use Rattle.clr_work_orders.proofs.keys.own_key.Goals as goal

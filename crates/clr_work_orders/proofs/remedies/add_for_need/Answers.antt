@@ -1,8 +1,7 @@
-use Rattle.std.proofs.Common.{◌≡◌, ◌∙◌, ◌++◌, List, Option, ap}
+use Rattle.std.proofs.Common.{◌∙◌, ◌++◌, List, Option, ap}
 use Rattle.std.specs.List.{flat_map}
 use Rattle.std.proofs.lemmas.Result.{on_ok_weaker}
 use Rattle.clr_rules.specs.declared.sides.Side.{Side}
-use Rattle.clr_work_orders.specs.declared.actions.Action.{Action}
 use Rattle.clr_plan_sentences.specs.declared.servers.ServerChange.{ServerChange}
 use Rattle.clr_plan_sentences.specs.Servers.{server_changes}
 use Rattle.clr_work_orders.specs.Labels.{set_of}

@@ -1,4 +1,4 @@
-use Rattle.std.proofs.Common.{◌≡◌, ◌∙◌, ◌++◌, List, ap}
+use Rattle.std.proofs.Common.{◌∙◌, ◌++◌, List, ap}
 use Rattle.clr_work_orders.specs.declared.actions.Action.{Action}
 use Rattle.clr_work_orders.specs.Labels.{set_of}
 use Rattle.clr_work_orders.specs.Remedies.{for_cause, leaving_out}

@@ -1,4 +1,4 @@
-use Rattle.std.proofs.Common.{◌≡◌, ◌∙◌, Option, Bool, Some, ap, map, subst}
+use Rattle.std.proofs.Common.{◌∙◌, Option, Bool, Some, ap, map, subst}
 use Rattle.clr_steps.specs.Offices.{Office}
 use Rattle.clr_merge_sets.specs.MergeSetNames.{merge_set}
 use Rattle.clr_work_orders.specs.Actions.{action_text}
