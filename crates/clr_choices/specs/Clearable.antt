@@ -8,8 +8,9 @@ use Rattle.clr_clearance.specs.MergeSets.{AreMergeable, KeepsRules}
 use Rattle.clr_clearance.specs.Verdicts.{names_fault, repeated_member}
 use Rattle.clr_merge_sets.specs.MergeSetNames.{merge_set}
 use Rattle.clr_plan.specs.declared.plans.Plan.{Plan}
+use Rattle.clr_plan.specs.Certificates.{IsReadableWhereCleared}
 use Rattle.clr_plan.specs.Plans.{IsPlan}
-use Rattle.clr_plan.specs.Promises.{IsExact, Promises, is_cleared, is_out_of_memory}
+use Rattle.clr_plan.specs.Promises.{IsExact, Promises, StaysCleared, is_cleared, is_out_of_memory}
 
 -- no test of names fails; the members are mergeable, and every rule holds whichever of them are merged; they are safe; and each plan of them for which
 -- memory was found is cleared
@@ -25,6 +26,8 @@ pub record IsPlanOf (o : Office) (s : MergeSet) (p : Plan) : Type 0 where
   pub plan : IsPlan o s p
   pub promises : Promises o s p
   pub exact : IsExact o s p
+  pub lasts : StaysCleared o s p
+  pub readable : IsReadableWhereCleared o p
 
 -- a plan for which memory was found is cleared exactly where its members are clearable
 abbrev pub PlansTellClearable : Type 0

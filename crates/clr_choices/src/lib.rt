@@ -3,6 +3,7 @@
 //! - `choose` [`chosen`]: of names that are gone through in their order, those that are taken, with the certificate of them
 //!   all, and of each other the lines of a plan. A name is taken where the members taken before it and it are
 //!   clearable (`AreClearable`), and left where a plan of them isn't cleared. Want of memory is the only failure.
+//! - `plan_members`: the plan of members, with what it promises (`IsPlanOf`).
 //! - Which names are taken is guessed by the sets that `merge_clashes` lists of all of them. One plan of those guessed
 //!   shows that they are cleared together, and so that each of them is cleared with those before it; of
 //!   each other name there is one plan. Where the guess is wrong, each name that follows is planned.
@@ -18,3 +19,4 @@ mod trials;
 
 pub use choices::{Choice, choose};
 pub use laws::{parts_stay_clearable, plans_tell_clearable};
+pub use trials::plan_members;

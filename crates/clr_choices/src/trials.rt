@@ -47,7 +47,7 @@ fn members_with<'a>(
 }
 
 /// Returns the plan of members of a root, with what it promises.
-pub(crate) fn plan_members(alloc: Global, office: &Office, root: &str, members: &[&str]) -> Plan
+pub fn plan_members(alloc: Global, office: &Office, root: &str, members: &[&str]) -> Plan
     ensures { IsPlanOf office.now (merge_set root.now (map (λ name. name.now) members.now)) result }
 {
     plan(alloc, office, root, members)

@@ -13,11 +13,11 @@ use Rattle.clr_plan.specs.declared.plans.Plan.{Plan}
 use Rattle.clr_plan.specs.declared.plans.Plan.TheVariants as plan
 use Rattle.clr_plan.specs.Promises.{is_cleared, is_out_of_memory}
 use Rattle.clr_plan.proofs.OnePlanLemmas.{one_plan}
-use Rattle.clr_office.specs.Outcomes.{IsPlanned}
 use Rattle.clr_desk_answers.specs.Members.{members_or_children}
 use Rattle.clr_desk_answers.specs.Printing.{PrintoutOrFault, printout_of}
 use Rattle.clr_desk.specs.Certificates.{plan_print}
 use Rattle.clr_choices.specs.ChoiceLines.{left_text, refusal_if_any}
+use Rattle.clr_choices.specs.Clearable.{IsPlanOf}
 use Rattle.clr_choices.specs.Trials.{AreTrials, IsTold, IsTrialAt, Trial, is_taken, members_tried, taken_in}
 use Rattle.clr_desk.specs.Choices.{IsChoicePrint, choice_print, names_line, of_nobody, of_trials}
 use Rattle.clr_desk.specs.OneAnswer.{FoundMemory, IsOnePrint}
@@ -94,12 +94,12 @@ module _ (o : Office) (root : Name) where
       }
 
   one_of_trials : (names : List Name) (ts us : List Trial) (c d : Certificate) → AreTrials o root names ts → AreTrials o root names us
-      → IsPlanned o (merge_set root (taken_in ts)) (plan.Cleared c)
-      → IsPlanned o (merge_set root (taken_in us)) (plan.Cleared d)
+      → IsPlanOf o (merge_set root (taken_in ts)) (plan.Cleared c)
+      → IsPlanOf o (merge_set root (taken_in us)) (plan.Cleared d)
       → choice_print o root ts c ≡ choice_print o root us d
   one_of_trials names ts us c d are are_too planned planned_too =
       let same = same_trials [] ts us (are.names ∙ sym are_too.names) (behind ts are.each) (behind us are_too.each) in
-      let here = subst (λ (ms : List Name). IsPlanned o (merge_set root ms) (plan.Cleared c)) same.taken planned in
+      let here = subst (λ (ms : List Name). IsPlanOf o (merge_set root ms) (plan.Cleared c)) same.taken planned in
       let certificate : c ≡ d = one_plan o (merge_set root (taken_in us)) (plan.Cleared c) (plan.Cleared d) here.plan planned_too.plan refl refl in
       λ i. printout_of (certificate_text o.schema (certificate i)) (names_line (codes "kept") (same.taken i) ++ same.left i) (same.any i) false
     where
@@ -107,7 +107,7 @@ module _ (o : Office) (root : Name) where
       behind xs each = λ at t e. let is = each at t e in record { before = is.before; told = is.told }
 
   -- nobody is cleared, or isn't
-  not_both : (nobody : Certificate) (p : Plan) → IsPlanned o (merge_set root []) (plan.Cleared nobody) → IsPlanned o (merge_set root []) p → is_cleared p ≡ false
+  not_both : (nobody : Certificate) (p : Plan) → IsPlanOf o (merge_set root []) (plan.Cleared nobody) → IsPlanOf o (merge_set root []) p → is_cleared p ≡ false
       → is_out_of_memory p ≡ false
       → ⊥
   not_both nobody p planned planned_too blocked found =

@@ -6,34 +6,24 @@ use Rattle.clr_steps.specs.Offices.{Office}
 use Rattle.clr_cert.specs.declared.certificates.Certificate.{Certificate}
 use Rattle.clr_cert.specs.Texts.{certificate_text}
 use Rattle.clr_merge_sets.specs.MergeSetNames.{merge_set}
-use Rattle.clr_plan.specs.declared.plans.Plan.{Plan}
 use Rattle.clr_plan.specs.declared.plans.Plan.TheVariants as plan
 use Rattle.clr_choices.specs.Clearable.{IsPlanOf}
 use Rattle.clr_choices.specs.Progress.{IsChosen}
 use Rattle.clr_choices.specs.declared.choices.Choice.{Choice}
-use Rattle.clr_office.specs.Outcomes.{IsPlanned}
 use Rattle.clr_desk.specs.Choices.{IsChoicePrint, names_line, of_trials}
 use Rattle.clr_desk_answers.specs.Members.{members_or_children}
 use Rattle.clr_desk_answers.specs.Printing.{printed, printout_of}
 use Rattle.clr_desk_answers.specs.declared.prints.Print.{Print}
 
--- a plan with what it promises
-pub planned_is : (o : Office) (root : Name) (members : List Name) (p : Plan) → IsPlanOf o (merge_set root members) p → IsPlanned o (merge_set root members) p
-planned_is o root members p h = record { plan = h.plan; promises = h.promises; exact = h.exact }
-
-pub plan_is : (o : Office) (root : Name) (members : List Name) (p : Plan) → IsPlanned o (merge_set root members) p → IsPlanOf o (merge_set root members) p
-plan_is o root members p h = record { plan = h.plan; promises = h.promises; exact = h.exact }
-
 -- what is printed of a choice among the members that names ask for
 pub choice_printed : {E : Type 0} (o : Office) (root : Name) (names : List Name) (nobody : Certificate) (choice : Choice) (result : Result Print E)
-    → IsPlanned o (merge_set root []) (plan.Cleared nobody)
+    → IsPlanOf o (merge_set root []) (plan.Cleared nobody)
     → IsChosen o root (members_or_children o root names) choice
     → IfOk result (λ p. printed p ≡ printout_of (certificate_text o.schema choice.certificate)
     (names_line (codes "kept") choice.taken.items ++ choice.left.items) choice.is_any_left false)
     → IfOk result (λ p. IsChoicePrint root names o (printed p))
 choice_printed o root names nobody choice (Ok p) none (trials, are, made) is =
     of_trials nobody trials choice.certificate none are
-    (subst (λ (ms : List Name). IsPlanned o (merge_set root ms) (plan.Cleared choice.certificate)) made.taken
-    (planned_is o root choice.taken.items (plan.Cleared choice.certificate) made.planned))
+    (subst (λ (ms : List Name). IsPlanOf o (merge_set root ms) (plan.Cleared choice.certificate)) made.taken made.planned)
     (rw (is, made.taken, made.left, made.any_left))
 choice_printed o root names nobody choice (Err e) none chosen is = tt

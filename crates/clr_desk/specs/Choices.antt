@@ -11,8 +11,8 @@ use Rattle.clr_plan.specs.declared.plans.Plan.{Plan}
 use Rattle.clr_plan.specs.declared.plans.Plan.TheVariants as plan
 use Rattle.clr_plan.specs.Promises.{is_cleared}
 use Rattle.clr_choices.specs.ChoiceLines.{left_text}
+use Rattle.clr_choices.specs.Clearable.{IsPlanOf}
 use Rattle.clr_choices.specs.Trials.{AreTrials, Trial, is_taken, taken_in}
-use Rattle.clr_office.specs.Outcomes.{IsPlanned}
 use Rattle.clr_desk.specs.Certificates.{plan_print}
 use Rattle.clr_desk_answers.specs.Members.{members_or_children}
 use Rattle.clr_desk_answers.specs.Printing.{PrintoutOrFault, printout_of}
@@ -29,9 +29,9 @@ choice_print o root trials c =
 
 -- nobody is cleared, names are tried in their order, and the plan of those taken is cleared by this certificate; or not even nobody is cleared
 pub data IsChoicePrint (root : Name) (names : List Name) (o : Office) (print : PrintoutOrFault) : Type 0 where
-  of_trials : (nobody : Certificate) (trials : List Trial) (c : Certificate) → IsPlanned o (merge_set root []) (plan.Cleared nobody)
+  of_trials : (nobody : Certificate) (trials : List Trial) (c : Certificate) → IsPlanOf o (merge_set root []) (plan.Cleared nobody)
       → AreTrials o root (members_or_children o root names) trials
-      → IsPlanned o (merge_set root (taken_in trials)) (plan.Cleared c)
+      → IsPlanOf o (merge_set root (taken_in trials)) (plan.Cleared c)
       → print ≡ choice_print o root trials c → IsChoicePrint root names o print
-  of_nobody : (p : Plan) → IsPlanned o (merge_set root []) p → is_cleared p ≡ false → print ≡ plan_print o (merge_set root []) p
+  of_nobody : (p : Plan) → IsPlanOf o (merge_set root []) p → is_cleared p ≡ false → print ≡ plan_print o (merge_set root []) p
       → IsChoicePrint root names o print

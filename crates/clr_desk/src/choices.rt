@@ -4,7 +4,7 @@ ghost use Rattle.clr_cert.specs.Texts.{certificate_text};
 ghost use Rattle.clr_merge_sets.specs.MergeSetNames.{merge_set};
 ghost use Rattle.clr_office_texts.specs.Drafts.{draft_in};
 ghost use Rattle.clr_plan.specs.declared.plans.Plan.TheVariants as plan;
-ghost use Rattle.clr_office.specs.Outcomes.{IsPlanned};
+ghost use Rattle.clr_choices.specs.Clearable.{IsPlanOf};
 ghost use Rattle.clr_desk.specs.Choices.{IsChoicePrint, names_line};
 ghost use Rattle.clr_desk_answers.specs.NameHints.{IsHinted};
 ghost use Rattle.clr_desk_answers.specs.Printing.{IsMadePrintout, IsPrintoutIn, printed, printout_of};
@@ -12,8 +12,8 @@ ghost use Rattle.clr_desk_answers.specs.Printing.{IsMadePrintout, IsPrintoutIn, 
 use crate::certificates::plan_print;
 use crate::names_lines::names_line;
 use clr_cert::{Certificate, write_certificate};
-use clr_choices::{Choice, choose};
-use clr_desk_answers::{Print, members_asked, notes_of, plan_members, with_hints};
+use clr_choices::{Choice, choose, plan_members};
+use clr_desk_answers::{Print, members_asked, notes_of, with_hints};
 use clr_engine::Office;
 use clr_office::{Plan, RunFault, Words, open_office, texts_of_names};
 use clr_rows::Schema;
@@ -41,7 +41,7 @@ fn print_of_choice(
     names: &[Words],
     certificate: Certificate,
 ) -> Result<Print, AllocError>
-    requires { IsPlanned office.now (merge_set root.now []) (plan.Cleared certificate) }
+    requires { IsPlanOf office.now (merge_set root.now []) (plan.Cleared certificate) }
     ensures { IfOk result (λ p. IsChoicePrint root.now names.now office.now (printed p)) }
 {
     let members = members_asked(alloc, office, root, names)?;

@@ -1,13 +1,9 @@
-use Rattle.std.proofs.Common.{◌≡◌, [], List, rules, subst}
+use Rattle.std.proofs.Common.{◌≡◌, List, rules, subst}
 use Rattle.clr_workspaces.specs.Marks.{Name}
-use Rattle.clr_plan.specs.declared.plans.Plan.TheVariants as plan
 use Rattle.clr_desk_answers.specs.Members.{members_or_children}
 use Rattle.clr_choices.specs.Progress.{IsChosen}
-use Rattle.clr_desk.proofs.Trying.{choice_printed, plan_is}
+use Rattle.clr_desk.proofs.Trying.{choice_printed}
 use Rattle.clr_desk.proofs.choices.print_of_choice.Goals as goal
-
-pub choose-requires : goal.choose-requires
-choose-requires c = plan_is c.args.office.now c.args.root.now [] (plan.Cleared c.args.certificate) c.requires
 
 pub returns : goal.returns
 returns c =

@@ -4,7 +4,7 @@ use Rattle.clr_workspaces.specs.Marks.{Name}
 use Rattle.clr_merge_sets.specs.MergeSetNames.{merge_set}
 use Rattle.clr_plan.specs.declared.plans.Plan.{Plan}
 use Rattle.clr_plan.specs.Promises.{is_cleared}
-use Rattle.clr_office.specs.Outcomes.{IsPlanned}
+use Rattle.clr_choices.specs.Clearable.{IsPlanOf}
 use Rattle.clr_desk.specs.Certificates.{plan_print}
 use Rattle.clr_desk.specs.Choices.{of_nobody}
 use Rattle.clr_desk_answers.specs.Printing.{printed}
@@ -20,6 +20,6 @@ returns c =
     let again : map (λ text. text.now) c.as_slice-in_default.result.now ≡ [] = rw c.as_slice-in_default.ensures.value c.in_ok-nobody.ensures in
     let left : is_cleared c.in_default.plan ≡ false = search rules in
     let uncleared : is_cleared p ≡ false = subst (λ (q : Plan). is_cleared q ≡ false) (sym same) left in
-    let planned : IsPlanned o (merge_set root []) p = subst (λ (members : List Name). IsPlanned o (merge_set root members) p) given c.plan_members.ensures in
+    let planned : IsPlanOf o (merge_set root []) p = subst (λ (members : List Name). IsPlanOf o (merge_set root members) p) given c.plan_members.ensures in
     IfOk-weaker c.plan_print.result _ _ (λ print is. of_nobody p planned uncleared
     (subst (λ (members : List Name). printed print ≡ plan_print o (merge_set root members) p) again is)) c.plan_print.ensures
