@@ -6,4 +6,5 @@ mod OneDeskAnswer
 mod OnePrint
 mod PlaceLemmas
 mod Positions
+mod ShownSets
 mod Trying

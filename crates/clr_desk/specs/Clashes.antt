@@ -1,5 +1,5 @@
 -- What is printed of the smallest sets of members that can't be merged together.
-use Rattle.std.specs.Prelude.{◌≡◌, ◌==◌, ℕ, Bool, false, not, List, [], ◌∷◌, ◌++◌, Some, codes, filter, length, nat_lt}
+use Rattle.std.specs.Prelude.{◌≡◌, ◌↔◌, ◌==◌, ℕ, Bool, true, false, not, List, [], ◌∷◌, ◌++◌, Contains, Some, codes, filter, length, nat_lt}
 use Rattle.std.specs.List.{flat_map, list_any, range_with_len}
 use Rattle.clr_rows.specs.declared.tables.TableDef.{TableDef}
 use Rattle.clr_workspaces.specs.Marks.{Name}
@@ -10,7 +10,11 @@ use Rattle.clr_clearance.specs.Plans.{members_at}
 use Rattle.clr_clearance.specs.Verdicts.{names_fault}
 use Rattle.clr_lines.specs.Reports.{count_line}
 use Rattle.clr_lines.specs.Verdicts.{verdict_text}
+use Rattle.clr_plan.specs.declared.plans.Plan.{Plan}
 use Rattle.clr_plan.specs.declared.plans.Plan.TheVariants as plan
+use Rattle.clr_plan.specs.Plans.{IsPlan}
+use Rattle.clr_plan.specs.Promises.{is_cleared, is_out_of_memory}
+use Rattle.clr_merge_clashes.specs.Laws.{ArePositions, AreSmallestSets, HoldNoSet, merge_set_of_part}
 use Rattle.clr_merge_clashes.specs.MergeClashes.{FindsClashes}
 use Rattle.clr_merge_clashes.specs.declared.clash_sets.MergeClash.{MergeClash}
 use Rattle.clr_merge_clashes.specs.declared.clash_sets.MergeClashes.{MergeClashes}
@@ -39,7 +43,7 @@ is_in_no_set clashes at = not (list_any (λ (k : MergeClash). is_listed_position
 abbrev pub beside : MergeSet → List ℕ → List Name
 beside s looked = members_at s (filter (is_beside looked) (range_with_len 0 (length s.members)))
 
--- the members that are in no set
+-- the members that are in none of these sets; with one that wasn't looked at with the others they may be in another
 abbrev pub in_no_set : MergeSet → List MergeClash → List Name
 in_no_set s clashes = members_at s (filter (is_in_no_set clashes) (range_with_len 0 (length s.members)))
 
@@ -48,19 +52,34 @@ abbrev pub line_of_some : List ℕ → List Name → List ℕ
 line_of_some word [] = []
 line_of_some word (name ∷ names) = names_line word (name ∷ names)
 
--- how many sets there are, each set, the members that weren't looked at with the others, and those that are in no set
+-- how many sets there are, each set, the members that weren't looked at with the others, and those that are in none of these sets
 abbrev pub clashes_text : List TableDef → MergeSet → List MergeClash → List ℕ → List ℕ
 clashes_text tables s clashes looked =
     count_line (codes "clashes") (length clashes) ++ flat_map (clash_text tables s) clashes
     ++ line_of_some (codes "beside") (beside s looked) ++ names_line (codes "free") (in_no_set s clashes)
 
+-- none of some members is among those that weren't looked at with the others
+abbrev pub NoneIsBeside : MergeClashes → List ℕ → Type 0
+NoneIsBeside found positions = (at : ℕ) → Contains positions at → is_beside found.looked.items at ≡ false
+
+-- the plan of some members is cleared exactly where they hold none of the sets, memory aside
+abbrev pub AreTold : Office → MergeSet → MergeClashes → List ℕ → Type 0
+AreTold o s found positions =
+    (p : Plan) → IsPlan o (merge_set_of_part s positions) p → is_out_of_memory p ≡ false → (is_cleared p ≡ true) ↔ HoldNoSet found positions
+
+-- what the lines tell of plans: of members none of which is named `beside`, and of any where there is no such line
+pub record LinesDecidePlans (o : Office) (s : MergeSet) (found : MergeClashes) : Type 0 where
+  pub but_beside : (positions : List ℕ) → ArePositions s positions → NoneIsBeside found positions → AreTold o s found positions
+  pub none_beside : beside s found.looked.items ≡ [] → (positions : List ℕ) → ArePositions s positions → AreTold o s found positions
+
 -- one such set counts as a refusal
 abbrev pub found_print : Office → MergeSet → MergeClashes → PrintoutOrFault
 found_print o s found = printout_of (clashes_text o.schema s found.clashes.items found.looked.items) [] (nat_lt 0 (length found.clashes.items)) false
 
--- the smallest sets, or the test of names that fails, as the line of a plan that is unfit
+-- the smallest sets, with what they promise; or the test of names that fails, as the line of a plan that is unfit
 pub data IsMergeSetPrint (s : MergeSet) (o : Office) (print : PrintoutOrFault) : Type 0 where
-  of_found : (found : MergeClashes) → FindsClashes o s found → print ≡ found_print o s found → IsMergeSetPrint s o print
+  of_found : (found : MergeClashes) → FindsClashes o s found → AreSmallestSets o s found → LinesDecidePlans o s found → print ≡ found_print o s found
+      → IsMergeSetPrint s o print
   of_names : (v : Verdict) → names_fault o s ≡ Some v → print ≡ plan_print o s (plan.Unfit v) → IsMergeSetPrint s o print
 
 -- of the members that names ask for

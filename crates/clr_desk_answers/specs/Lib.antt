@@ -6,4 +6,5 @@ pub mod Maps
 pub mod Members
 pub mod NameHints
 pub mod Printing
+pub mod ReadBack
 pub mod Reports

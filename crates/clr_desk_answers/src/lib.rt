@@ -13,12 +13,15 @@
 //! - `answer_design`: the office of a text with one more workspace, which has the rows of layers (`IsDesignPrint`); `answer_design_script`: the
 //!   script that makes this design (`IsDesignScriptPrint`); `answer_office`: the office of a text with the rows of layers in LIVE
 //!   (`IsOfficePrint`).
+//! - `printed_layers_change_nothing`: the law that layers which `answer_layer` gives of LIVE, each of another table, change nothing when they are
+//!   given back to these three.
 #![tactic(auto)]
 
 mod children;
 mod design_prints;
 mod designs;
 mod features;
+mod laws;
 mod layer_fault_lines;
 mod layer_refusals;
 mod layers;
@@ -34,6 +37,7 @@ pub use clr_layer_changes::{GivenLayer, LayerOptions};
 pub use clr_office::hint_lines;
 pub use designs::{answer_design, answer_design_script, answer_office};
 pub use features::answer_geojson;
+pub use laws::printed_layers_change_nothing;
 pub use layers::answer_layer;
 pub use maps::answer_map;
 pub use name_hints::with_hints;

@@ -1,4 +1,5 @@
 pub mod EditLemmas
 pub mod FitLemmas
 pub mod KeyLemmas
+pub mod LayersAgain
 pub mod TurnLemmas

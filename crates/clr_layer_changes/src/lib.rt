@@ -5,12 +5,14 @@
 //!   The content fits the schema.
 //! - `edits_between` [`edits`, `leads`] gives an edit for each cell at which two contents differ; made one after another over the
 //!   first content they give the second.
+//! - `layers_of_live_change_nothing`: the law that layers of LIVE, each of another table, ask for LIVE's own content, and that no edit leads to it.
 //! - `records_of_layers`: the first row of a layer is its record 2.
 #![tactic(auto)]
 
 mod changes;
 mod faults;
 mod keys;
+mod laws;
 mod layer_rows;
 mod limits;
 mod options;
@@ -19,6 +21,7 @@ mod wanted;
 pub use changes::edits_between;
 pub use clr_layer_text::LayerFault;
 pub use faults::{FaultyLayer, LayersFault};
+pub use laws::layers_of_live_change_nothing;
 pub use limits::records_of_layers;
 pub use options::{GivenLayer, LayerOptions};
 pub use wanted::wanted_content;

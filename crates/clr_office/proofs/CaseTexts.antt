@@ -9,6 +9,7 @@ use Rattle.clr_steps.specs.Steps.{is_lost}
 use Rattle.clr_clearance.specs.declared.verdicts.Verdict.{Verdict}
 use Rattle.clr_clearance.specs.declared.verdicts.Verdict.TheVariants as verdict
 use Rattle.clr_clearance.specs.ClearedRuns.{IsClearedRun, IsQuietStart}
+use Rattle.clr_clearance.specs.Headline.{RunsAreCleared}
 use Rattle.clr_clearance.specs.Plans.{merges}
 use Rattle.clr_clearance.specs.Verdicts.{IsVerdict}
 use Rattle.clr_cert.specs.declared.certificates.Certificate.{Certificate}
@@ -93,13 +94,15 @@ module _ (o left : Office) (c : Certificate) (names : List Name) (commands : Lis
   pub merged : commands ≡ merges names → IsVerdict o (merge_set_of c) (entries_in c.entries) verdict.Clear
       → IsQuietStart o (merge_set_of c) commands replies left stopped
       → IsClearedRun o (merge_set_of c) (take (length replies) commands) replies left
+      → RunsAreCleared o (merge_set_of c)
       → output.lines.items ≡ merge_text replies stopped left → output.refused ≡ (list_any is_refused replies || is_some stopped) → output.lost
       ≡ list_any is_lost replies
       → IsMergeOutcome o c names (outcome_of output left)
-  merged are clear start ran lines refused lost =
+  merged are clear start ran runs lines refused lost =
       let all : AreMerged o c names replies stopped left = record {
         clear = clear;
         start = subst (λ cs. IsQuietStart o (merge_set_of c) cs replies left stopped) are start;
         run = subst (λ cs. IsClearedRun o (merge_set_of c) (take (length replies) cs) replies left) are ran;
+        runs = runs;
       } in
       of_merges replies stopped left all (parts_are left _ _ _ _ _ _ lines refused lost)

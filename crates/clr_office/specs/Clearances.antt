@@ -8,6 +8,7 @@ use Rattle.clr_steps.specs.Steps.{is_lost}
 use Rattle.clr_clearance.specs.declared.verdicts.Verdict.{Verdict}
 use Rattle.clr_clearance.specs.declared.verdicts.Verdict.TheVariants as verdict
 use Rattle.clr_clearance.specs.ClearedRuns.{IsClearedRun, IsQuietStart}
+use Rattle.clr_clearance.specs.Headline.{RunsAreCleared}
 use Rattle.clr_clearance.specs.Plans.{merges}
 use Rattle.clr_clearance.specs.Verdicts.{IsVerdict}
 use Rattle.clr_cert.specs.declared.certificates.Certificate.{Certificate}
@@ -38,7 +39,7 @@ is_without_memory _ = false
 abbrev pub verdict_outcome : Office → Certificate → Verdict → Outcome
 verdict_outcome o c v = outcome (verdict_text o.schema c.members c.root v) (not (is_clear v)) (is_without_memory v) o
 
--- the outcome of some verdict on a certificate; where it is clear, the members are safe
+-- the outcome of some verdict on a certificate; where it is clear, the members are safe, and a run of quiet commands is a cleared one
 abbrev pub IsVerdictOutcome : Office → Certificate → Outcome → Type 0
 IsVerdictOutcome o c all = (v : Verdict) × IsCheckedVerdict o c v × (all ≡ verdict_outcome o c v)
 
@@ -49,11 +50,13 @@ abbrev pub stop_text : Option ℕ → List ℕ
 stop_text None = []
 stop_text (Some number) = count_line (codes "notquiet") number
 
--- merges of workspaces in this order, each of which is kept, as far as they are quiet for a clear certificate
+-- merges of workspaces in this order, each of which is kept, as far as they are quiet for a clear certificate; in the office as it was any run of
+-- quiet commands is a cleared one
 pub record AreMerged (o : Office) (c : Certificate) (names : List Name) (replies : List Reply) (stopped : Option ℕ) (left : Office) : Type 0 where
   pub clear : IsVerdict o (merge_set_of c) (entries_in c.entries) verdict.Clear
   pub start : IsQuietStart o (merge_set_of c) (merges names) replies left stopped
   pub run : IsClearedRun o (merge_set_of c) (take (length replies) (merges names)) replies left
+  pub runs : RunsAreCleared o (merge_set_of c)
 
 -- a line of each reply, that of the stop, and the text of the office that is left
 abbrev pub merge_text : List Reply → Option ℕ → Office → List ℕ

@@ -8,8 +8,9 @@ use Rattle.clr_steps.specs.Quiet.{MergeSet}
 use Rattle.clr_steps.specs.Steps.{TakesNoMemory, step_or_lost}
 use Rattle.clr_merge_sets.specs.MergeSetNames.{merge_set}
 use Rattle.clr_plan.specs.declared.plans.Plan.{Plan}
+use Rattle.clr_plan.specs.Certificates.{IsReadableWhereCleared}
 use Rattle.clr_plan.specs.Plans.{IsPlan}
-use Rattle.clr_plan.specs.Promises.{IsExact, Promises, is_cleared, is_out_of_memory}
+use Rattle.clr_plan.specs.Promises.{IsExact, Promises, StaysCleared, is_cleared, is_out_of_memory}
 use Rattle.clr_scripts.specs.declared.steps.Step.{Step}
 use Rattle.clr_scripts.specs.declared.steps.Step.TheVariants.{Act, Report}
 use Rattle.clr_scripts.specs.declared.steps.Word.TheVariants as word
@@ -32,11 +33,14 @@ first_name [] = []
 first_name (name ∷ names) = name
 
 -- the plan of members of a root, or want of memory where no test of names fails, with what it promises: a cleared one that the members are
--- safe, a blocked one that of the merges in its order one is refused; and it is cleared exactly where they are safe, memory aside
+-- safe, and that its certificate can be read; a blocked one that of the merges in its order one is refused. Memory aside it is cleared exactly
+-- where the members are safe, and where they were cleared before and only quiet commands came since
 pub record IsPlanned (o : Office) (s : MergeSet) (p : Plan) : Type 0 where
   pub plan : IsPlan o s p
   pub promises : Promises o s p
   pub exact : IsExact o s p
+  pub lasts : StaysCleared o s p
+  pub readable : IsReadableWhereCleared o p
 
 -- the outcome of a plan: its lines; all but a cleared plan counts as a refusal
 abbrev pub plan_outcome : Office → MergeSet → Plan → Outcome

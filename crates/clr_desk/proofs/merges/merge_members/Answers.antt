@@ -1,9 +1,12 @@
-use Rattle.std.proofs.Common.{◌≡◌, ap, subst, ◌∙◌, length, take}
+use Rattle.std.proofs.Common.{◌≡◌, ap, refl, subst, ◌∙◌, length, take}
 use Rattle.std.proofs.lemmas.Result.{IfOk-weaker}
 use Rattle.clr_steps.specs.Offices.{Office}
 use Rattle.clr_clearance.specs.ClearedRuns.{IsClearedRun, IsQuietStart}
 use Rattle.clr_clearance.specs.Plans.{merges}
-use Rattle.clr_merge_sets.specs.Certificates.{merge_set_of}
+use Rattle.clr_clearance.specs.declared.verdicts.Verdict.TheVariants as verdict
+use Rattle.clr_merge_sets.specs.Certificates.{entries_in, merge_set_of}
+use Rattle.clr_check.specs.Answers.{of_verdict as of_answer}
+use Rattle.clr_check.proofs.AnswerLemmas.{clear_promises}
 use Rattle.clr_lines.specs.Verdicts.{verdict_text}
 use Rattle.clr_office.specs.Clearances.{AreMerged}
 use Rattle.clr_desk.specs.Merges.{of_merges, of_verdict}
@@ -18,10 +21,13 @@ returns-in-Ok c =
     let run = c.in-Ok.run' in
     let performed = c.in-Ok.ensures in
     let are : c.as_slice.result.now ≡ merges names = c.as_slice.ensures.value ∙ c.in_ok-commands.ensures in
+    let promised = clear_promises o (merge_set_of certificate) (entries_in certificate.entries) c.book-rules.ensures.admitted verdict.Clear
+    (of_answer performed.clear) refl in
     let all : AreMerged o certificate names run.replies.items run.stopped left = record {
       clear = performed.clear;
       start = subst (λ cs. IsQuietStart o (merge_set_of certificate) cs run.replies.items left run.stopped) are performed.start;
       run = subst (λ cs. IsClearedRun o (merge_set_of certificate) (take (length run.replies.items) cs) run.replies.items left) are performed.run;
+      runs = promised.3;
     } in
     IfOk-weaker c.run_print.result _ _ (λ print is. of_merges run.replies.items run.stopped left all is) c.run_print.ensures
 

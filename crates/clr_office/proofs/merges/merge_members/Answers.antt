@@ -1,6 +1,10 @@
-use Rattle.std.proofs.Common.{◌≡◌, ap, sym, subst, ◌∙◌}
+use Rattle.std.proofs.Common.{◌≡◌, ap, refl, sym, subst, ◌∙◌}
 use Rattle.clr_steps.specs.Offices.{Office}
 use Rattle.clr_clearance.specs.Plans.{merges}
+use Rattle.clr_clearance.specs.declared.verdicts.Verdict.TheVariants as verdict
+use Rattle.clr_merge_sets.specs.Certificates.{entries_in, merge_set_of}
+use Rattle.clr_check.specs.Answers.{of_verdict}
+use Rattle.clr_check.proofs.AnswerLemmas.{clear_promises}
 use Rattle.clr_lines.specs.Verdicts.{verdict_text}
 use Rattle.clr_office.specs.Clearances.{IsMergeOutcome}
 use Rattle.clr_office_reports.specs.Outcomes.{outcome_of}
@@ -14,8 +18,12 @@ returns-in-Ok c =
     let output = c.in_ok-run_output-in-Ok.field-0 in
     let made = c.in_ok-run_output-in-Ok.ensures in
     let are : c.as_slice.result.now ≡ merges c.args.names.now = c.as_slice.ensures.value ∙ c.in_ok-commands.ensures in
-    merged c.args.office.now c.perform_cleared.new.office c.args.certificate.now c.args.names.now c.as_slice.result.now run.replies.items run.stopped output
-    are performed.clear performed.start performed.run made.lines made.refused made.lost
+    let o = c.args.office.now in
+    let certificate = c.args.certificate.now in
+    let promised = clear_promises o (merge_set_of certificate) (entries_in certificate.entries) c.book-rules.ensures.admitted verdict.Clear
+    (of_verdict performed.clear) refl in
+    merged o c.perform_cleared.new.office certificate c.args.names.now c.as_slice.result.now run.replies.items run.stopped output
+    are performed.clear performed.start performed.run promised.3 made.lines made.refused made.lost
 
 pub returns : goal.returns
 returns c =

@@ -3,7 +3,7 @@ use Rattle.clr_rows.specs.declared.tables.TableDef.{TableDef}
 use Rattle.clr_workspaces.specs.Marks.{Name}
 use Rattle.clr_merge_sets.specs.MergeSetNames.{merge_set}
 use Rattle.clr_plan.specs.Plans.{IsPlan}
-use Rattle.clr_plan.specs.Promises.{IsExact, Promises}
+use Rattle.clr_plan.specs.Promises.{IsExact, Promises, StaysCleared}
 use Rattle.clr_plan.specs.PlanLines.{plan_text}
 use Rattle.clr_office.specs.Outcomes.{IsPlanned}
 use Rattle.clr_office_reports.proofs.Outcomes.{parts_are}
@@ -21,6 +21,8 @@ returns c =
       plan = subst (λ (members : List Name). IsPlan o (merge_set root members) p) given c.plan-plan.ensures.plan;
       promises = subst (λ (members : List Name). Promises o (merge_set root members) p) given c.plan-plan.ensures.promises;
       exact = subst (λ (members : List Name). IsExact o (merge_set root members) p) given c.plan-plan.ensures.exact;
+      lasts = subst (λ (members : List Name). StaysCleared o (merge_set root members) p) given c.plan-plan.ensures.lasts;
+      readable = c.plan-plan.ensures.readable;
     } in
     let lines = c.in_ok-lines.lines.items in
     let named : lines ≡ plan_text c.schema.result.now names root p = subst (λ (members : List Name). lines ≡ plan_text c.schema.result.now members root p) again
