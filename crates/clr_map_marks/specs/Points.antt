@@ -1,5 +1,5 @@
 -- The marks of points that designs add, change and remove.
-use Rattle.std.specs.Prelude.{pos, ℕ, Bool, true, false, ◌||◌, List, count_by, min, slice_get, sum_by, Option, Some, None, if◌then◌else◌}
+use Rattle.std.specs.Prelude.{pos, ℕ, Bool, false, ◌||◌, List, count_by, min, slice_get, sum_by, Option, Some, None, if◌then◌else◌}
 use Rattle.std.specs.Option.{option_map_or}
 use Rattle.std.specs.FinMap as finite
 use Rattle.clr_rows.specs.declared.cells.Change.{Change}
