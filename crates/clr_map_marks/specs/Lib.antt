@@ -1,3 +1,4 @@
+pub mod LineMarks
 pub mod Lines
 pub mod Points
 pub mod Tables

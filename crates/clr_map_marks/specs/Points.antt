@@ -1,5 +1,6 @@
 -- The marks of points that designs add, change and remove.
-use Rattle.std.specs.Prelude.{pos, ℕ, Bool, true, false, ◌||◌, List, count_by, Option, Some, None, if◌then◌else◌}
+use Rattle.std.specs.Prelude.{pos, ℕ, Bool, false, ◌||◌, List, count_by, min, slice_get, sum_by, Option, Some, None, if◌then◌else◌}
+use Rattle.std.specs.Option.{option_map_or}
 use Rattle.std.specs.FinMap as finite
 use Rattle.clr_rows.specs.declared.cells.Change.{Change}
 use Rattle.clr_rows.specs.declared.places.Place.{Place}
@@ -80,6 +81,18 @@ is_at e place = stands_at e.before place || stands_at e.after place
 
 abbrev pub count_at : Changes → Place → ℕ
 count_at set place = count_by (λ e. is_at e.1 place) (finite.entries set)
+
+-- how many points at a place the design at a position changes
+abbrev pub points_by : List Changes → Place → ℕ → ℕ
+points_by sets place at = option_map_or (λ set. count_at set place) (slice_get sets at) 0
+
+-- the greatest number of 32 bits
+abbrev pub most_marks : ℕ
+most_marks = 4294967295
+
+-- how many points at a place these designs change, as far as they are counted
+abbrev pub marks_at : List Changes → List ℕ → Place → ℕ
+marks_at sets order place = min (sum_by (points_by sets place) order) most_marks
 
 -- how large the signs of designs are
 abbrev pub mark_radius : Detail → Pixels

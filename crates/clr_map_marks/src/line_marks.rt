@@ -4,6 +4,7 @@ ghost use Rattle.std.specs.Prelude.{◌≡◌, ◌++◌, IfOk, OnOk};
 ghost use Rattle.clr_rows.specs.Same.{same_shape};
 ghost use Rattle.clr_map_marks.specs.Lines.{DrawsKinds, DrawsTwice, is_point, kinds_of_lines, lines_drawn, middle_spots, with_change, with_changed, with_left};
 ghost use Rattle.clr_map_marks.specs.Lines.{with_removed};
+ghost use Rattle.clr_map_marks.specs.LineMarks.{DrawsCrossAt, DrawsDesign, DrawsEach, DrawsLineMarks, DrawsLines, dash_of, mark_width};
 
 use clr_change::ChangeSet;
 use clr_drawing::{GROUND, PAPER, Sketch, Viewport, add_cross, add_shape, middle_of};
@@ -22,11 +23,15 @@ struct Lines {
 }
 
 /// Returns how broad the lines of designs are.
-fn mark_width(scene: &MapScene<'_>) -> Pixels {
-    match (scene.detail.is_fine(), scene.changes.is_fine()) {
-        (true, true) => Pixels::of_tenths(46),
-        (false, true) => Pixels::of_tenths(32),
-        (_, false) => Pixels::of_tenths(20),
+fn mark_width(scene: &MapScene<'_>) -> Pixels
+    ensures { result ≡ mark_width scene.now.detail scene.now.changes }
+{
+    if !scene.changes.is_fine() {
+        Pixels::of_tenths(20)
+    } else if scene.detail.is_fine() {
+        Pixels::of_tenths(46)
+    } else {
+        Pixels::of_tenths(32)
     }
 }
 
@@ -164,7 +169,9 @@ fn add_kinds(
 }
 
 /// Returns how long the dashes of lines that go are, and the gaps between them.
-fn dash_of(scene: &MapScene<'_>) -> Dash {
+fn dash_of(scene: &MapScene<'_>) -> Dash
+    ensures { result ≡ dash_of scene.now.changes }
+{
     if scene.changes.is_fine() {
         Dash {
             dash: Pixels::whole(7),
@@ -178,32 +185,55 @@ fn dash_of(scene: &MapScene<'_>) -> Dash {
     }
 }
 
-/// Draws the lines of a design in a colour, and crosses over those that go where there is room.
+/// Draws a cross at each of some points of the page.
+fn add_crosses(sketch: &mut Sketch, spots: &[PagePoint], colour: Colour) -> Result<(), AllocError>
+    ensures { OnOk result (DrawsEach (DrawsCrossAt colour) spots.now sketch.old.elements.items sketch.new.elements.items) }
+{
+    for spot in spots {
+        add_cross(sketch, *spot, Pixels::whole(5), colour, PAPER)?;
+    }
+    Ok(())
+}
+
+/// Draws the lines of a design in a colour, and crosses over those that go if there is room.
 fn add_lines(
     sketch: &mut Sketch,
     scene: &MapScene<'_>,
     lines: Lines,
     colour: Colour,
-) -> Result<(), AllocError> {
-    let mut crosses = Vec::new(sketch.allocator());
-    crosses.extend_from_slice(lines.crosses.as_slice())?;
+) -> Result<(), AllocError>
+    ensures { OnOk result (DrawsLines scene.now.detail scene.now.changes (kinds_of_lines lines) colour sketch.old.elements.items sketch.new.elements.items) }
+{
+    let crosses = Vec::from_slice(sketch.allocator(), lines.crosses.as_slice())?;
     add_kinds(sketch, lines, mark_width(scene), dash_of(scene), colour)?;
     if scene.changes.is_fine() {
-        for spot in &crosses {
-            add_cross(sketch, *spot, Pixels::whole(5), colour, PAPER)?;
-        }
+        add_crosses(sketch, crosses.as_slice(), colour)
+    } else {
+        Ok(())
     }
-    Ok(())
+}
+
+/// Draws what the design at a position changes of lines.
+fn add_design(sketch: &mut Sketch, scene: &MapScene<'_>, at: usize) -> Result<(), AllocError>
+    ensures { OnOk result (DrawsDesign scene.now at sketch.old.elements.items sketch.new.elements.items) }
+{
+    let designs = scene.field.designs;
+    match designs.changes(at) {
+        Some(set) => {
+            let lines = lines_of(sketch.allocator(), &scene.view, set)?;
+            add_lines(sketch, scene, lines, designs.colours(at).line)
+        }
+        None => Ok(()),
+    }
 }
 
 /// Draws what designs change of lines, those that a cause names last.
-pub fn add_line_marks(sketch: &mut Sketch, scene: &MapScene<'_>) -> Result<(), AllocError> {
-    let designs = scene.field.designs;
-    for at in designs.order().iter().rev() {
-        if let Some(set) = designs.changes(*at) {
-            let lines = lines_of(sketch.allocator(), &scene.view, set)?;
-            add_lines(sketch, scene, lines, designs.colours(*at).line)?;
-        }
+pub fn add_line_marks(sketch: &mut Sketch, scene: &MapScene<'_>) -> Result<(), AllocError>
+    ensures { OnOk result (DrawsLineMarks scene.now sketch.old.elements.items sketch.new.elements.items) }
+{
+    let order = scene.field.designs.order();
+    for number in 0..order.len() {
+        add_design(sketch, scene, order[order.len() - 1 - number])?;
     }
     Ok(())
 }

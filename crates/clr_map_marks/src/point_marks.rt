@@ -1,15 +1,16 @@
 //! What designs add, change and remove of points.
 
-ghost use Rattle.std.specs.Prelude.{◌≡◌, OnOk};
+ghost use Rattle.std.specs.Prelude.{◌≡◌, min, OnOk};
 ghost use Rattle.std.specs.Option.{option_copied};
 ghost use Rattle.clr_drawing.specs.Sketches.{Draws};
 ghost use Rattle.clr_drawing.specs.Signs.{IsSign};
-ghost use Rattle.clr_map_marks.specs.Points.{DrawsMark, count_at, ink_of, is_at, mark_radius, small_ink_of, stands_at};
+ghost use Rattle.clr_map_marks.specs.Points.{DrawsMark, count_at, ink_of, is_at, mark_radius, marks_at, most_marks, points_by, small_ink_of, stands_at};
+ghost use Rattle.clr_plan_scenes.specs.Designs.{sets_of};
 
 use crate::grounds::sign_of_table;
 use clr_change::ChangeSet;
 use clr_drawing::{GROUND, PAPER, Sign, Sketch, add_cross, add_sign};
-use clr_plan_scenes::MapScene;
+use clr_plan_scenes::{Designs, MapScene};
 use clr_rows::{CellId, Change, Place, Row, Shape};
 use clr_svg::{Colour, Ink, PagePoint, Pixels};
 use std::alloc::AllocError;
@@ -143,14 +144,25 @@ fn count_at(set: &ChangeSet, place: Place) -> usize
     count
 }
 
-/// Returns how many points at a place designs change.
-pub fn marks_at(scene: &MapScene<'_>, place: Place) -> u32 {
+/// Returns how many points at a place the design at a position changes, at most the greatest `u32`.
+fn points_by(designs: &Designs<'_>, at: usize, place: Place) -> u32
+    ensures { result ≡ min (points_by (sets_of designs.now) place at) most_marks }
+{
+    match designs.changes(at) {
+        Some(set) => u32::try_from(count_at(set, place)).unwrap_or(u32::MAX),
+        None => 0,
+    }
+}
+
+/// Returns how many points at a place designs change, at most the greatest `u32`.
+pub fn marks_at(scene: &MapScene<'_>, place: Place) -> u32
+    ensures { let designs = scene.now.field.designs.now in result ≡ marks_at (sets_of designs) designs.order.items place }
+{
+    let designs = scene.field.designs;
+    let order = designs.order();
     let mut count = 0u32;
-    for at in scene.field.designs.order() {
-        if let Some(set) = scene.field.designs.changes(*at) {
-            let more = u32::try_from(count_at(set, place)).unwrap_or(u32::MAX);
-            count = count.saturating_add(more);
-        }
+    for at in order {
+        count = count.saturating_add(points_by(designs, *at, place));
     }
     count
 }

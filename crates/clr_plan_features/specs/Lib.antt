@@ -1,3 +1,4 @@
+pub mod CausePlaces
 pub mod ChangeFeatures
 pub mod PlanFeatures
 pub mod RowFeatures

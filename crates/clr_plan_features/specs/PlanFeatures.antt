@@ -1,5 +1,5 @@
 -- The features of a plan.
-use Rattle.std.specs.Prelude.{◌≡◌, ℕ, pos, Bool, true, false, List, [], ◌∷◌, ◌++◌, codes, Option, Some, None, is_some, unwrap_or}
+use Rattle.std.specs.Prelude.{◌≡◌, ℕ, pos, true, List, [], ◌∷◌, ◌++◌, codes, Option, Some, None, unwrap_or}
 use Rattle.clr_rows.specs.declared.cells.CellId.{CellId}
 use Rattle.clr_rows.specs.declared.places.Shape.TheVariants.{At}
 use Rattle.clr_rows.specs.Contents.{Content, no_rows}
@@ -16,7 +16,8 @@ use Rattle.clr_plan.specs.declared.plans.Plan.TheVariants as plan
 use Rattle.clr_geojson.specs.declared.features.Feature.{Feature}
 use Rattle.clr_geojson.specs.Collections.{collection_text}
 use Rattle.clr_geojson.specs.Properties.{flag_property, number_property, text_property}
-use Rattle.clr_plan_features.specs.declared.places.CausePlace.{CausePlace}
+use Rattle.clr_plan_features.specs.declared.places.MarkedPlace.{MarkedPlace}
+use Rattle.clr_plan_features.specs.CausePlaces.{IsPlaceOfPlan}
 use Rattle.clr_plan_features.specs.ChangeFeatures.{changed_features, standing_features}
 
 -- what a cause names -------------------------------------------------------------------------
@@ -37,24 +38,20 @@ abbrev pub cause_cells : Plan → List CellId
 cause_cells (plan.Blocked order cause) = cells_of_verdict cause
 cause_cells _ = []
 
-abbrev pub is_blocked : Plan → Bool
-is_blocked (plan.Blocked order cause) = true
-is_blocked _ = false
-
 -- where the cause is -------------------------------------------------------------------------
 
-unfoldable pub spot_feature : CausePlace → Feature
-spot_feature spot = record {
+unfoldable pub place_feature : MarkedPlace → Feature
+place_feature marked = record {
   properties =
       text_property (codes "table") [] ∷ number_property (codes "key") (pos 0) ∷ text_property (codes "workspace") []
       ∷ text_property (codes "what") (codes "place")
-      ∷ flag_property (codes "cause") true ∷ text_property (codes "says") spot.says ∷ [];
-  shape = At spot.place;
+      ∷ flag_property (codes "cause") true ∷ text_property (codes "says") marked.says ∷ [];
+  shape = At marked.place;
 }
 
-abbrev pub spot_features : Option CausePlace → List Feature
-spot_features None = []
-spot_features (Some spot) = spot_feature spot ∷ []
+abbrev pub place_features : Option MarkedPlace → List Feature
+place_features None = []
+place_features (Some marked) = place_feature marked ∷ []
 
 -- all ----------------------------------------------------------------------------------------
 
@@ -63,12 +60,12 @@ abbrev pub rows_of_root : Office → Name → Content
 rows_of_root o root = unwrap_or (if_stands o root (content_of o root)) no_rows
 
 -- what stands and isn't changed, what each member changes, and the place of the cause, if it has one
-abbrev pub plan_features : Office → MergeSet → Plan → Option CausePlace → List Feature
-plan_features o s p spot =
+abbrev pub plan_features : Office → MergeSet → Plan → Option MarkedPlace → List Feature
+plan_features o s p marked =
     standing_features o.schema (cause_cells p) s.root (change_sets o s) (rows_of_root o s.root)
-    ++ changed_features o.schema (cause_cells p) s.members (change_sets o s) ++ spot_features spot
+    ++ changed_features o.schema (cause_cells p) s.members (change_sets o s) ++ place_features marked
 
--- the text of these features; a plan that blocks nothing has no place of a cause
+-- the text of these features
 abbrev pub AreFeatures : Office → MergeSet → Plan → Option ℕ → List ℕ → Type 0
 AreFeatures o s p system text =
-    (spot : Option CausePlace) × (is_some spot ≡ true → is_blocked p ≡ true) × (text ≡ collection_text system (plan_features o s p spot))
+    (marked : Option MarkedPlace) × IsPlaceOfPlan o s p marked × (text ≡ collection_text system (plan_features o s p marked))

@@ -1,62 +1,83 @@
 //! The place of a cause.
 
-ghost use Rattle.std.specs.Prelude.{◌≡◌, ◌++◌, is_some, true, IfOk, OnOk};
+ghost use Rattle.std.specs.Prelude.{◌≡◌, ◌++◌, map, IfOk, OnOk};
 ghost use Rattle.std.specs.List.{flat_map};
+ghost use Rattle.clr_merge_sets.specs.MergeSetNames.{merge_set};
 ghost use Rattle.clr_geojson.specs.Collections.{line_with_comma};
-ghost use Rattle.clr_plan_features.specs.PlanFeatures.{is_blocked, spot_feature, spot_features};
+ghost use Rattle.clr_plan_features.specs.CausePlaces.{IsPlaceOfPlan, place_between, place_between_rows, place_of_cause, place_of_mark};
+ghost use Rattle.clr_plan_features.specs.PlanFeatures.{place_feature, place_features};
 
+use clr_drawing::middle_of;
 use clr_engine::Office;
 use clr_geojson::{Feature, Properties, Property, add_feature};
 use clr_plan::Plan;
-use clr_plan_scenes::{Cause, Designs, Field, Mark, cause_of};
+use clr_plan_scenes::{Cause, CauseRow, Designs, Field, Mark, cause_of};
 use clr_rows::{Place, Shape, Sheet, Words};
 use std::alloc::{AllocError, Global};
 
-/// Where a cause is, and the few words that a map says there.
+/// A place that a map marks, and the few words that it says there.
 #[derive(Drop)]
-pub(crate) struct CausePlace {
+pub(crate) struct MarkedPlace {
     pub place: Place,
     pub says: Words,
 }
 
-/// Returns the number halfway between two others.
-fn halfway(one: i64, other: i64) -> i64 {
-    one.saturating_add(other.saturating_sub(one) / 2)
-}
-
-/// Returns the place halfway between two points.
-fn place_between(one: &Shape, other: &Shape) -> Option<Place> {
+/// Returns the place between two points, or none of other shapes.
+fn place_between(one: &Shape, other: &Shape) -> Option<Place>
+    ensures { result ≡ place_between one.now other.now }
+{
     match (one, other) {
-        (Shape::At(one), Shape::At(other)) => Some(Place {
-            x: halfway(one.x, other.x),
-            y: halfway(one.y, other.y),
-        }),
+        (Shape::At(one), Shape::At(other)) => middle_of(&Shape::Line(*one, *other)),
         _ => None,
     }
 }
 
-/// Returns the place that a map marks, if it marks one: of points that stand too near, the place
+/// Returns the place between the first two of some rows, if these are points.
+fn place_between_rows(rows: &[CauseRow]) -> Option<Place>
+    ensures { result ≡ place_between_rows rows.now }
+{
+    match rows {
+        [one, other, ..] => place_between(&one.row.shape, &other.row.shape),
+        _ => None,
+    }
+}
+
+/// Returns the place that a map marks, if it marks one: of points that are too near, the place
 /// between them.
-fn marked_place(cause: &Cause) -> Option<Place> {
-    match cause.mark {
+fn place_of_mark(mark: Mark, rows: &[CauseRow]) -> Option<Place>
+    ensures { result ≡ place_of_mark mark rows.now }
+{
+    match mark {
         Mark::Ring(ring) => Some(ring.place),
-        Mark::Near(_) => {
-            let rows = cause.rows.as_slice();
-            place_between(&rows.first()?.row.shape, &rows.get(1)?.row.shape)
-        }
+        Mark::Near(_) => place_between_rows(rows),
         Mark::Link | Mark::Nothing => None,
     }
 }
 
-/// Returns the place of the cause of a plan, if it has one.
-fn spot_of_cause(
+/// Returns the place of a cause, if it has one, with what a map says there.
+fn place_of_cause(cause: Cause) -> Option<MarkedPlace>
+    ensures { result ≡ place_of_cause cause }
+{
+    match place_of_mark(cause.mark, cause.rows.as_slice()) {
+        Some(place) => Some(MarkedPlace {
+            place,
+            says: Words::new(cause.says),
+        }),
+        None => None,
+    }
+}
+
+/// Returns the place of the cause of a blocked plan, if it has one.
+fn place_of_blocked(
     alloc: Global,
     office: &Office,
     root: &str,
     names: &[&str],
     rows: &Sheet,
     plan: &Plan,
-) -> Result<Option<CausePlace>, AllocError> {
+) -> Result<Option<MarkedPlace>, AllocError>
+    ensures { IfOk result (IsPlaceOfPlan office.now (merge_set root.now (map (λ name. name.now) names.now)) plan.now) }
+{
     let designs = Designs::read(alloc, office, root, names, &[])?;
     let field = Field {
         alloc,
@@ -66,39 +87,33 @@ fn spot_of_cause(
         rows,
         designs: &designs,
     };
-    let Some(cause) = cause_of(field, plan)? else {
-        return Ok(None);
-    };
-    let Some(place) = marked_place(&cause) else {
-        return Ok(None);
-    };
-    Ok(Some(CausePlace {
-        place,
-        says: Words::new(cause.says),
-    }))
+    match cause_of(field, plan)? {
+        Some(cause) => Ok(place_of_cause(cause)),
+        None => Ok(None),
+    }
 }
 
 /// Returns the place of the cause of a plan, with what a map says there: none where the plan isn't blocked, or its cause has no place.
-pub(crate) fn spot_of(
+pub(crate) fn place_of_plan(
     alloc: Global,
     office: &Office,
     root: &str,
     names: &[&str],
     rows: &Sheet,
     plan: &Plan,
-) -> Result<Option<CausePlace>, AllocError>
-    ensures { IfOk result (λ spot. is_some spot ≡ true → is_blocked plan.now ≡ true) }
+) -> Result<Option<MarkedPlace>, AllocError>
+    ensures { IfOk result (IsPlaceOfPlan office.now (merge_set root.now (map (λ name. name.now) names.now)) plan.now) }
 {
     match plan {
-        Plan::Blocked { .. } => spot_of_cause(alloc, office, root, names, rows, plan),
+        Plan::Blocked { .. } => place_of_blocked(alloc, office, root, names, rows, plan),
         _ => Ok(None),
     }
 }
 
 /// Returns the feature of a place.
-#[tactic(auto, unfolding(crate::specs::PlanFeatures::spot_feature))]
-fn spot_feature(alloc: Global, spot: &CausePlace) -> Result<Feature, AllocError>
-    ensures { IfOk result (λ feature. feature ≡ spot_feature spot.now) }
+#[tactic(auto, unfolding(crate::specs::PlanFeatures::place_feature))]
+fn place_feature(alloc: Global, marked: &MarkedPlace) -> Result<Feature, AllocError>
+    ensures { IfOk result (λ feature. feature ≡ place_feature marked.now) }
 {
     let mut list = Vec::new(alloc);
     list.push(Property::text(alloc, "table", "")?)?;
@@ -106,24 +121,24 @@ fn spot_feature(alloc: Global, spot: &CausePlace) -> Result<Feature, AllocError>
     list.push(Property::text(alloc, "workspace", "")?)?;
     list.push(Property::text(alloc, "what", "place")?)?;
     list.push(Property::flag(alloc, "cause", true)?)?;
-    list.push(Property::text(alloc, "says", spot.says.as_str())?)?;
+    list.push(Property::text(alloc, "says", marked.says.as_str())?)?;
     Ok(Feature {
         properties: Properties::new(list),
-        shape: Shape::At(spot.place),
+        shape: Shape::At(marked.place),
     })
 }
 
 /// Adds the feature of a place, if there is one.
-pub(crate) fn add_spot(
+pub(crate) fn add_place(
     alloc: Global,
     text: &mut Vec<u8>,
-    spot: &Option<CausePlace>,
+    marked: &Option<MarkedPlace>,
 ) -> Result<(), AllocError>
-    ensures { OnOk result (text.new.items ≡ text.old.items ++ flat_map line_with_comma (spot_features spot.now)) }
+    ensures { OnOk result (text.new.items ≡ text.old.items ++ flat_map line_with_comma (place_features marked.now)) }
 {
-    match spot {
-        Some(spot) => {
-            let feature = spot_feature(alloc, spot)?;
+    match marked {
+        Some(marked) => {
+            let feature = place_feature(alloc, marked)?;
             add_feature(text, &feature)
         }
         None => Ok(()),

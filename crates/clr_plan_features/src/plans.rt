@@ -6,7 +6,7 @@ ghost use Rattle.clr_plan_features.specs.PlanFeatures.{AreFeatures, rows_of_root
 
 use crate::causes::cause_cells;
 use crate::changes::add_changes;
-use crate::places::{add_spot, spot_of};
+use crate::places::{add_place, place_of_plan};
 use crate::standing::add_standing;
 use clr_engine::Office;
 use clr_geojson::{begin_collection, end_collection};
@@ -45,11 +45,11 @@ pub fn plan_features(
     let causes = cause_cells(alloc, plan)?;
     let causes = causes.as_slice();
     let schema = office.schema();
-    let spot = spot_of(alloc, office, root, members, &rows, plan)?;
+    let marked = place_of_plan(alloc, office, root, members, &rows, plan)?;
     let mut text = begin_collection(alloc, system)?;
     add_standing(alloc, &mut text, schema, causes, root, sets, &rows)?;
     add_changes(alloc, &mut text, schema, causes, members, sets)?;
-    add_spot(alloc, &mut text, &spot)?;
+    add_place(alloc, &mut text, &marked)?;
     let whole = end_collection(text)?;
     Ok(whole)
 }
