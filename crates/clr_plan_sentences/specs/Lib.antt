@@ -1,4 +1,10 @@
+pub mod Answers
+pub mod Causes
 pub mod Counts
-pub mod Servers
+pub mod Labels
+pub mod NeedCauses
 pub mod NeedPlaces
+pub mod ServedNeeds
+pub mod Servers
+pub mod ToldRows
 pub mod Versions
