@@ -1,10 +1,4 @@
-pub mod Answers
-pub mod Causes
 pub mod Counts
-pub mod Labels
-pub mod NeedCauses
-pub mod NeedPlaces
-pub mod ServedNeeds
 pub mod Servers
-pub mod ToldRows
+pub mod NeedPlaces
 pub mod Versions

@@ -1,5 +1,5 @@
 -- The rows that a cause names.
-use Rattle.std.specs.Prelude.{◌≡◌, ℕ, List, Option, Some, None, map, slice_get, is_some, if◌then◌else◌}
+use Rattle.std.specs.Prelude.{◌≡◌, ℕ, List, Option, Some, None, slice_get, is_some, if◌then◌else◌}
 use Rattle.std.specs.FinMap as finite
 use Rattle.std.specs.Option.{option_map}
 use Rattle.clr_rows.specs.declared.cells.CellId.{CellId}
@@ -20,10 +20,6 @@ use Rattle.clr_plan_sentences.specs.declared.members.Standing.TheVariants.{Chang
 pub record AreMembers (o : Office) (s : MergeSet) (members : PlannedDesigns) : Type 0 where
   pub root : members.root.now ≡ s.root
   pub changes : members.changes.items ≡ change_sets o s
-
--- the merge set of members that were read
-abbrev pub set_of : PlannedDesigns → MergeSet
-set_of members = record { root = members.root.now; members = map (λ name. name.now) members.names.now }
 
 -- the row of a version of a merge set, if it has the version
 abbrev pub row_in : Office → MergeSet → VersionId → Option Row

@@ -1,167 +1,189 @@
 //! The cause of a no in words: its rows, and where they stand.
 
-ghost use Rattle.std.specs.Prelude.{◌≡◌, ◌++◌, IfOk, OnOk, string_bytes};
-ghost use Rattle.clr_plan_sentences.specs.Causes.{IsCauseBy, conflict_cause, conflict_reason, others_text, shared_cause, shared_reason};
-ghost use Rattle.clr_plan_sentences.specs.NeedCauses.{no_cause};
-ghost use Rattle.clr_plan_sentences.specs.Versions.{AreMembers, set_of};
-
-use crate::labels::add_label;
-use crate::rows::{CauseWords, RowWords};
+use crate::members::Standing;
 use crate::settings::Setting;
 use clr_clearance::Verdict;
-use clr_rows::{CellId, List, Words};
-use std::alloc::{AllocError, Global};
+use clr_needs::{Need, VersionId};
+use clr_phrases::row_words;
+use clr_rows::{CellId, Row};
+use std::alloc::AllocError;
 
-/// Returns a cause of which nothing is told.
-pub(crate) fn no_cause(alloc: Global) -> CauseWords
-    ensures { result ≡ no_cause }
-{
-    CauseWords {
-        reason: Words::new(String::new(alloc)),
-        rows: List::new(Vec::new(alloc)),
-        place: Words::new(String::new(alloc)),
-    }
+/// A row of a cause in words: its table and key, where it stands, and its values and its place.
+#[derive(Drop)]
+pub struct RowWords {
+    pub label: String,
+    pub standing: String,
+    pub words: String,
 }
 
-/// Adds how many rows are in conflict, if more than one is.
-fn add_others(text: &mut String, count: usize) -> Result<(), AllocError>
-    ensures { OnOk result (string_bytes text.new ≡ string_bytes text.old ++ others_text count) }
-{
-    if count <= 1 {
-        return Ok(());
-    }
-    text.push_str(", and so were others: ")?;
-    write!(text, "{count}")?;
-    text.push_str(" rows in all")?;
-    Ok(())
+/// A cause in words.
+#[derive(Drop)]
+pub struct CauseWords {
+    /// Which rule nothing serves, or which row is changed twice; a line.
+    pub reason: String,
+    /// The rows that the cause names.
+    pub rows: Vec<RowWords>,
+    /// Where the rows meet, and what stands there; lines, each behind two spaces.
+    pub place: String,
 }
 
 impl Setting<'_> {
-    /// Returns that a cell was changed in the root after a member took it over.
-    fn conflict_reason(
+    /// Returns where a row stands.
+    fn standing_words(&self, standing: Standing) -> Result<String, AllocError> {
+        let root = self.members.root;
+        match standing {
+            Standing::Stays => format!(in self.alloc; "stands in {root}"),
+            Standing::Now => format!(in self.alloc; "in {root} now"),
+            Standing::New(at) => {
+                let name = self.members.name(at);
+                format!(in self.alloc; "new in {name}")
+            }
+            Standing::Changed(at) => {
+                let name = self.members.name(at);
+                format!(in self.alloc; "stands in {root}, and {name} changes it")
+            }
+            Standing::Removed(at) => {
+                let name = self.members.name(at);
+                format!(in self.alloc; "stands in {root}, and {name} takes it away")
+            }
+            Standing::TakenOver(at) => {
+                let name = self.members.name(at);
+                format!(in self.alloc; "in {root} when {name} took it over")
+            }
+        }
+    }
+
+    /// Adds a row of a cause.
+    fn add_row(
         &self,
+        cause: &mut CauseWords,
         cell: CellId,
+        row: Option<&Row>,
+        standing: Standing,
+    ) -> Result<(), AllocError> {
+        let words = match row {
+            Some(row) => row_words(self.alloc, self.office.schema(), cell, row)?,
+            None => String::from_str(self.alloc, "no row")?,
+        };
+        let label = self.cell_label(cell)?;
+        let standing = self.standing_words(standing)?;
+        Ok(
+            cause.rows.push(RowWords {
+                label,
+                standing,
+                words,
+            })?,
+        )
+    }
+
+    /// Adds the row of a version of a cause.
+    fn add_version(&self, cause: &mut CauseWords, version: VersionId) -> Result<(), AllocError> {
+        let row = self.members.row_of(self.office, version);
+        self.add_row(cause, version.cell, row, self.members.standing(version))
+    }
+
+    /// Adds the row that a member has at a cell, as a row of a cause.
+    fn add_new(
+        &self,
+        cause: &mut CauseWords,
         member: usize,
-        count: usize,
-    ) -> Result<String, AllocError>
-        ensures { IfOk result (λ text. string_bytes text
-            ≡ conflict_reason self.now.office.now (set_of self.now.members.now) cell member count) }
-    {
-        let mut text = String::new(self.alloc);
-        add_label(&mut text, self.office.schema(), cell)?;
-        text.push_str(" was changed in ")?;
-        text.push_str(self.members.root)?;
-        text.push_str(" after ")?;
-        text.push_str(self.members.name(member))?;
-        text.push_str(" took it over")?;
-        add_others(&mut text, count)?;
-        text.push_str(".\n")?;
-        Ok(text)
+        cell: CellId,
+    ) -> Result<(), AllocError> {
+        let row = self.members.row_after(member, cell);
+        self.add_row(cause, cell, row, Standing::New(member))
     }
 
-    /// Returns that two members change a cell.
-    fn shared_reason(&self, cell: CellId, first: usize, second: usize) -> Result<String, AllocError>
-        ensures { IfOk result (λ text. string_bytes text
-            ≡ shared_reason self.now.office.now (set_of self.now.members.now) cell first second) }
-    {
-        let mut text = String::new(self.alloc);
-        text.push_str(self.members.name(first))?;
-        text.push_str(" and ")?;
-        text.push_str(self.members.name(second))?;
-        text.push_str(" both change ")?;
-        add_label(&mut text, self.office.schema(), cell)?;
-        text.push_str(", so that the merge of the second would meet a conflict.\n")?;
-        Ok(text)
+    /// Adds the row that the root has at a cell, as a row of a cause.
+    fn add_now(&self, cause: &mut CauseWords, cell: CellId) -> Result<(), AllocError> {
+        let row = self.office.read(self.members.root, cell);
+        self.add_row(cause, cell, row, Standing::Now)
     }
 
-    /// Returns what a member took over, what the root has now and what the member has, of a cell in
+    /// Adds what a member took over, what the root has now and what the member has, of a cell in
     /// conflict.
-    fn conflict_rows(&self, cell: CellId, member: usize) -> Result<Vec<RowWords>, AllocError>
-        ensures { IfOk result (λ rows. rows.items ≡ (conflict_cause self.now.office.now (set_of self.now.members.now)
-            self.now.members.now.changes.items cell member 0).rows) }
-    {
-        let mut rows = Vec::new(self.alloc);
-        rows.push(self.row_taken_over(cell, member)?)?;
-        rows.push(self.row_now(cell)?)?;
-        rows.push(self.row_of_member(cell, member)?)?;
-        Ok(rows)
-    }
-
-    /// Returns what the root has and what two members make of it, of a cell that both change.
-    fn shared_rows(
+    fn add_conflict(
         &self,
-        cell: CellId,
-        first: usize,
-        second: usize,
-    ) -> Result<Vec<RowWords>, AllocError>
-        ensures { IfOk result (λ rows. rows.items ≡ (shared_cause self.now.office.now (set_of self.now.members.now)
-            self.now.members.now.changes.items cell first second).rows) }
-    {
-        let mut rows = Vec::new(self.alloc);
-        rows.push(self.row_now(cell)?)?;
-        rows.push(self.row_of_member(cell, first)?)?;
-        rows.push(self.row_of_member(cell, second)?)?;
-        Ok(rows)
-    }
-
-    /// Returns why members are blocked of which one is in conflict with the root.
-    fn conflict_cause(
-        &self,
-        cell: CellId,
+        cause: &mut CauseWords,
         member: usize,
+        cell: CellId,
         count: usize,
-    ) -> Result<CauseWords, AllocError>
-        ensures { IfOk result (λ cause. cause ≡ conflict_cause self.now.office.now (set_of self.now.members.now)
-            self.now.members.now.changes.items cell member count) }
-    {
-        Ok(CauseWords {
-            reason: Words::new(self.conflict_reason(cell, member, count)?),
-            rows: List::new(self.conflict_rows(cell, member)?),
-            place: Words::new(String::new(self.alloc)),
-        })
+    ) -> Result<(), AllocError> {
+        let label = self.cell_label(cell)?;
+        let label = label.as_str();
+        let root = self.members.root;
+        let name = self.members.name(member);
+        write!(
+            &mut cause.reason,
+            "{label} was changed in {root} after {name} took it over"
+        )?;
+        if count > 1 {
+            write!(
+                &mut cause.reason,
+                ", and so were others: {count} rows in all"
+            )?;
+        }
+        cause.reason.push_str(".\n")?;
+        let before = self.members.row_before(member, cell);
+        self.add_row(cause, cell, before, Standing::TakenOver(member))?;
+        self.add_now(cause, cell)?;
+        self.add_new(cause, member, cell)
     }
 
-    /// Returns why members are blocked of which two change a cell.
-    fn shared_cause(
+    /// Adds what the root has and what two members make of it, of a cell that both change.
+    fn add_shared_cell(
         &self,
+        cause: &mut CauseWords,
         cell: CellId,
         first: usize,
         second: usize,
-    ) -> Result<CauseWords, AllocError>
-        ensures { IfOk result (λ cause. cause ≡ shared_cause self.now.office.now (set_of self.now.members.now)
-            self.now.members.now.changes.items cell first second) }
-    {
-        Ok(CauseWords {
-            reason: Words::new(self.shared_reason(cell, first, second)?),
-            rows: List::new(self.shared_rows(cell, first, second)?),
-            place: Words::new(String::new(self.alloc)),
-        })
+    ) -> Result<(), AllocError> {
+        let label = self.cell_label(cell)?;
+        let label = label.as_str();
+        let one = self.members.name(first);
+        let other = self.members.name(second);
+        write!(
+            &mut cause.reason,
+            "{one} and {other} both change {label}, so that the merge of the second would meet a conflict.\n"
+        )?;
+        self.add_now(cause, cell)?;
+        self.add_new(cause, first, cell)?;
+        self.add_new(cause, second, cell)
+    }
+
+    /// Adds the rows of a need.
+    pub(crate) fn add_subjects(
+        &self,
+        cause: &mut CauseWords,
+        need: &Need,
+    ) -> Result<(), AllocError> {
+        self.add_version(cause, need.first)?;
+        match need.second {
+            Some(version) => self.add_version(cause, version),
+            None => Ok(()),
+        }
     }
 
     /// Returns why members are blocked. Nothing is told of a verdict that blocks none.
-    pub fn cause_words(&self, verdict: &Verdict) -> Result<CauseWords, AllocError>
-        ensures { IfOk result (λ cause. AreMembers self.now.office.now (set_of self.now.members.now) self.now.members.now
-            → IsCauseBy self.now.office.now (set_of self.now.members.now) self.now.members.now.changes.items verdict.now cause) }
-    {
+    pub fn cause_words(&self, verdict: &Verdict) -> Result<CauseWords, AllocError> {
+        let mut cause = CauseWords {
+            reason: String::new(self.alloc),
+            rows: Vec::new(self.alloc),
+            place: String::new(self.alloc),
+        };
         match verdict {
             Verdict::Conflict {
                 member,
                 cell,
                 count,
-            } => {
-                let cause = self.conflict_cause(*cell, *member, *count)?;
-                Ok(cause)
-            }
+            } => self.add_conflict(&mut cause, *member, *cell, *count)?,
             Verdict::SharedCell {
                 cell,
                 first,
                 second,
-            } => {
-                let cause = self.shared_cause(*cell, *first, *second)?;
-                Ok(cause)
-            }
-            Verdict::Uncovered(need) => self.need_cause(need),
-            _ => Ok(no_cause(self.alloc)),
+            } => self.add_shared_cell(&mut cause, *cell, *first, *second)?,
+            Verdict::Uncovered(need) => self.add_need(&mut cause, need)?,
+            _ => {}
         }
+        Ok(cause)
     }
 }

@@ -5,30 +5,26 @@
 //! - `rule_of`, `need_place`: the rule of a need, and where a row that serves it would have to stand; a place where rows meet lies on both parts.
 //! - `server_changes`: exactly the changes of members that bring a row which serves a need, or take one away, in order.
 //! - `count_rows`: exactly how many rows a change set adds, changes and removes.
-//! - `answer_words`, `Setting::cause_words`, `Setting::need_words`, `Setting::cell_label`: each text is exactly the one that a definition
-//!   prescribes, memory aside: what a plan answers, the cause of a no with its rows, a need with what serves it until when, and a cell.
+//! - Which words stand for what is tested.
+//! - `Setting` tells what an office and members are about.
 #![tactic(auto)]
 
 mod answers;
 mod causes;
 mod changes;
-mod labels;
 mod members;
-mod need_causes;
 mod need_places;
 mod needs;
-mod rows;
-mod server_words;
+mod rules;
 mod servers;
 mod settings;
 mod unfit;
 
 pub use answers::answer_words;
+pub use causes::{CauseWords, RowWords};
 pub use changes::{Counts, count_rows};
-pub use labels::add_label;
 pub use members::{PlannedDesigns, Standing};
 pub use need_places::{need_place, rule_of, server_side};
 pub use needs::NeedWords;
-pub use rows::{CauseWords, RowWords};
 pub use servers::{ServerChange, server_changes};
 pub use settings::Setting;
