@@ -2,9 +2,7 @@
 use Rattle.std.specs.Prelude.{◌≡◌, ◌≤◌, ℕ, List, [], codes, length, string_bytes, Option, Some, None, Result, Ok, MatchOption, option_map}
 use Rattle.serde_json.specs.Data.{Data}
 use Rattle.clr_rows.specs.declared.tables.TableDef.{TableDef}
-use Rattle.clr_rows.specs.declared.faults.RowFault.{RowFault}
 use Rattle.clr_rows.specs.declared.faults.SchemaFault.{SchemaFault}
-use Rattle.clr_rules.specs.declared.books.faults.RuleFault.{RuleFault}
 use Rattle.clr_lines.specs.Replies.{row_fault_name}
 use Rattle.clr_readings.specs.Readings.{◌>>=◌}
 use Rattle.clr_office_reading.specs.Offices.{format_of, schema_of}

@@ -2,7 +2,8 @@
 ghost use Rattle.std.specs.Prelude.{◌≡◌, ◌++◌, [], IfOk, OnOk, map, option_map, unwrap_or};
 ghost use Rattle.std.specs.List.{find, list_any};
 ghost use Rattle.std.specs.Str.{bytes_eq};
-ghost use Rattle.clr_explanations.specs.Names.{is_primary_key, is_unknown, name_in_rule, names_of_columns, names_of_literals, names_of_rule, names_of_side, steps_to_name};
+ghost use Rattle.clr_explanations.specs.Names.{is_primary_key, is_unknown, name_in_rule, names_of_columns, names_of_literals};
+ghost use Rattle.clr_explanations.specs.Names.{names_of_rule, names_of_side, steps_to_name};
 
 use clr_hints::table_of;
 use clr_office_reading::named_rules::NamedRule;
