@@ -1,3 +1,5 @@
 pub mod StandingLemmas
+pub mod NameLemmas
 pub mod NamedFaults
+pub mod PathLemmas
 pub mod Values

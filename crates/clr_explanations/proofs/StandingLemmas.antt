@@ -1,5 +1,8 @@
 -- What is found of the workspaces of a text as a whole.
-use Rattle.std.proofs.Common.{◌≡◌, ◌≢◌, ℕ, List, Option, Some, None, Ok, Err, refl}
+use Rattle.std.proofs.Common.{◌≡◌, ◌≢◌, ◌≤◌, ℕ, List, length, string_bytes, Option, Some, None, Ok, Err, refl, subst, sym}
+use Rattle.std.specs.Str.{IsUtf8}
+use Rattle.serde_json.specs.Read.{read}
+use Rattle.serde_json.specs.Data.{Data}
 use Rattle.clr_workspace_parts.specs.Parts.{IsFirstPartFault}
 use Rattle.clr_workspace_parts.specs.declared.parts.PartFault.{PartFault}
 use Rattle.clr_workspace_parts.specs.declared.parts.PartFault.TheVariants as part
@@ -9,8 +12,15 @@ use Rattle.clr_office_reading.specs.Offices.{OfficeText, office_in}
 use Rattle.clr_rule_text.specs.declared.faults.TextFault.{TextFault}
 use Rattle.clr_rule_text.specs.declared.faults.TextFault.TheVariants as fault
 use Rattle.clr_faults.proofs.Lost.{fails_exactly}
-use Rattle.clr_explanations.specs.Standing.{IsStandingFault, StandsIfRead, standing_fault}
+use Rattle.clr_faults.specs.Spots.{value_in}
+use Rattle.clr_faults.specs.declared.spots.FaultyItem.TheVariants as spot
+use Rattle.clr_fault_lines.specs.declared.remarks.Remark.{Remark}
+use Rattle.clr_item_explanations.specs.FaultNames.{BeginsWithName, part_fault_name}
+use Rattle.clr_item_explanations.specs.declared.slips.Slip.{Slip}
+use Rattle.clr_explanations.specs.Places.{place_text}
+use Rattle.clr_explanations.specs.Standing.{IsPartRemark, IsStandingFault, IsStandingRemark, StandsIfRead, standing_fault}
 use Rattle.clr_explanations.proofs.NamedFaults.{of_ok}
+use Rattle.clr_explanations.proofs.Values.{value_is}
 
 refused_exactly : (first : Option (ℕ × PartFault)) (n : ℕ) (f : PartFault) → f ≢ part.OutOfMemory → IsFirstPartFault first (n, f) → first ≡ Some (n, f)
 refused_exactly first n part.OutOfMemory kept refused = absurd (kept refl)
@@ -31,3 +41,29 @@ refused_stands text read refused is found kept = (read, is, refused_exactly (sta
 -- a text that can't be read has no office
 pub unread_stands : (text : List ℕ) (e : TextFault) → e ≢ fault.OutOfMemory → Fails text_lacks_memory e (office_in text) → StandsIfRead text
 unread_stands text e kept fails = λ o again. let is : office_in text ≡ Err e = fails_exactly e (office_in text) kept fails in absurd cc
+
+-- a remark says what the slip says that it is made of
+pub part_told : (d : Data) (at : ℕ) (f : PartFault) (slip : Slip) (remark : Remark)
+    → string_bytes remark.place ≡ place_text d (spot.Workspace at) slip.steps.items → remark.sentence ≡ slip.sentence
+    → BeginsWithName (part_fault_name f) (string_bytes slip.sentence) → IsPartRemark d at f remark
+part_told d at f slip remark place sentence told = record {
+  steps = slip.steps.items;
+  place = place;
+  sentence = subst (λ s. BeginsWithName (part_fault_name f) (string_bytes s)) (sym sentence) told;
+}
+
+pub standing_told : (text : List ℕ) (at : ℕ) (f : PartFault) (remark : Remark) → IsStandingFault text (at, f) → remark.offset ≤ length text
+    → (d : Data) × (value_in text ≡ Some d) × IsPartRemark d at f remark → IsStandingRemark text remark
+standing_told text at f remark found within said = record {
+  within = within;
+  at = at;
+  fault = f;
+  found = found;
+  value = said.0;
+  read = said.1;
+  said = said.2;
+}
+
+pub part_read : (text : List ℕ) (d : Data) (at : ℕ) (f : PartFault) (remark : Remark) → IsUtf8 text → read text ≡ Some d → IsPartRemark d at f remark
+    → (x : Data) × (value_in text ≡ Some x) × IsPartRemark x at f remark
+part_read text d at f remark utf8 is said = (d, value_is text d utf8 is, said)

@@ -1,30 +1,21 @@
 -- What is said of the place of a fault behind its line and its column.
-use Rattle.std.specs.Prelude.{◌≡◌, ℕ, List, [], ◌∷◌, ◌++◌, codes, decimal}
+use Rattle.std.specs.Prelude.{◌≡◌, ◌≢◌, ℕ, ℤ, List, [], ◌∷◌, ◌++◌, codes, decimal, Option, Some, None, Result, Ok, Err}
+use Rattle.std.specs.Fmt.{signed_decimal}
+use Rattle.std.specs.List.{flat_map}
+use Rattle.std.specs.Option.{option_and_then, option_map_or}
+use Rattle.serde_json.specs.Data.{Data}
+use Rattle.serde_json.specs.Find.{as_i64, as_number, as_str, at, get}
+use Rattle.clr_rule_text.specs.declared.faults.TextFault.{TextFault}
 use Rattle.clr_faults.specs.declared.spots.FaultyItem.{FaultyItem}
 use Rattle.clr_faults.specs.declared.spots.FaultyItem.TheVariants.{Whole, Table, Rule, Live, Workspace, Base, Row, Mark, Saved}
+use Rattle.clr_explanations.specs.Keys.{key_text}
 use Rattle.clr_text_positions.specs.declared.paths.Key.{Key}
 use Rattle.clr_text_positions.specs.declared.paths.Key.TheVariants as key
 use Rattle.clr_text_positions.specs.declared.paths.PathStep.{PathStep}
 use Rattle.clr_text_positions.specs.declared.paths.PathStep.TheVariants as step
+use Rattle.clr_explanations.specs.Items.{item_at_spot}
 
-abbrev pub workspace_path : ℕ → List ℕ
-workspace_path at = codes "workspaces[" ++ decimal at ++ codes "]"
-
--- the path of an item of a list that stands in another item
-abbrev pub list_item_path : List ℕ → List ℕ → ℕ → List ℕ
-list_item_path outer list item = outer ++ codes "." ++ list ++ codes "[" ++ decimal item ++ codes "]"
-
--- the path of an item, as `workspaces[0].rows[3]`; of the whole text, none
-abbrev pub spot_path : FaultyItem → List ℕ
-spot_path Whole = []
-spot_path (Table at) = codes "tables[" ++ decimal at ++ codes "]"
-spot_path (Rule at) = codes "rules[" ++ decimal at ++ codes "]"
-spot_path (Live at) = codes "live[" ++ decimal at ++ codes "]"
-spot_path (Workspace at) = workspace_path at
-spot_path (Base at cell) = list_item_path (workspace_path at) (codes "base") cell
-spot_path (Row at cell) = list_item_path (workspace_path at) (codes "rows") cell
-spot_path (Mark at mark) = list_item_path (workspace_path at) (codes "marks") mark
-spot_path (Saved at mark cell) = list_item_path (list_item_path (workspace_path at) (codes "marks") mark) (codes "rows") cell
+-- steps to an item -----------------------------------------------------------------------------
 
 -- the steps to an item of a list of a workspace
 abbrev pub steps_in_workspace : ℕ → Key → ℕ → List PathStep
@@ -42,18 +33,65 @@ steps_to (Row at cell) = steps_in_workspace at key.Rows cell
 steps_to (Mark at mark) = steps_in_workspace at key.Marks mark
 steps_to (Saved at mark cell) = steps_in_workspace at key.Marks mark ++ step.Key key.Rows ∷ step.At cell ∷ []
 
--- the path of the item, and what follows it
-abbrev pub BeginsWithPath : FaultyItem → List ℕ → Type 0
-BeginsWithPath spot said = (more : List ℕ) × (said ≡ codes ", " ++ spot_path spot ++ more)
+-- steps within an item -------------------------------------------------------------------------
 
--- what is said of the place of an item; of the whole text it may be nothing
-abbrev pub IsPlaceOf : FaultyItem → List ℕ → Type 0
-IsPlaceOf Whole said = Unit {0}
-IsPlaceOf (Table at) said = BeginsWithPath (Table at) said
-IsPlaceOf (Rule at) said = BeginsWithPath (Rule at) said
-IsPlaceOf (Live at) said = BeginsWithPath (Live at) said
-IsPlaceOf (Workspace at) said = BeginsWithPath (Workspace at) said
-IsPlaceOf (Base at cell) said = BeginsWithPath (Base at cell) said
-IsPlaceOf (Row at cell) said = BeginsWithPath (Row at cell) said
-IsPlaceOf (Mark at mark) said = BeginsWithPath (Mark at mark) said
-IsPlaceOf (Saved at mark cell) said = BeginsWithPath (Saved at mark cell) said
+abbrev pub value_at_step : PathStep → Data → Option Data
+value_at_step (step.Key k) d = get (key_text k) d
+value_at_step (step.At i) d = at i d
+
+-- the value that steps lead to
+abbrev pub value_by : List PathStep → Data → Option Data
+value_by [] d = Some d
+value_by (s ∷ steps) d = option_and_then (value_by steps) (value_at_step s d)
+
+-- the steps up to the first that leads to no value
+unfoldable pub steps_within : List PathStep → Data → List PathStep
+steps_within [] d = []
+steps_within (s ∷ steps) d = option_map_or (λ v. s ∷ steps_within steps v) (value_at_step s d) []
+
+-- in words -------------------------------------------------------------------------------------
+
+abbrev pub step_text : PathStep → List ℕ
+step_text (step.Key k) = codes "." ++ key_text k
+step_text (step.At i) = codes "[" ++ decimal i ++ codes "]"
+
+-- the first step of a path, whose key has no point before it
+abbrev pub first_step_text : PathStep → List ℕ
+first_step_text (step.Key k) = key_text k
+first_step_text (step.At i) = codes "[" ++ decimal i ++ codes "]"
+
+-- a path, as `workspaces[0].rows[3]`
+unfoldable pub path_text : List PathStep → List ℕ
+path_text [] = []
+path_text (s ∷ steps) = first_step_text s ++ flat_map step_text steps
+
+abbrev pub cell_text_of : Option (List ℕ) → Option ℤ → List ℕ
+cell_text_of (Some table) (Some number) = codes ", cell " ++ table ++ codes "/" ++ signed_decimal number
+cell_text_of _ _ = []
+
+-- the cell of an item: the table and the key that it has, if it has both
+abbrev pub cell_text : Data → List ℕ
+cell_text item = cell_text_of (option_and_then as_str (get (codes "t") item)) (option_and_then as_i64 (option_and_then as_number (get (codes "k") item)))
+
+-- a path and what follows it; of the whole text nothing is said
+abbrev pub path_and_cell : List PathStep → List ℕ → List ℕ
+path_and_cell [] cell = []
+path_and_cell (s ∷ steps) cell = codes ", " ++ path_text (s ∷ steps) ++ cell
+
+abbrev pub place_of : Result Data TextFault → FaultyItem → List PathStep → List ℕ
+place_of (Ok item) spot steps = path_and_cell (steps_to spot ++ steps_within steps item) (cell_text item)
+place_of (Err e) spot steps = path_and_cell (steps_to spot) []
+
+-- what is said of the place of a fault: the path to its item and on to the value that steps from there lead to, and the cell of the item
+abbrev pub place_text : Data → FaultyItem → List PathStep → List ℕ
+place_text d spot steps = place_of (item_at_spot spot d) spot steps
+
+-- laws -----------------------------------------------------------------------------------------
+
+-- the steps of a path that follow those to its item lead to a value of the item
+abbrev pub PathsLead : Type 0
+PathsLead = (steps : List PathStep) (d : Data) → value_by (steps_within steps d) d ≢ None
+
+-- and none is left out of those that lead to a value
+abbrev pub WholePaths : Type 0
+WholePaths = (steps : List PathStep) (d v : Data) → value_by steps d ≡ Some v → steps_within steps d ≡ steps

@@ -1,23 +1,26 @@
 //! What is wrong where the reader drops the fault: with the tables, with a rule over the schema, with a row in its table.
-ghost use Rattle.std.specs.Prelude.{string_bytes, IfOk};
+ghost use Rattle.std.specs.Prelude.{◌≡◌, string_bytes, Ok, IfOk, IfSome};
+ghost use Rattle.serde_json.specs.Data.{Data};
 ghost use Rattle.serde_json.specs.View.{view};
 ghost use Rattle.clr_rule_text.specs.declared.faults.TextFault.TheVariants as text_fault;
-ghost use Rattle.clr_explanations.specs.Remarks.{NamesRowFault, NamesRuleFault, NamesSchemaFault, TellsDroppedFault};
+ghost use Rattle.clr_explanations.specs.Items.{item_at_spot};
+ghost use Rattle.clr_explanations.specs.Remarks.{NamesSchemaFault, TellsDroppedFault, TellsRowFault, TellsRowOfNoTable, TellsRuleFault, TellsRuleOfNoName};
+ghost use Rattle.clr_explanations.specs.Slips.{said};
 
 use crate::items::item_at;
 use crate::readings::{format_in, schema_in};
+use crate::unknown_names::{unknown_name_slip, unknown_table_slip};
 use clr_faults::{FaultyItem, row_fault_at, rule_fault_of, schema_fault_of};
-use clr_item_explanations::{
-    Slip, explain_row_fault, explain_rule_fault, explain_schema, explain_unknown_name,
-    explain_unknown_table,
-};
+use clr_item_explanations::{Slip, explain_row_fault, explain_rule_fault, explain_schema};
 use clr_office_reading::formats::Format;
 use clr_rows::Schema;
 use serde_json::Value as Json;
 use std::alloc::{AllocError, Global};
 
 /// Returns what is found, or that nothing is.
-pub fn slip_or_unknown(alloc: Global, slip: Option<Slip>) -> Result<Slip, AllocError> {
+pub fn slip_or_unknown(alloc: Global, slip: Option<Slip>) -> Result<Slip, AllocError>
+    ensures { IfOk result (λ found. IfSome slip (λ it. found ≡ it)) }
+{
     match slip {
         Some(slip) => Ok(slip),
         None => Slip::of_words(alloc, &[], "this can't be read as it stands"),
@@ -38,7 +41,7 @@ fn slip_of_tables(alloc: Global, json: &Json, format: Format) -> Result<Slip, Al
 /// Returns why the tables of a text make no schema.
 #[tactic(auto, using(crate::proofs::NamedFaults::names_bad_schema, crate::proofs::NamedFaults::no_format))]
 pub fn schema_slip(alloc: Global, json: &Json, spot: FaultyItem) -> Result<Slip, AllocError>
-    ensures { IfOk result (λ slip. TellsDroppedFault (view json.now) text_fault.BadSchema spot (string_bytes slip.sentence)) }
+    ensures { IfOk result (λ slip. TellsDroppedFault (view json.now) text_fault.BadSchema spot (said slip)) }
 {
     let _spot = spot;
     match format_in(json)? {
@@ -47,28 +50,45 @@ pub fn schema_slip(alloc: Global, json: &Json, spot: FaultyItem) -> Result<Slip,
     }
 }
 
-/// Returns what a rule names that the schema hasn't.
+/// Returns the first name of a rule that the schema hasn't.
+#[tactic(auto, using(crate::proofs::NamedFaults::first_name_told, crate::proofs::NamedFaults::no_first_name))]
+fn slip_of_names(alloc: Global, rule: &Json, schema: &Schema) -> Result<Slip, AllocError>
+    ensures { IfOk result (λ slip. TellsRuleOfNoName schema.now (view rule.now) (said slip)) }
+{
+    match unknown_name_slip(alloc, rule, schema)? {
+        Some(slip) => Ok(slip),
+        None => slip_or_unknown(alloc, None),
+    }
+}
+
+/// Returns what the rule at an item names that the schema hasn't.
+#[tactic(auto, using(crate::proofs::NamedFaults::names_told, crate::proofs::NamedFaults::no_rule_there))]
 fn slip_of_name(
     alloc: Global,
     json: &Json,
     spot: FaultyItem,
     schema: &Schema,
-) -> Result<Slip, AllocError> {
+) -> Result<Slip, AllocError>
+    ensures { IfOk result (λ slip. (item : Data) → item_at_spot spot (view json.now) ≡ Ok item → TellsRuleOfNoName schema.now item (said slip)) }
+{
     match item_at(json, spot)? {
-        Some(rule) => slip_or_unknown(alloc, explain_unknown_name(alloc, rule, schema)?),
+        Some(rule) => {
+            let slip = slip_of_names(alloc, rule, schema)?;
+            Ok(slip)
+        }
         None => slip_or_unknown(alloc, None),
     }
 }
 
 /// Returns why a rule can't stand in a book over a schema.
-#[tactic(auto, using(crate::proofs::NamedFaults::names_rule_fault, crate::proofs::NamedFaults::no_rule_fault))]
+#[tactic(auto, using(crate::proofs::NamedFaults::rule_fault_told, crate::proofs::NamedFaults::rule_names_told))]
 fn slip_of_rule(
     alloc: Global,
     json: &Json,
     spot: FaultyItem,
     schema: &Schema,
 ) -> Result<Slip, AllocError>
-    ensures { IfOk result (λ slip. NamesRuleFault schema.now (view json.now) (string_bytes slip.sentence)) }
+    ensures { IfOk result (λ slip. TellsRuleFault schema.now (view json.now) spot (said slip)) }
 {
     match rule_fault_of(alloc, json, schema)? {
         Some((_, fault)) => explain_rule_fault(alloc, fault),
@@ -79,29 +99,43 @@ fn slip_of_rule(
 /// Returns why a rule can't stand over the schema.
 #[tactic(auto, using(crate::proofs::NamedFaults::names_bad_rule, crate::proofs::NamedFaults::no_tables))]
 pub fn rule_slip(alloc: Global, json: &Json, spot: FaultyItem) -> Result<Slip, AllocError>
-    ensures { IfOk result (λ slip. TellsDroppedFault (view json.now) text_fault.BadRule spot (string_bytes slip.sentence)) }
+    ensures { IfOk result (λ slip. TellsDroppedFault (view json.now) text_fault.BadRule spot (said slip)) }
 {
     match schema_in(alloc, json)? {
-        Some(schema) => slip_of_rule(alloc, json, spot, &schema),
+        Some(schema) => {
+            let slip = slip_of_rule(alloc, json, spot, &schema)?;
+            Ok(slip)
+        }
+        None => slip_or_unknown(alloc, None),
+    }
+}
+
+/// Returns that the schema hasn't the table of a row.
+#[tactic(auto, using(crate::proofs::NamedFaults::table_told, crate::proofs::NamedFaults::known_table))]
+fn slip_of_table(alloc: Global, item: &Json, schema: &Schema) -> Result<Slip, AllocError>
+    ensures { IfOk result (λ slip. TellsRowOfNoTable schema.now (view item.now) (said slip)) }
+{
+    match unknown_table_slip(alloc, item, schema)? {
+        Some(slip) => Ok(slip),
         None => slip_or_unknown(alloc, None),
     }
 }
 
 /// Returns why the row of an item can't stand in its table.
-#[tactic(auto, using(crate::proofs::NamedFaults::names_row_fault, crate::proofs::NamedFaults::no_row_fault))]
+#[tactic(auto, using(crate::proofs::NamedFaults::row_fault_told, crate::proofs::NamedFaults::row_table_told))]
 fn slip_of_row(alloc: Global, item: &Json, schema: &Schema) -> Result<Slip, AllocError>
-    ensures { IfOk result (λ slip. NamesRowFault schema.now (view item.now) (string_bytes slip.sentence)) }
+    ensures { IfOk result (λ slip. TellsRowFault schema.now (view item.now) (said slip)) }
 {
     match row_fault_at(alloc, item, schema)? {
         Some(fault) => explain_row_fault(alloc, item, schema, fault),
-        None => slip_or_unknown(alloc, explain_unknown_table(alloc, item, schema)?),
+        None => slip_of_table(alloc, item, schema),
     }
 }
 
 /// Returns why the row at an item can't stand in its table.
 #[tactic(auto, using(crate::proofs::NamedFaults::names_bad_row, crate::proofs::NamedFaults::no_tables_of_row, crate::proofs::NamedFaults::no_item))]
 pub fn row_slip(alloc: Global, json: &Json, spot: FaultyItem) -> Result<Slip, AllocError>
-    ensures { IfOk result (λ slip. TellsDroppedFault (view json.now) text_fault.BadRow spot (string_bytes slip.sentence)) }
+    ensures { IfOk result (λ slip. TellsDroppedFault (view json.now) text_fault.BadRow spot (said slip)) }
 {
     let Some(schema) = schema_in(alloc, json)? else {
         return slip_or_unknown(alloc, None);

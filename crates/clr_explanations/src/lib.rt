@@ -1,8 +1,10 @@
 //! What is said of an office text that can't be read: the fault, its place, a sentence and a hint.
 //!
 //! - `explain_office` [`none`, `told`, `at`]: whether an office text can be read; else the reader's own fault, and a remark on the item that
-//!   has it, the first of its list whose own reading answers this fault. Where the reader drops the fault of a row, of the book of
-//!   rules or of the tables, the sentence begins with the name of just that fault (`TellsDroppedFault`).
+//!   has it, the first of its list whose own reading answers this fault. Its path is exactly the steps to the item and on to a value in it
+//!   (`place_text`). Where the reader drops the fault of a row, of the book of rules or of the tables, the sentence begins with the name
+//!   of just that fault; of a table or a column that the schema hasn't, the path, the sentence and the hint are exactly those of its name.
+//! - `paths_lead_to_values`: each path leads to a value of the text, and no step to a value is left out.
 //! - `explain_standing` [`none`, `told`]: of a text that can be read, the fault of its workspaces as a whole, and the first that has it.
 //! - `office_fault_words`: the word `office`, and the number and the name of a fault.
 //!
@@ -13,14 +15,19 @@ mod fault_words;
 mod field_slips;
 mod inner_slips;
 mod items;
+mod keys;
+mod laws;
 mod lists;
 mod offices;
 mod places;
 mod readings;
 mod repeated;
+mod rule_names;
 mod spots;
 mod standing;
+mod unknown_names;
 
 pub use fault_words::office_fault_words;
+pub use laws::paths_lead_to_values;
 pub use offices::{OfficeFault, explain_office};
 pub use standing::explain_standing;

@@ -1,10 +1,9 @@
 //! What is said of an office text that can't be read.
-ghost use Rattle.std.specs.Prelude.{◌≡◌, ◌≤◌, length, string_bytes, Err, IfOk, IfNone, IfSome, IsOk};
+ghost use Rattle.std.specs.Prelude.{◌≡◌, ◌≤◌, [], length, string_bytes, Err, IfOk, IfNone, IfSome, IsOk};
 ghost use Rattle.serde_json.specs.View.{view};
 ghost use Rattle.clr_office_reading.specs.Offices.{office_in};
-ghost use Rattle.clr_explanations.specs.Places.{IsPlaceOf};
-ghost use Rattle.clr_faults.specs.Spots.{IsFoundIn};
-ghost use Rattle.clr_explanations.specs.Remarks.{IsOfficeRemark, TellsDroppedFault, TellsDroppedFaultIn};
+ghost use Rattle.clr_explanations.specs.Remarks.{IsOfficeRemark, IsRemarkAt, IsRemarkIn, TellsDroppedFault};
+ghost use Rattle.clr_explanations.specs.Slips.{said};
 
 use crate::field_slips::field_slip;
 use crate::inner_slips::{row_slip, rule_slip, schema_slip, slip_or_unknown};
@@ -35,7 +34,7 @@ fn workspace_slip(alloc: Global, json: &Json, spot: FaultyItem) -> Result<Slip, 
 
 /// Returns what is wrong with the item that has the fault.
 fn slip_of(alloc: Global, text: &[u8], json: &Json, found: Found) -> Result<Slip, AllocError>
-    ensures { IfOk result (λ slip. TellsDroppedFault (view json.now) found.fault found.spot (string_bytes slip.sentence)) }
+    ensures { IfOk result (λ slip. TellsDroppedFault (view json.now) found.fault found.spot (said slip)) }
 {
     match found.fault {
         TextFault::BadSchema => schema_slip(alloc, json, found.spot),
@@ -50,10 +49,10 @@ fn slip_of(alloc: Global, text: &[u8], json: &Json, found: Found) -> Result<Slip
 }
 
 /// Returns what is said of the fault of a text that is JSON.
+#[tactic(auto, using(crate::proofs::NamedFaults::slip_told))]
 fn remark_in(alloc: Global, text: &[u8], json: &Json, found: Found) -> Result<Remark, AllocError>
     ensures within { IfOk result (λ remark. remark.offset ≤ length text.now) }
-    ensures place { IfOk result (λ remark. IsPlaceOf found.spot (string_bytes remark.place)) }
-    ensures told { IfOk result (λ remark. TellsDroppedFault (view json.now) found.fault found.spot (string_bytes remark.sentence)) }
+    ensures said { IfOk result (IsRemarkIn (view json.now) found.fault found.spot) }
 {
     let slip = slip_of(alloc, text, json, found)?;
     remark_of(alloc, text, json, found.spot, slip)
@@ -67,7 +66,8 @@ fn remark_on_json(
     line: usize,
     column: usize,
 ) -> Result<Remark, AllocError>
-    ensures { IfOk result (λ remark. remark.offset ≤ length text.now) }
+    ensures within { IfOk result (λ remark. remark.offset ≤ length text.now) }
+    ensures place { IfOk result (λ remark. string_bytes remark.place ≡ []) }
 {
     let fault = json_fault(text, line, column);
     let hint = match fault.hint {
@@ -84,10 +84,7 @@ fn remark_on_json(
 
 /// Returns what is said of the fault that is found in a text.
 fn remark_on(alloc: Global, text: &[u8], found: Found) -> Result<Remark, AllocError>
-    requires { IsFoundIn text.now found.fault found.spot }
-    ensures within { IfOk result (λ remark. remark.offset ≤ length text.now) }
-    ensures place { IfOk result (λ remark. IsPlaceOf found.spot (string_bytes remark.place)) }
-    ensures told { IfOk result (λ remark. TellsDroppedFaultIn text.now found.fault found.spot (string_bytes remark.sentence)) }
+    ensures { IfOk result (IsRemarkAt text.now found.fault found.spot) }
 {
     match Json::from_slice(alloc, text) {
         Ok(json) => {

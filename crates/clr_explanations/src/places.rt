@@ -1,9 +1,14 @@
-//! Where a fault of an office text stands, and what is said of that place.
-ghost use Rattle.std.specs.Prelude.{◌≡◌, ◌≤◌, length, string_bytes, IfOk};
-ghost use Rattle.clr_explanations.specs.Places.{BeginsWithPath, IsPlaceOf};
+//! Where a fault of an office text is, and what is said of that place.
+ghost use Rattle.std.specs.Prelude.{◌≡◌, ◌≤◌, ◌++◌, Some, codes, length, string_bytes, IfOk, OnOk, option_map, option_and_then};
+ghost use Rattle.std.specs.List.{flat_map};
+ghost use Rattle.serde_json.specs.Find.{as_i64, as_number, as_str, get};
+ghost use Rattle.serde_json.specs.View.{view};
+ghost use Rattle.clr_explanations.specs.Places.{cell_text, cell_text_of, first_step_text, path_and_cell, path_text, place_text, step_text};
+ghost use Rattle.clr_explanations.specs.Places.{steps_within, value_at_step};
 
 use crate::items::item_at;
-use crate::spots::{spot_path, spot_steps};
+use crate::keys::key_word;
+use crate::spots::spot_steps;
 use clr_fault_lines::Remark;
 use clr_faults::FaultyItem;
 use clr_item_explanations::Slip;
@@ -11,60 +16,143 @@ use clr_text_positions::{PathStep, value_at};
 use serde_json::Value as Json;
 use std::alloc::{AllocError, Global};
 
-/// Adds a step, as `.v` or `[1]`; the first one of a path without its point.
-fn add_step(path: &mut String, step: PathStep, is_first: bool) -> Result<(), AllocError> {
+/// Returns the value that a step leads to, or none.
+fn value_at_step(json: &Json, step: PathStep) -> Option<&Json>
+    ensures { option_map (λ v. view v.now) result ≡ value_at_step step (view json.now) }
+{
     match step {
-        PathStep::At(at) => write!(path, "[{at}]"),
+        PathStep::Key(key) => json.get(key_word(key)),
+        PathStep::At(at) => json.get(at),
+    }
+}
+
+/// Returns the steps from an item up to the first that leads to no value.
+fn steps_within(alloc: Global, item: &Json, steps: &[PathStep]) -> Result<Vec<PathStep>, AllocError>
+    ensures { IfOk result (λ within. within.items ≡ steps_within steps.now (view item.now)) }
+{
+    let mut within = Vec::new(alloc);
+    let mut value = item;
+    for step in steps {
+        match value_at_step(value, *step) {
+            Some(inner) => value = inner,
+            None => return Ok(within),
+        }
+        within.push(*step)?;
+    }
+    Ok(within)
+}
+
+/// Adds steps, as `.v` and `[1]`.
+fn add_steps(path: &mut String, steps: &[PathStep]) -> Result<(), AllocError>
+    ensures { OnOk result (string_bytes path.new ≡ string_bytes path.old ++ flat_map step_text steps.now) }
+{
+    for step in steps {
+        add_step(path, *step)?;
+    }
+    Ok(())
+}
+
+fn add_step(path: &mut String, step: PathStep) -> Result<(), AllocError>
+    ensures { OnOk result (string_bytes path.new ≡ string_bytes path.old ++ step_text step) }
+{
+    match step {
         PathStep::Key(key) => {
-            if !is_first {
-                path.push('.')?;
-            }
-            path.push_str(key.as_str())
+            path.push_str(".")?;
+            path.push_str(key_word(key))
+        }
+        PathStep::At(at) => {
+            path.push_str("[")?;
+            write!(path, "{at}")?;
+            path.push_str("]")
         }
     }
 }
 
-/// Adds the cell of a row, where an item is one.
-fn add_cell(said: &mut String, item: &Json) -> Result<(), AllocError> {
-    let (Some(table), Some(key)) = (item.get("t"), item.get("k")) else {
-        return Ok(());
-    };
-    match (table.as_str(), key.as_i64()) {
-        (Some(table), Some(key)) => write!(said, ", cell {table}/{key}"),
-        _ => Ok(()),
-    }
-}
-
-/// Returns what follows the path of an item: the steps from it, and its cell where it is a row.
-fn behind_path(
-    alloc: Global,
-    json: &Json,
-    spot: FaultyItem,
-    steps: &[PathStep],
-) -> Result<String, AllocError> {
-    let mut said = String::new(alloc);
-    for (at, step) in steps.iter().enumerate() {
-        add_step(&mut said, *step, at == 0 && spot == FaultyItem::Whole)?;
-    }
-    if let Some(item) = item_at(json, spot)? {
-        add_cell(&mut said, item)?;
-    }
-    Ok(said)
-}
-
-/// Returns the path of an item, and what follows it.
-fn path_words(
-    alloc: Global,
-    json: &Json,
-    spot: FaultyItem,
-    steps: &[PathStep],
-) -> Result<String, AllocError>
-    ensures { IfOk result (λ said. BeginsWithPath spot (string_bytes said)) }
+/// Adds the first step of a path, whose key has no point before it.
+fn add_first_step(path: &mut String, step: PathStep) -> Result<(), AllocError>
+    ensures { OnOk result (string_bytes path.new ≡ string_bytes path.old ++ first_step_text step) }
 {
-    let path = spot_path(alloc, spot)?;
-    let behind = behind_path(alloc, json, spot, steps)?;
-    let said = format!(in alloc; ", {path}{behind}")?;
+    match step {
+        PathStep::Key(key) => path.push_str(key_word(key)),
+        PathStep::At(_) => add_step(path, step),
+    }
+}
+
+/// Adds a path of these steps.
+fn add_path(path: &mut String, first: PathStep, behind: &[PathStep]) -> Result<(), AllocError>
+    ensures { OnOk result (string_bytes path.new ≡ string_bytes path.old ++ (first_step_text first ++ flat_map step_text behind.now)) }
+{
+    add_first_step(path, first)?;
+    add_steps(path, behind)
+}
+
+/// Returns a path, as `workspaces[0].rows[3]`.
+#[tactic(auto, unfolding(crate::specs::Places::path_text))]
+pub(crate) fn path_words(alloc: Global, steps: &[PathStep]) -> Result<String, AllocError>
+    ensures { IfOk result (λ path. string_bytes path ≡ path_text steps.now) }
+{
+    match steps {
+        [] => Ok(String::new(alloc)),
+        [first, behind @ ..] => {
+            let mut path = String::new(alloc);
+            add_path(&mut path, *first, behind)?;
+            Ok(path)
+        }
+    }
+}
+
+/// Returns the text at `t`, if there is one.
+fn table_in(item: &Json) -> Option<&str>
+    ensures { option_map (λ s. s.now) result ≡ option_and_then as_str (get (codes "t") (view item.now)) }
+{
+    item.get("t")?.as_str()
+}
+
+/// Returns the whole number at `k`, if there is one.
+fn key_in(item: &Json) -> Option<i64>
+    ensures { result ≡ option_and_then as_i64 (option_and_then as_number (get (codes "k") (view item.now))) }
+{
+    item.get("k")?.as_i64()
+}
+
+/// Returns a cell as it follows a path.
+fn table_and_key(alloc: Global, table: &str, key: i64) -> Result<String, AllocError>
+    ensures { IfOk result (λ said. string_bytes said ≡ cell_text_of (Some table.now) (Some key)) }
+{
+    let mut said = String::from_str(alloc, ", cell ")?;
+    said.push_str(table)?;
+    said.push_str("/")?;
+    write!(said, "{key}")?;
     Ok(said)
+}
+
+/// Returns the cell of an item: the table and the key that it has, if it has both.
+fn cell_words(alloc: Global, item: &Json) -> Result<String, AllocError>
+    ensures { IfOk result (λ said. string_bytes said ≡ cell_text (view item.now)) }
+{
+    let Some(table) = table_in(item) else {
+        return Ok(String::new(alloc));
+    };
+    match key_in(item) {
+        Some(key) => table_and_key(alloc, table, key),
+        None => Ok(String::new(alloc)),
+    }
+}
+
+/// Returns a path and what follows it; nothing of the whole text.
+#[tactic(auto, unfolding(crate::specs::Places::path_text))]
+fn path_and_cell(alloc: Global, steps: &[PathStep], cell: &str) -> Result<String, AllocError>
+    ensures { IfOk result (λ said. string_bytes said ≡ path_and_cell steps.now cell.now) }
+{
+    match steps {
+        [] => Ok(String::new(alloc)),
+        [first, behind @ ..] => {
+            let mut said = String::from_str(alloc, ", ")?;
+            add_path(&mut said, *first, behind)?;
+            said.push_str(cell)?;
+            Ok(said)
+        }
+    }
 }
 
 /// Returns what is said of the place of a value of an item: its path, and the cell where the item is a row; nothing of the
@@ -75,19 +163,17 @@ fn place_words(
     spot: FaultyItem,
     steps: &[PathStep],
 ) -> Result<String, AllocError>
-    ensures { IfOk result (λ said. IsPlaceOf spot (string_bytes said)) }
+    ensures { IfOk result (λ said. string_bytes said ≡ place_text (view json.now) spot steps.now) }
 {
-    match spot {
-        FaultyItem::Whole if steps.is_empty() => Ok(String::new(alloc)),
-        FaultyItem::Whole
-        | FaultyItem::Table(_)
-        | FaultyItem::Rule(_)
-        | FaultyItem::Live(_)
-        | FaultyItem::Workspace(_)
-        | FaultyItem::Base(_, _)
-        | FaultyItem::Row(_, _)
-        | FaultyItem::Mark(_, _)
-        | FaultyItem::Saved(_, _, _) => path_words(alloc, json, spot, steps),
+    let mut path = spot_steps(alloc, spot)?;
+    match item_at(json, spot)? {
+        Some(item) => {
+            let within = steps_within(alloc, item, steps)?;
+            path.extend_from_slice(within.as_slice())?;
+            let cell = cell_words(alloc, item)?;
+            path_and_cell(alloc, path.as_slice(), cell.as_str())
+        }
+        None => path_and_cell(alloc, path.as_slice(), ""),
     }
 }
 
@@ -119,8 +205,9 @@ pub fn remark_of(
     slip: Slip,
 ) -> Result<Remark, AllocError>
     ensures within { IfOk result (λ remark. remark.offset ≤ length text.now) }
-    ensures place { IfOk result (λ remark. IsPlaceOf spot (string_bytes remark.place)) }
+    ensures place { IfOk result (λ remark. string_bytes remark.place ≡ place_text (view json.now) spot slip.steps.items) }
     ensures sentence { IfOk result (λ remark. remark.sentence ≡ slip.sentence) }
+    ensures hint { IfOk result (λ remark. remark.hint ≡ slip.hint) }
 {
     let offset = offset_of(alloc, text, spot, slip.steps.as_slice())?;
     let place = place_words(alloc, json, spot, slip.steps.as_slice())?;

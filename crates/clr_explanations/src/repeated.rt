@@ -2,7 +2,8 @@
 
 use crate::items::item_at;
 use crate::lists::{beside, items_beside};
-use crate::spots::{spot_path, spot_steps};
+use crate::places::path_words;
+use crate::spots::spot_steps;
 use clr_faults::FaultyItem;
 use clr_item_explanations::{Slip, text_at};
 use clr_text_positions::{Key, place_of, value_at};
@@ -31,8 +32,8 @@ fn first_with_cell(items: &[Json], item: &Json) -> Option<usize> {
 
 /// Returns the line, the column and the path of an item.
 fn place_in_words(alloc: Global, text: &[u8], spot: FaultyItem) -> Result<String, AllocError> {
-    let path = spot_path(alloc, spot)?;
     let steps = spot_steps(alloc, spot)?;
+    let path = path_words(alloc, steps.as_slice())?;
     match value_at(text, steps.as_slice()) {
         Some(offset) => {
             let place = place_of(text, offset);

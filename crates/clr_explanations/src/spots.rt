@@ -1,65 +1,10 @@
-//! Items of an office text, and their paths.
-ghost use Rattle.std.specs.Prelude.{◌≡◌, codes, string_bytes, IfOk};
-ghost use Rattle.clr_explanations.specs.Places.{list_item_path, spot_path, steps_in_workspace, steps_to, workspace_path};
+//! The steps to items of an office text.
+ghost use Rattle.std.specs.Prelude.{◌≡◌, IfOk};
+ghost use Rattle.clr_explanations.specs.Places.{steps_in_workspace, steps_to};
 
 use clr_faults::FaultyItem;
 use clr_text_positions::{Key, PathStep};
 use std::alloc::{AllocError, Global};
-
-/// Returns the path of a workspace.
-fn workspace_path(alloc: Global, at: usize) -> Result<String, AllocError>
-    ensures { IfOk result (λ path. string_bytes path ≡ workspace_path at) }
-{
-    format!(in alloc; "workspaces[{at}]")
-}
-
-/// Returns the path of an item of a list that stands in another item.
-fn path_in(alloc: Global, outer: &str, list: &str, item: usize) -> Result<String, AllocError>
-    ensures { IfOk result (λ path. string_bytes path ≡ list_item_path outer.now list.now item) }
-{
-    let path = format!(in alloc; "{outer}.{list}[{item}]")?;
-    Ok(path)
-}
-
-/// Returns the path of an item of a list of a workspace.
-fn path_in_workspace(
-    alloc: Global,
-    at: usize,
-    list: &str,
-    item: usize,
-) -> Result<String, AllocError>
-    ensures { IfOk result (λ path. string_bytes path ≡ list_item_path (workspace_path at) list.now item) }
-{
-    let outer = workspace_path(alloc, at)?;
-    let path = path_in(alloc, outer.as_str(), list, item)?;
-    Ok(path)
-}
-
-/// Returns the path of a cell of a savepoint.
-fn saved_path(alloc: Global, at: usize, mark: usize, cell: usize) -> Result<String, AllocError>
-    ensures { IfOk result (λ path. string_bytes path ≡ list_item_path (list_item_path (workspace_path at) (codes "marks") mark) (codes "rows") cell) }
-{
-    let outer = path_in_workspace(alloc, at, "marks", mark)?;
-    let path = path_in(alloc, outer.as_str(), "rows", cell)?;
-    Ok(path)
-}
-
-/// Returns the path of an item, as `workspaces[0].rows[3]`; of the whole text, none.
-pub fn spot_path(alloc: Global, spot: FaultyItem) -> Result<String, AllocError>
-    ensures { IfOk result (λ path. string_bytes path ≡ spot_path spot) }
-{
-    match spot {
-        FaultyItem::Whole => Ok(String::new(alloc)),
-        FaultyItem::Table(at) => format!(in alloc; "tables[{at}]"),
-        FaultyItem::Rule(at) => format!(in alloc; "rules[{at}]"),
-        FaultyItem::Live(at) => format!(in alloc; "live[{at}]"),
-        FaultyItem::Workspace(at) => workspace_path(alloc, at),
-        FaultyItem::Base(at, cell) => path_in_workspace(alloc, at, "base", cell),
-        FaultyItem::Row(at, cell) => path_in_workspace(alloc, at, "rows", cell),
-        FaultyItem::Mark(at, mark) => path_in_workspace(alloc, at, "marks", mark),
-        FaultyItem::Saved(at, mark, cell) => saved_path(alloc, at, mark, cell),
-    }
-}
 
 /// Returns the steps to an item of a list of a workspace.
 fn steps_in_workspace(

@@ -1,7 +1,9 @@
 //! What is said of an office text whose workspaces can't stand as a whole.
-ghost use Rattle.std.specs.Prelude.{◌≡◌, ◌≢◌, ◌≤◌, length, string_bytes, IfNone, IfOk, IfSome, MatchOption};
-ghost use Rattle.clr_explanations.specs.Places.{BeginsWithPath};
-ghost use Rattle.clr_explanations.specs.Standing.{IsStandingFault, IsStandingRemark, StandsIfRead};
+ghost use Rattle.std.specs.Prelude.{◌≡◌, ◌≢◌, ◌≤◌, length, string_bytes, IfNone, IfOk, IfSome, MatchOption, Some};
+ghost use Rattle.serde_json.specs.Data.{Data};
+ghost use Rattle.serde_json.specs.View.{view};
+ghost use Rattle.clr_faults.specs.Spots.{value_in};
+ghost use Rattle.clr_explanations.specs.Standing.{IsPartRemark, IsStandingFault, IsStandingRemark, StandsIfRead};
 ghost use Rattle.clr_item_explanations.specs.FaultNames.{BeginsWithName, part_fault_name};
 
 use crate::places::remark_of;
@@ -50,8 +52,24 @@ fn standing_fault(alloc: Global, text: &[u8]) -> Result<Option<(usize, PartFault
     }
 }
 
-/// Returns what is said of a text whose first workspace that can't stand is known, or of one that is
-/// no JSON.
+/// Returns what is said of a workspace of a value that can't stand.
+#[tactic(auto, using(crate::proofs::StandingLemmas::part_told))]
+fn remark_in(
+    alloc: Global,
+    text: &[u8],
+    json: &Json,
+    at: usize,
+    fault: PartFault,
+) -> Result<Remark, AllocError>
+    ensures within { IfOk result (λ remark. remark.offset ≤ length text.now) }
+    ensures said { IfOk result (IsPartRemark (view json.now) at fault) }
+{
+    let slip = slip_of_part(alloc, json, at, fault)?;
+    remark_of(alloc, text, json, FaultyItem::Workspace(at), slip)
+}
+
+/// Returns what is said of a text whose first workspace that can't stand is known.
+#[tactic(auto, using(crate::proofs::StandingLemmas::part_read))]
 fn remark_on_part(
     alloc: Global,
     text: &[u8],
@@ -59,18 +77,17 @@ fn remark_on_part(
     fault: PartFault,
 ) -> Result<Remark, AllocError>
     ensures within { IfOk result (λ remark. remark.offset ≤ length text.now) }
-    ensures place { IfOk result (λ remark. BeginsWithPath (FaultyItem.Workspace at) (string_bytes remark.place)) }
-    ensures named { IfOk result (λ remark. BeginsWithName (part_fault_name fault) (string_bytes remark.sentence)) }
+    ensures said { IfOk result (λ remark. (d : Data) × (value_in text.now ≡ Some d) × IsPartRemark d at fault remark) }
 {
     let Ok(json) = Json::from_slice(alloc, text) else {
         return Err(AllocError);
     };
-    let slip = slip_of_part(alloc, &json, at, fault)?;
-    remark_of(alloc, text, &json, FaultyItem::Workspace(at), slip)
+    remark_in(alloc, text, &json, at, fault)
 }
 
 /// Returns what is said of a text that can be read and whose workspaces can't stand as a whole: the first that can't, and why;
 /// or none where they can or the text can't be read.
+#[tactic(auto, using(crate::proofs::StandingLemmas::standing_told))]
 pub fn explain_standing(alloc: Global, text: &[u8]) -> Result<Option<Remark>, AllocError>
     ensures none { IfOk result (λ found. IfNone found (StandsIfRead text.now)) }
     ensures told { IfOk result (λ found. IfSome found (IsStandingRemark text.now)) }

@@ -1,0 +1,36 @@
+-- The keys of an office text, as they are written.
+use Rattle.std.specs.Prelude.{ℕ, List, codes}
+use Rattle.clr_text_positions.specs.declared.paths.Key.{Key}
+use Rattle.clr_text_positions.specs.declared.paths.Key.TheVariants as key
+
+abbrev pub key_text : Key → List ℕ
+key_text key.Format = codes "format"
+key_text key.Tables = codes "tables"
+key_text key.Name = codes "name"
+key_text key.Columns = codes "columns"
+key_text key.Shape = codes "shape"
+key_text key.Rules = codes "rules"
+key_text key.Kind = codes "kind"
+key_text key.Subject = codes "subject"
+key_text key.Server = codes "server"
+key_text key.ServerColumns = codes "server_columns"
+key_text key.Tip = codes "tip"
+key_text key.A = codes "a"
+key_text key.B = codes "b"
+key_text key.D = codes "d"
+key_text key.Table = codes "table"
+key_text key.Where = codes "where"
+key_text key.Live = codes "live"
+key_text key.T = codes "t"
+key_text key.K = codes "k"
+key_text key.V = codes "v"
+key_text key.S = codes "s"
+key_text key.Gone = codes "gone"
+key_text key.Workspaces = codes "workspaces"
+key_text key.Parent = codes "parent"
+key_text key.Base = codes "base"
+key_text key.Rows = codes "rows"
+key_text key.Marks = codes "marks"
+key_text key.Child = codes "child"
+key_text key.Savepoint = codes "savepoint"
+key_text key.Kept = codes "kept"
