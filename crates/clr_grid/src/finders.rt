@@ -16,8 +16,7 @@ use clr_rules::RuleBook;
 use std::alloc::{AllocError, Global};
 use std::marker::Model;
 
-/// The finders of an office, by position: one of the rows of LIVE and of each workspace that is
-/// kept, and none for the others.
+/// The finders of an office, by position: one of the rows of LIVE and of each workspace that is kept, and none for the others.
 #[derive(Drop)]
 pub struct Finders {
     list: Vec<Option<SpotIndex>>,
@@ -126,8 +125,7 @@ impl Finders {
     }
 
     /// Adds changes to the finder at a position, if it has one, all of them or none. The position is one of those that there
-    /// are, nothing is pending in its finder, and the rules and each row that is to stand fit one schema. If memory runs out,
-    /// nothing changes.
+    /// are, nothing is pending in its finder, and the rules and each row that is to stand fit one schema. If memory runs out, nothing changes.
     pub fn note(
         &mut self,
         book: &RuleBook,

@@ -249,8 +249,7 @@ fn add_cells_near(
     }
 }
 
-/// Returns the first of the cells of rows that may serve behind a given one, among those that are looked at
-/// for a row under a rule, if there is one.
+/// Returns the first of the cells of rows that may serve behind a given one, among those that are looked at for a row under a rule, if there is one.
 pub(crate) fn next_server_near(
     rules: &[RuleIndex],
     rule: u16,

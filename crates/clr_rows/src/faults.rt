@@ -36,8 +36,7 @@ pub enum RowFault {
     WordsTooLong = 4,
     /// The row's shape isn't the table's.
     WrongShape = 5,
-    /// A key outside 1 to 999,999,999,999,999, or a coordinate outside -1,000,000,000 to
-    /// 1,000,000,000 millimetres.
+    /// A key outside 1 to 999,999,999,999,999, or a coordinate outside -1,000,000,000 to 1,000,000,000 millimetres.
     OutOfRange = 6,
     /// A segment whose ends are one point, or a path in which a vertex equals the next one.
     ZeroSegment = 7,

@@ -7,8 +7,7 @@ pub fn changes_law()
     ensures { ChangesLaw }
 {}
 
-/// A content taken over by changes has at each changed cell the row after the change, and its own
-/// row at all others.
+/// A content taken over by changes has at each changed cell the row after the change, and its own row at all others.
 pub fn over_law()
     ensures { OverLaw }
 {}

@@ -5,8 +5,7 @@ ghost use Rattle.std.specs.Prelude.{◌≡◌, ◌++◌, ◌∷◌, [], OnOk, On
 use std::alloc::AllocFailed;
 use std::marker::Model;
 
-/// Elements in an order. A contract sees them alone, where of a bare `Vec` in a struct it sees its
-/// pointer and its capacity too.
+/// Elements in an order. A contract sees them alone, where of a bare `Vec` in a struct it sees its pointer and its capacity too.
 #[derive(Debug, Drop)]
 pub struct List<T> {
     list: Vec<T>,
@@ -45,8 +44,7 @@ impl<T> List<T> {
         self.list
     }
 
-    /// Adds an element behind the others. If memory runs out, nothing changes, and the error gives
-    /// the element back.
+    /// Adds an element behind the others. If memory runs out, nothing changes, and the error gives the element back.
     pub fn push(&mut self, element: T) -> Result<(), AllocFailed<T>>
         ensures ok { OnOk result (self.new ≡ self.old ++ element ∷ []) }
         ensures err { OnErr result (self.new ≡ self.old) }

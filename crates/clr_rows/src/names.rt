@@ -21,8 +21,7 @@ fn are_name_bytes(bytes: &[u8]) -> bool
 }
 
 /// Returns whether a text may name a table, a column, a workspace or a savepoint. Such a name has 1
-/// to 30 bytes: an ASCII letter first, then ASCII letters, digits or `_`.
-/// For example, `Valve_2` is a good name. `2nd` isn't, since it begins with a digit.
+/// to 30 bytes: an ASCII letter first, then ASCII letters, digits or `_`. For example, `Valve_2` is a good name. `2nd` isn't, since it begins with a digit.
 #[tactic(auto, unfolding(crate::specs::Names::is_good_name))]
 pub fn good_name(name: &str) -> bool
     ensures { result ≡ is_good_name name.now }

@@ -45,8 +45,7 @@ impl Shape {
         }
     }
 
-    /// Returns whether both shapes are the same. The ends of a segment and the vertices of a path
-    /// are compared in their order.
+    /// Returns whether both shapes are the same. The ends of a segment and the vertices of a path are compared in their order.
     /// For example, the segment from (0, 0) to (10, 10) isn't the same as the one from (10, 10) to (0, 0).
     pub fn same(&self, other: &Shape) -> bool
         ensures { IsTrue result ↔ (self.now ≡ other.now) }

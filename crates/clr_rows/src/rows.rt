@@ -25,8 +25,7 @@ impl Value {
         }
     }
 
-    /// Returns whether both values are of one kind and the same.
-    /// For example, the number -7 and the text `-7` aren't the same.
+    /// Returns whether both values are of one kind and the same. For example, the number -7 and the text `-7` aren't the same.
     pub fn same(&self, other: &Value) -> bool
         ensures { IsTrue result ↔ (self.now ≡ other.now) }
     {

@@ -17,8 +17,7 @@ use crate::tables::{Kind, TableDef};
 use crate::texts::Words;
 use std::marker::Model;
 
-/// The tables of a database, numbered from 0: at most 32, each of at most 16 columns, with good
-/// names that differ.
+/// The tables of a database, numbered from 0: at most 32, each of at most 16 columns, with good names that differ.
 #[derive(Debug, Drop)]
 pub struct Schema {
     tables: Vec<TableDef>,
@@ -62,8 +61,7 @@ impl Schema {
     }
 
     /// Returns the number of the table of this name, or none. Upper and lower case differ.
-    /// For example, where the tables are `node`, `main`, `hydrant` and `pipe`, in this order, it returns 1 for `main`
-    /// and none for `Main`.
+    /// For example, where the tables are `node`, `main`, `hydrant` and `pipe`, in this order, it returns 1 for `main` and none for `Main`.
     #[tactic(auto, using(crate::proofs::SchemaLemmas::few_tables))]
     pub fn table(&self, name: &str) -> Option<u16>
         ensures value { result ≡ table_named self.now name.now }
@@ -76,8 +74,7 @@ impl Schema {
     }
 
     /// Returns the name of the table of this number, or none.
-    /// For example, where the tables are `node`, `main`, `hydrant` and `pipe`, in this order, it returns `hydrant`
-    /// for 2 and none for 4.
+    /// For example, where the tables are `node`, `main`, `hydrant` and `pipe`, in this order, it returns `hydrant` for 2 and none for 4.
     pub fn table_name(&self, table: u16) -> Option<&str>
         ensures { option_map (λ s. s.now) result ≡ option_map (λ t. t.name) (slice_get self.now table) }
     {
@@ -88,8 +85,7 @@ impl Schema {
     }
 
     /// Returns the name of the table of this number, or no bytes where there is no such table.
-    /// For example, where the tables are `node`, `main`, `hydrant` and `pipe`, in this order, it returns `hydrant`
-    /// for 2 and the empty text for 4.
+    /// For example, where the tables are `node`, `main`, `hydrant` and `pipe`, in this order, it returns `hydrant` for 2 and the empty text for 4.
     pub fn name_of_table(&self, table: u16) -> &str
         ensures value { result.now ≡ name_of_table self.now table }
         ensures sound { schema_fault self.now ≡ None }
@@ -114,8 +110,7 @@ impl Schema {
         }
     }
 
-    /// Returns the table of this number, or none.
-    /// For example, where the tables are `node`, `main`, `hydrant` and `pipe`, in this order, it returns for 2 the
+    /// Returns the table of this number, or none. For example, where the tables are `node`, `main`, `hydrant` and `pipe`, in this order, it returns for 2 the
     /// table with the name `hydrant`, its columns and the shape of its rows, and none for 4.
     #[tactic(auto, using(crate::proofs::SchemaLemmas::few_tables))]
     pub fn def(&self, table: u16) -> Option<&TableDef>
@@ -148,8 +143,7 @@ impl Schema {
     /// with `WrongShape` where the shape isn't of the table's form, with `OutOfRange` where the key
     /// isn't 1 to 999,999,999,999,999 or a coordinate is beyond 1,000,000,000 millimetres either
     /// way, with `ZeroSegment` where the ends of a segment are one point or a vertex of a path
-    /// equals the next one, and with `BadPath` where a path has fewer than 2 or more than 32
-    /// vertices.
+    /// equals the next one, and with `BadPath` where a path has fewer than 2 or more than 32 vertices.
     /// For example, a main from (3, 3) to (3, 3) fails with `ZeroSegment` at key 1 and with `OutOfRange` at key 0.
     #[tactic(auto, unfolding(crate::specs::Schemas::row_fault))]
     pub fn fits(&self, cell: CellId, row: &Row) -> Result<(), RowFault>
