@@ -33,5 +33,3 @@ pub fits_after : (o : Office) (c : Command) (reply : Reply) (left : Office) → 
 fits_after o c reply left h answered = after_answer IsFitting o c reply left h (fits_step o c h) answered
 
 -- after each answer, rules hold where they are to hold
-pub holds_after : (o : Office) (c : Command) (reply : Reply) (left : Office) → HoldsWhereKept o → IsAnswer o c reply left → HoldsWhereKept left
-holds_after o c reply left h answered = after_answer HoldsWhereKept o c reply left h (rules_law o c h) answered

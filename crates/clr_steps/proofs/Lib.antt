@@ -4,6 +4,7 @@ pub mod FindLemmas
 pub mod FirstLemmas
 pub mod FitLemmas
 pub mod KeptLemmas
+pub mod LiveLemmas
 pub mod MarkLemmas
 pub mod MemoryLemmas
 pub mod ModifyLemmas

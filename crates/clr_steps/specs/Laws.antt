@@ -1,7 +1,11 @@
 -- What holds of steps by their definitions, whatever the code does.
 use Rattle.std.specs.Prelude.{◌≡◌, ◌↔◌, true, false, List, [], ◌∷◌, ◌++◌, Option, Some, None, is_some}
 use Rattle.clr_rows.specs.declared.tables.TableDef.{TableDef}
+use Rattle.clr_rows.specs.Contents.{row_at}
 use Rattle.clr_rules.specs.declared.rules.Rule.{Rule}
+use Rattle.clr_rows.specs.Held.{Held}
+use Rattle.clr_rules.specs.declared.needs.Ask.{Ask}
+use Rattle.clr_rules.specs.Needs.{BreaksNoMore, IsKept, View}
 use Rattle.clr_workspaces.specs.Marks.{Name}
 use Rattle.clr_workspaces.specs.Workspaces.{Workspace, find}
 use Rattle.clr_workspaces.specs.Soundness.{IsSound}
@@ -76,6 +80,21 @@ SchemaLaw = (o : Office) (c : Command) → ((step o c).office.schema ≡ o.schem
 -- a step leaves every rule holding where it is to hold
 abbrev pub RulesLaw : Type 0
 RulesLaw = (o : Office) (c : Command) → HoldsWhereKept o → HoldsWhereKept (step o c).office
+
+-- rows break no need that none of the kept contents of an office breaks, with the same rows
+abbrev pub BreaksNoMoreThanKept : Office → View → Type 0
+BreaksNoMoreThanKept o view = (ask : Ask) (first : Held) (second : Option Held)
+    → ((name : Name) → is_kept o name ≡ true → IsKept o.book (row_at (content_of o name)) ask first second)
+    → IsKept o.book view ask first second
+
+-- what is broken in LIVE or a kept workspace after a step was broken in one of them before, with the same rows
+abbrev pub KeptLaw : Type 0
+KeptLaw = (o : Office) (c : Command) (name : Name) → is_kept (step o c).office name ≡ true
+    → BreaksNoMoreThanKept o (row_at (content_of (step o c).office name))
+
+-- a step breaks no need in LIVE but those that are broken there already, with the same rows
+abbrev pub LiveLaw : Type 0
+LiveLaw = (o : Office) (c : Command) → BreaksNoMore o.book (row_at o.live) (row_at (step o c).office.live)
 
 -- every rule holds where it is to hold exactly where no workspace of the tree is unheld
 abbrev pub UnheldLaw : Type 0

@@ -6,7 +6,7 @@ use Rattle.clr_steps.proofs.StepLemmas.{answer_law}
 use Rattle.clr_engine.specs.Fitting.{IsAdmitted}
 use Rattle.clr_grid.specs.Finders.{AreFinders}
 use Rattle.clr_engine.specs.KeptContents.{kept_contents}
-use Rattle.clr_engine.proofs.Steps.{fits_after, holds_after}
+use Rattle.clr_engine.proofs.Steps.{fits_after}
 use Rattle.clr_engine.proofs.offices.Office.perform.Goals as goal
 
 pub invariant_of-self : goal.invariant_of-self
@@ -19,7 +19,6 @@ invariant_of-self c =
     c.perform-reply.ensures.performed in
     let admitted : IsAdmitted left = record {
       fit = fits_after o c.args.command.now c.perform-reply.result left c.self.invariant.0.fit answered;
-      holds = holds_after o c.args.command.now c.perform-reply.result left c.self.invariant.0.holds answered;
     } in
     let same = sym c.sweep.ensures.contents in (
       subst (λ (ws : List Workspace). IsAdmitted (office_of inside.schema inside.judge ws)) same admitted,
