@@ -9,6 +9,7 @@ pub mod MarkLemmas
 pub mod MemoryLemmas
 pub mod ModifyLemmas
 pub mod NeedLemmas
+pub mod NothingNew
 pub mod QuietLemmas
 pub mod RefusalLemmas
 pub mod RuleLemmas

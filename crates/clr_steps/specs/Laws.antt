@@ -96,6 +96,18 @@ KeptLaw = (o : Office) (c : Command) (name : Name) → is_kept (step o c).office
 abbrev pub LiveLaw : Type 0
 LiveLaw = (o : Office) (c : Command) → BreaksNoMore o.book (row_at o.live) (row_at (step o c).office.live)
 
+-- an office after commands breaks nothing that wasn't broken before, with the same rows: LIVE no need but those that LIVE broke, and a kept workspace no
+-- need that no kept content broke; where every rule held where it is to hold, it goes on holding there
+pub record BreaksNothingNew (before after : Office) : Type 0 where
+  pub book : after.book ≡ before.book
+  pub rules : HoldsWhereKept before → HoldsWhereKept after
+  pub live : BreaksNoMore before.book (row_at before.live) (row_at after.live)
+  pub kept : (name : Name) → is_kept after name ≡ true → BreaksNoMoreThanKept before (row_at (content_of after name))
+
+-- commands break nothing new, whatever they are answered
+abbrev pub NothingNewLaw : Type 0
+NothingNewLaw = (o : Office) (commands : List Command) (replies : List Reply) (left : Office) → AreAnswers o commands replies left → BreaksNothingNew o left
+
 -- every rule holds where it is to hold exactly where no workspace of the tree is unheld
 abbrev pub UnheldLaw : Type 0
 UnheldLaw = (schema : List TableDef) (book : List Rule) (ws : List Workspace)

@@ -1,7 +1,7 @@
 //! Laws of steps, each proved by a function that does nothing.
 
 ghost use Rattle.clr_steps.specs.Examples.{LevelExample, NameExample, RollExample, SavepointExample};
-ghost use Rattle.clr_steps.specs.Laws.{KeptLaw, LiveLaw, AnswerLaw, EffectLaw, FitLaw, MemoryLaw, MoreLaw, NameLaw};
+ghost use Rattle.clr_steps.specs.Laws.{KeptLaw, LiveLaw, AnswerLaw, EffectLaw, FitLaw, MemoryLaw, MoreLaw, NameLaw, NothingNewLaw};
 ghost use Rattle.clr_steps.specs.Laws.{QuietLaw, RefusalLaw, RulesLaw, RunLaw, SchemaLaw, StepLaw, UnheldLaw};
 ghost use Rattle.clr_steps.specs.WorkspaceLaws.{ConflictLaw, ChangesAfterMergeLaw, ChangesAfterRefreshLaw, ResolveLaw, RollAllLaw};
 
@@ -29,14 +29,15 @@ pub fn answers_make_a_run()
 /// No command changes the schema or the rules. Where every rule holds in LIVE and in each workspace
 /// that is kept, this is so after each command. No command breaks a need in LIVE but those that are
 /// broken there already, with the same rows: so no new error comes in, and what is mended stays
-/// mended. What LIVE or a kept workspace breaks after a command, one of them broke before. Where each
-/// row fits the schema, also in the base and the savepoints of each workspace, this is so after each
-/// command.
+/// mended. What LIVE or a kept workspace breaks after a command, one of them broke before. All this is
+/// so of lists of commands too, also of those that find no memory. Where each row fits the schema,
+/// also in the base and the savepoints of each workspace, this is so after each command.
 pub fn steps_keep_offices_sound()
     ensures schema { SchemaLaw }
     ensures rules { RulesLaw }
     ensures live { LiveLaw }
     ensures kept { KeptLaw }
+    ensures nothing_new { NothingNewLaw }
     ensures fit { FitLaw }
 {}
 

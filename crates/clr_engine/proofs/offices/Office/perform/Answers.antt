@@ -1,7 +1,8 @@
-use Rattle.std.proofs.Common.{List, subst, sym}
+use Rattle.std.proofs.Common.{List, [], ◌∷◌, refl, subst, sym}
 use Rattle.clr_workspaces.specs.Workspaces.{Workspace}
 use Rattle.clr_steps.specs.Offices.{Office, office_of}
 use Rattle.clr_steps.specs.Steps.{IsAnswer}
+use Rattle.clr_steps.proofs.NothingNew.{nothing_new_law}
 use Rattle.clr_steps.proofs.StepLemmas.{answer_law}
 use Rattle.clr_engine.specs.Fitting.{IsAdmitted}
 use Rattle.clr_grid.specs.Finders.{AreFinders}
@@ -35,3 +36,7 @@ returns-clause-answer c =
     subst (λ (o : Office). IsAnswer o c.args.command.now c.perform-reply.result (office_of inside.schema inside.judge c.sweep.new.self.list)) c.self.view_is
     (subst (λ (ws : List Workspace). IsAnswer (office_of inside.schema inside.judge inside.tree.list) c.args.command.now c.perform-reply.result
     (office_of inside.schema inside.judge ws)) (sym c.sweep.ensures.contents) answered)
+
+pub returns-clause-nothing_new : goal.returns-clause-nothing_new
+returns-clause-nothing_new c =
+    nothing_new_law c.args.self.now (c.args.command.now ∷ []) (c.perform-reply.result ∷ []) _ (_, returns-clause-answer c, refl)
