@@ -5,7 +5,7 @@ ghost use Rattle.clr_plan_features.specs.PlanFeatures.{cause_cells, cells_of_ver
 
 use clr_clearance::Verdict;
 use clr_needs::Need;
-use clr_plan::Plan;
+use clr_merge_sets::Plan;
 use clr_rows::CellId;
 use std::alloc::{AllocError, Global};
 
