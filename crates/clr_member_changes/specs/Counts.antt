@@ -1,5 +1,5 @@
 -- How many rows a change set adds, changes and removes.
-use Rattle.std.specs.Prelude.{ℕ, Bool, true, false, ◌&&◌, count_by, is_none, is_some}
+use Rattle.std.specs.Prelude.{ℕ, Bool, ◌&&◌, count_by, is_none, is_some}
 use Rattle.std.specs.FinMap as finite
 use Rattle.clr_rows.specs.declared.cells.Change.{Change}
 use Rattle.clr_rows.specs.Contents.{Changes}

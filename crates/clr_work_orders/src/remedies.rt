@@ -14,13 +14,11 @@ use crate::bringing::add_serving;
 use crate::undoings::{add_giving_up, add_giving_up_any, add_keeping, add_undoing};
 use clr_clearance::Verdict;
 use clr_engine::Office;
-use clr_needs::Need;
-use clr_plan::Plan;
 use clr_member_changes::MemberChanges;
 use clr_merge_sets::read_member_changes;
-use clr_plan_sentences::{
-    Setting, need_place, rule_of, server_changes, server_side,
-};
+use clr_needs::Need;
+use clr_plan::Plan;
+use clr_plan_sentences::{Setting, need_place, rule_of, server_changes, server_side};
 use clr_rules::Side;
 use std::alloc::{AllocError, Global};
 

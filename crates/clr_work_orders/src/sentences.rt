@@ -11,9 +11,9 @@ use clr_cert::Entry;
 use clr_change::ChangeSet;
 use clr_clearance::Verdict;
 use clr_engine::Office;
-use clr_plan::Plan;
 use clr_member_changes::{Counts, MemberChanges, count_rows};
 use clr_merge_sets::read_member_changes;
+use clr_plan::Plan;
 use clr_plan_sentences::{Setting, answer_words};
 use std::alloc::{AllocError, Global};
 

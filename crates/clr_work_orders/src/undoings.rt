@@ -8,8 +8,8 @@ ghost use Rattle.clr_work_orders.specs.Remedies.{giving_up, giving_up_any, keepi
 
 use crate::actions::Action;
 use clr_change::Edit;
-use clr_needs::VersionId;
 use clr_member_changes::MemberChanges;
+use clr_needs::VersionId;
 use clr_plan_sentences::ServerChange;
 use clr_rows::{CellId, Row};
 use std::alloc::AllocError;

@@ -1,6 +1,5 @@
 use Rattle.std.proofs.Common.{◌≡◌, ◌+◌}
 use Rattle.std.specs.Prelude.{count_by}
-use Rattle.std.specs.FinMap as finite
 use Rattle.clr_member_changes.specs.Counts.{counted, is_row_change}
 use Rattle.clr_member_changes.proofs.counts.count_of.Given as goal
 
