@@ -31,7 +31,7 @@ use Rattle.clr_clearance.specs.Runs.{merged_by}
 use Rattle.clr_clearance.specs.Safety.{IsMergeOf, IsSafeAnswer, is_clash, is_ready}
 use Rattle.clr_clearance.specs.MergeSets.{AreMergeable, MembersBreakNoMore, rows_with, setting_of}
 use Rattle.clr_clearance.proofs.MergeSetLemmas.{content_above}
-use Rattle.clr_clearance.proofs.StaticLemmas.{merge_of}
+use Rattle.clr_clearance.proofs.StaticLemmas.{is_merge_of}
 use Rattle.clr_clearance.proofs.EffectLemmas.{member_refreshed, refresh_steps, shown}
 use Rattle.clr_clearance.proofs.MemberLemmas.{it, merge_lasts, merged_rows, no_conflict_now, not_root, part_with, refresh_lasts, remove_lasts}
 
@@ -232,7 +232,7 @@ module _ (first : Office) (merge_set : MergeSet) (mergeable : AreMergeable first
     pub is_merge : (others : List Name) (content : Content) → AreAmong (setting_of first merge_set) others merge_set.members
         → ((cell : CellId) → row_at content cell
         ≡ rows_with first merge_set others cell) → IsMergeOf first merge_set others content
-    is_merge = merge_of first merge_set keeps
+    is_merge = is_merge_of first merge_set keeps
 
     merged_is : (w : Workspace) → workspace now name ≡ Some w → IsMergeOf first merge_set (name ∷ names) (merged_content now w)
     merged_is w e = is_merge (name ∷ names) (merged_content now w) (part_with first merge_set mergeable names now inv name member)

@@ -246,7 +246,7 @@ module _ (o : Office) (merge_set : MergeSet) where
 
 -- a need that nothing covers ------------------------------------------------------------------------------------
 
-positions_change : (o : Office) (merge_set : MergeSet) → AreMergeable o merge_set → DoChange (by_position (setting_of o merge_set))
+pub positions_change : (o : Office) (merge_set : MergeSet) → AreMergeable o merge_set → DoChange (by_position (setting_of o merge_set))
 positions_change o merge_set mergeable k cell row member e same = by (slice_get merge_set.members k) refl e
   where
     by : (r : Option Name) → slice_get merge_set.members k ≡ r → after_member (setting_of o merge_set) r cell ≡ Some row → ⊥

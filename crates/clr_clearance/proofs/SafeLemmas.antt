@@ -23,7 +23,7 @@ use Rattle.clr_clearance.specs.Safety.{IsSafeAnswer, IsSafeAt}
 use Rattle.clr_clearance.specs.MergeSets.{AreMergeable, MembersBreakNoMore, setting_of}
 use Rattle.clr_clearance.proofs.AnswerLemmas.{merge_claim, refresh_claim}
 use Rattle.clr_clearance.proofs.MergeSetLemmas.{changed_by-standing}
-use Rattle.clr_clearance.proofs.StaticLemmas.{child_under, member_agrees, merge_of, no_more_broken}
+use Rattle.clr_clearance.proofs.StaticLemmas.{child_under, member_agrees, is_merge_of, no_more_broken}
 
 -- the invariant holds before any command
 pub at_first : (first : Office) (merge_set : MergeSet) → AreMergeable first merge_set → Invariant first merge_set [] first
@@ -113,7 +113,7 @@ pub safe_at : (first : Office) (merge_set : MergeSet) (names : List Name) (now :
     → Invariant first merge_set names now → IsSafeAt first merge_set names now
 safe_at first merge_set names now mergeable keeps inv = record {
   book = inv.book;
-  root = merge_of first merge_set keeps names (root_content now merge_set) inv.part inv.rows;
+  root = is_merge_of first merge_set keeps names (root_content now merge_set) inv.part inv.rows;
   answers = answers;
   refreshes = λ name w member. ((refresh_claim first merge_set names now name mergeable inv member).1 keeps).content w;
 }

@@ -143,10 +143,10 @@ held_law o merge_set no_more holds names members =
     (of_root o merge_set (rows_with o merge_set names) (no_more [] names (λ n h. absurd (false≢true h)) members)) holds
 
 -- rows that some members give break no more than the root
-pub merge_of : (o : Office) (merge_set : MergeSet) → MembersBreakNoMore o merge_set → (names : List Name) (content : Content)
+pub is_merge_of : (o : Office) (merge_set : MergeSet) → MembersBreakNoMore o merge_set → (names : List Name) (content : Content)
     → AreAmong (setting_of o merge_set) names merge_set.members
     → ((cell : CellId) → row_at content cell ≡ rows_with o merge_set names cell) → IsMergeOf o merge_set names content
-merge_of o merge_set keeps names content part rows = record { rows = rows; no_more = no_more; holds = held_after o merge_set (row_at content) no_more }
+is_merge_of o merge_set keeps names content part rows = record { rows = rows; no_more = no_more; holds = held_after o merge_set (row_at content) no_more }
   where
     no_more : BreaksNoMore o.book (row_at (root_content o merge_set)) (row_at content)
     no_more = subst (λ (view : View). BreaksNoMore o.book (row_at (root_content o merge_set)) view) (λ i cell. sym (rows cell) i)

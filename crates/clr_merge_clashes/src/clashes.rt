@@ -77,7 +77,6 @@ pub fn merge_clashes(
     ensures found { AreFound office.now (merge_set root.now (map (λ name. name.now) members.now)) result }
     ensures exact { IfOk result (AreSmallestSets office.now (merge_set root.now (map (λ name. name.now) members.now))) }
 {
-    let _rules = office.book();
     sets_decide_plans();
     if let Some(fault) = name_fault(alloc, office, root, &members) {
         return Err(fault);

@@ -154,7 +154,7 @@ fn first_broken_of_scene<V: RowView, F: RowFinder>(
 ) -> Result<Option<Broken>, AllocError>
     requires ready { IsReady F.settled (model_of V.content scene.now) }
     requires one { length (model_of V.content scene.now).sets ≡ 1 }
-    requires holds { Holds (model_of V.content scene.now).rules (row_at (model_of V.content scene.now).root) }
+    requires changes { DoChange (setting_of (model_of V.content scene.now)) }
 {
     memory.answer(|| scene.first_broken())
 }
@@ -171,7 +171,6 @@ fn first_broken_of_parts(
     requires parts { AreParts office.now (merge_set root.now (map (λ name. name.now) members.now)) parts.now }
     requires one { length members.now ≡ 1 }
 {
-    let _book = office.book();
     let _root = root;
     let _members = members;
     match scene_of(alloc, office, parts, memory) {

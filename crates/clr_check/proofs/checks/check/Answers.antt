@@ -21,7 +21,7 @@ returns-in-Ok-clause-free c e =
     let answer = subst (λ es. IsCheckAnswer o s (entries_in es) c.judge_parts.result) c.as_slice.ensures
     (c.judge_parts.ensures s (subst (λ root. AreParts o (merge_set root c.args.certificate.now.members) c.in-Ok.parts) c.as_str.ensures
     c.in-Ok.ensures.parts)) in
-    (clear_promises o s (entries_in c.args.certificate.now.entries) c.in-Ok.ensures.admitted c.judge_parts.result answer e).0
+    (clear_promises o s (entries_in c.args.certificate.now.entries) c.judge_parts.result answer e).0
 
 pub returns-in-Ok-clause-safe : goal.returns-in-Ok-clause-safe
 returns-in-Ok-clause-safe c e =
@@ -30,7 +30,7 @@ returns-in-Ok-clause-safe c e =
     let answer = subst (λ es. IsCheckAnswer o s (entries_in es) c.judge_parts.result) c.as_slice.ensures
     (c.judge_parts.ensures s (subst (λ root. AreParts o (merge_set root c.args.certificate.now.members) c.in-Ok.parts) c.as_str.ensures
     c.in-Ok.ensures.parts)) in
-    (clear_promises o s (entries_in c.args.certificate.now.entries) c.in-Ok.ensures.admitted c.judge_parts.result answer e).1
+    (clear_promises o s (entries_in c.args.certificate.now.entries) c.judge_parts.result answer e).1
 
 pub returns-in-Ok-clause-headline : goal.returns-in-Ok-clause-headline
 returns-in-Ok-clause-headline c e =
@@ -39,7 +39,7 @@ returns-in-Ok-clause-headline c e =
     let answer = subst (λ es. IsCheckAnswer o s (entries_in es) c.judge_parts.result) c.as_slice.ensures
     (c.judge_parts.ensures s (subst (λ root. AreParts o (merge_set root c.args.certificate.now.members) c.in-Ok.parts) c.as_str.ensures
     c.in-Ok.ensures.parts)) in
-    (clear_promises o s (entries_in c.args.certificate.now.entries) c.in-Ok.ensures.admitted c.judge_parts.result answer e).2
+    (clear_promises o s (entries_in c.args.certificate.now.entries) c.judge_parts.result answer e).2
 
 pub returns-in-Ok-clause-runs : goal.returns-in-Ok-clause-runs
 returns-in-Ok-clause-runs c e =
@@ -48,7 +48,7 @@ returns-in-Ok-clause-runs c e =
     let answer = subst (λ es. IsCheckAnswer o s (entries_in es) c.judge_parts.result) c.as_slice.ensures
     (c.judge_parts.ensures s (subst (λ root. AreParts o (merge_set root c.args.certificate.now.members) c.in-Ok.parts) c.as_str.ensures
     c.in-Ok.ensures.parts)) in
-    (clear_promises o s (entries_in c.args.certificate.now.entries) c.in-Ok.ensures.admitted c.judge_parts.result answer e).3
+    (clear_promises o s (entries_in c.args.certificate.now.entries) c.judge_parts.result answer e).3
 
 pub returns-in-Err-clause-answer : goal.returns-in-Err-clause-answer
 returns-in-Err-clause-answer c =
@@ -63,7 +63,7 @@ returns-in-Err-clause-free c e =
     let certificate = c.args.certificate.now in
     let fault = subst (λ root. IsMergeSetFault o (merge_set root certificate.members) c.in-Err.verdict) c.as_str.ensures c.in-Err.ensures.fault in
     let answer = fault_answers o (merge_set_of certificate) (entries_in certificate.entries) c.in-Err.verdict fault in
-    (clear_promises o (merge_set_of certificate) (entries_in certificate.entries) c.in-Err.ensures.admitted c.in-Err.verdict answer e).0
+    (clear_promises o (merge_set_of certificate) (entries_in certificate.entries) c.in-Err.verdict answer e).0
 
 pub returns-in-Err-clause-safe : goal.returns-in-Err-clause-safe
 returns-in-Err-clause-safe c e =
@@ -71,7 +71,7 @@ returns-in-Err-clause-safe c e =
     let certificate = c.args.certificate.now in
     let fault = subst (λ root. IsMergeSetFault o (merge_set root certificate.members) c.in-Err.verdict) c.as_str.ensures c.in-Err.ensures.fault in
     let answer = fault_answers o (merge_set_of certificate) (entries_in certificate.entries) c.in-Err.verdict fault in
-    (clear_promises o (merge_set_of certificate) (entries_in certificate.entries) c.in-Err.ensures.admitted c.in-Err.verdict answer e).1
+    (clear_promises o (merge_set_of certificate) (entries_in certificate.entries) c.in-Err.verdict answer e).1
 
 pub returns-in-Err-clause-headline : goal.returns-in-Err-clause-headline
 returns-in-Err-clause-headline c e =
@@ -79,7 +79,7 @@ returns-in-Err-clause-headline c e =
     let certificate = c.args.certificate.now in
     let fault = subst (λ root. IsMergeSetFault o (merge_set root certificate.members) c.in-Err.verdict) c.as_str.ensures c.in-Err.ensures.fault in
     let answer = fault_answers o (merge_set_of certificate) (entries_in certificate.entries) c.in-Err.verdict fault in
-    (clear_promises o (merge_set_of certificate) (entries_in certificate.entries) c.in-Err.ensures.admitted c.in-Err.verdict answer e).2
+    (clear_promises o (merge_set_of certificate) (entries_in certificate.entries) c.in-Err.verdict answer e).2
 
 pub returns-in-Err-clause-runs : goal.returns-in-Err-clause-runs
 returns-in-Err-clause-runs c e =
@@ -87,4 +87,4 @@ returns-in-Err-clause-runs c e =
     let certificate = c.args.certificate.now in
     let fault = subst (λ root. IsMergeSetFault o (merge_set root certificate.members) c.in-Err.verdict) c.as_str.ensures c.in-Err.ensures.fault in
     let answer = fault_answers o (merge_set_of certificate) (entries_in certificate.entries) c.in-Err.verdict fault in
-    (clear_promises o (merge_set_of certificate) (entries_in certificate.entries) c.in-Err.ensures.admitted c.in-Err.verdict answer e).3
+    (clear_promises o (merge_set_of certificate) (entries_in certificate.entries) c.in-Err.verdict answer e).3
