@@ -1,9 +1,8 @@
 //! Scenes of members of LIVE or of a kept workspace.
 
 ghost use Rattle.std.specs.Prelude.{◌≡◌, ◌<◌, IfOk, length, map};
-ghost use Rattle.clr_rows.specs.Contents.{row_at};
-ghost use Rattle.clr_rules.specs.Needs.{Holds};
-ghost use Rattle.clr_foot.specs.Scenes.{IsReady, model_of};
+ghost use Rattle.clr_needs.specs.Settings.{DoChange};
+ghost use Rattle.clr_foot.specs.Scenes.{IsReady, model_of, setting_of};
 ghost use Rattle.clr_steps.specs.Quiet.{MergeSet};
 ghost use Rattle.clr_merge_sets.specs.MergeSetNames.{merge_set};
 ghost use Rattle.clr_merge_sets.specs.MergeSets.{AreOfMergeSet, AreParts, IsSceneOf};
