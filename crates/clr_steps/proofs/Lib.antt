@@ -1,3 +1,4 @@
+pub mod ComparedLemmas
 pub mod EffectLemmas
 pub mod ExampleLemmas
 pub mod FindLemmas

@@ -29,7 +29,7 @@ Q o next = BreaksNoMore o.book (row_at o.live) (row_at next.live)
 same_live : (o next : Office) → next.live ≡ o.live → Q o next
 same_live o next e = subst (λ (m : Content). BreaksNoMore o.book (row_at o.live) (row_at m)) (sym e) (λ ask s t kept. kept)
 
-none_there : (book : List Rule) (before content : Content) → broken_where true book before content ≡ None → first_newly_broken book before content ≡ None
+pub none_there : (book : List Rule) (before content : Content) → broken_where true book before content ≡ None → first_newly_broken book before content ≡ None
 none_there book before content = by (first_newly_broken book before content)
   where
     by : (r : Option Broken) → option_map RuleBroken r ≡ None → r ≡ None
