@@ -4,7 +4,7 @@ ghost use Rattle.std.specs.Prelude.{◌≡◌, ◌++◌, length, map, IfOk, OnOk
 ghost use Rattle.std.specs.Option.{option_copied};
 ghost use Rattle.std.specs.Prelude.{slice_get};
 ghost use Rattle.clr_drawing.specs.Palette.{colours_of};
-ghost use Rattle.clr_lines.specs.Verdicts.{member_name};
+ghost use Rattle.clr_member_changes.specs.Names.{member_name};
 ghost use Rattle.clr_map_scenes.specs.Designs.{change_of, changer_of, counts_at, follower, index_of_design, is_among, leaders_of, order_of};
 ghost use Rattle.clr_map_scenes.specs.Designs.{rank_of, sets_of};
 

@@ -1,2 +1,2 @@
 pub mod CauseLemmas
-pub mod DesignLemmas
+pub mod MeetingLemmas

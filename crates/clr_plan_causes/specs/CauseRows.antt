@@ -9,10 +9,11 @@ use Rattle.clr_needs.specs.declared.needs.VersionId.{VersionId}
 use Rattle.clr_steps.specs.Offices.{Office}
 use Rattle.clr_steps.specs.Quiet.{MergeSet}
 use Rattle.clr_clearance.specs.MergeSets.{change_sets}
-use Rattle.clr_plan_sentences.specs.declared.members.Standing.{Standing}
-use Rattle.clr_plan_sentences.specs.declared.members.Standing.TheVariants as standing
+use Rattle.clr_member_changes.specs.declared.standings.Standing.{Standing}
+use Rattle.clr_member_changes.specs.declared.standings.Standing.TheVariants as standing
 use Rattle.clr_plan_sentences.specs.declared.servers.ServerChange.{ServerChange}
-use Rattle.clr_plan_sentences.specs.Versions.{row_in, set_row, standing_of}
+use Rattle.clr_member_changes.specs.Versions.{set_row, standing_of}
+use Rattle.clr_merge_sets.specs.MemberChanges.{row_in}
 use Rattle.clr_map_scenes.specs.declared.shown_causes.CauseRow.{CauseRow}
 
 -- the design that brings, changes or removes a row

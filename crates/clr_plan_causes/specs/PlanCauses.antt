@@ -1,6 +1,7 @@
 -- What the cause of a plan is about.
 use Rattle.std.specs.Prelude.{◌≡◌, ◌∷◌, ℕ, List, [], length, Option, Some, None, string_bytes}
 use Rattle.clr_rows.specs.declared.cells.CellId.{CellId}
+use Rattle.clr_rows.specs.Contents.{Changes}
 use Rattle.clr_rules.specs.declared.rules.Rule.{Rule}
 use Rattle.clr_needs.specs.declared.needs.Need.{Need}
 use Rattle.clr_steps.specs.Offices.{Office}
@@ -8,8 +9,8 @@ use Rattle.clr_steps.specs.Quiet.{MergeSet}
 use Rattle.clr_clearance.specs.declared.verdicts.Verdict.{Verdict}
 use Rattle.clr_clearance.specs.declared.verdicts.Verdict.TheVariants as verdict
 use Rattle.clr_clearance.specs.MergeSets.{change_sets}
-use Rattle.clr_plan.specs.declared.plans.Plan.{Plan}
-use Rattle.clr_plan.specs.declared.plans.Plan.TheVariants as plan
+use Rattle.clr_merge_sets.specs.declared.plans.Plan.{Plan}
+use Rattle.clr_merge_sets.specs.declared.plans.Plan.TheVariants as plan
 use Rattle.clr_plan_sentences.specs.NeedPlaces.{rule_in}
 use Rattle.clr_plan_sentences.specs.Servers.{server_changes}
 use Rattle.clr_map_scenes.specs.declared.shown_causes.Cause.{Cause}
@@ -25,8 +26,8 @@ pub record IsNeedCause (o : Office) (s : MergeSet) (need : Need) (rule : Rule) (
   pub says : string_bytes c.says ≡ badge_words o.schema rule c.mark (length c.goers.items)
 
 -- a cell at which designs meet one another or the root
-pub record IsCellCause (o : Office) (s : MergeSet) (q : CellId) (designs : List ℕ) (words : List ℕ) (c : Cause) : Type 0 where
-  pub rows : c.rows.items ≡ contested_rows (change_sets o s) q designs
+pub record IsCellCause (sets : List Changes) (q : CellId) (designs : List ℕ) (words : List ℕ) (c : Cause) : Type 0 where
+  pub rows : c.rows.items ≡ contested_rows sets q designs
   pub goers : c.goers.items ≡ []
   pub marked : c.mark ≡ ring_at (middle_of_first c.rows.items)
   pub says : string_bytes c.says ≡ words
@@ -41,8 +42,8 @@ IsCauseUnder o s need (Some rule) found = Finds (IsNeedCause o s need rule) foun
 -- a need, a cell that a member and the root change, or one that two members change; no other verdict blocks
 abbrev pub IsVerdictCause : Office → MergeSet → Verdict → Option Cause → Type 0
 IsVerdictCause o s (verdict.Uncovered need) found = IsCauseUnder o s need (rule_in o need) found
-IsVerdictCause o s (verdict.Conflict member q count) found = Finds (IsCellCause o s q (member ∷ []) (conflict_words s.root)) found
-IsVerdictCause o s (verdict.SharedCell q first second) found = Finds (IsCellCause o s q (first ∷ second ∷ []) (shared_words o.schema q)) found
+IsVerdictCause o s (verdict.Conflict member q count) found = Finds (IsCellCause (change_sets o s) q (member ∷ []) (conflict_words s.root)) found
+IsVerdictCause o s (verdict.SharedCell q first second) found = Finds (IsCellCause (change_sets o s) q (first ∷ second ∷ []) (shared_words o.schema q)) found
 IsVerdictCause o s _ found = found ≡ None
 
 -- what the cause of a plan is about; only a blocked plan has one

@@ -5,13 +5,15 @@ ghost use Rattle.std.specs.Option.{option_copied};
 ghost use Rattle.clr_clearance.specs.MergeSets.{change_sets};
 ghost use Rattle.clr_steps.specs.Quiet.{MergeSet};
 ghost use Rattle.clr_plan_sentences.specs.Servers.{server_changes as changes_of_servers};
-ghost use Rattle.clr_plan_sentences.specs.Versions.{AreMembers};
+ghost use Rattle.clr_merge_sets.specs.MemberChanges.{AreMembers};
 ghost use Rattle.clr_plan_causes.specs.CauseRows.{contested_rows, goer_of, goers_among, owner_of, row_of_design, shown_row, subject_rows, version_rows};
 
+use clr_engine::Office;
 use clr_map_scenes::CauseRow;
 use clr_member_changes::{MemberChanges, Standing};
+use clr_merge_sets::row_of_version;
 use clr_needs::{Need, VersionId};
-use clr_plan_sentences::{ServerChange, Setting, server_changes};
+use clr_plan_sentences::{ServerChange, server_changes};
 use clr_rows::{CellId, Row};
 use std::alloc::{AllocError, Global};
 
@@ -31,14 +33,14 @@ fn owner_of(standing: Standing) -> Option<usize>
 /// Adds the row of a version, where it has one.
 fn add_version(
     rows: &mut Vec<CauseRow>,
-    setting: Setting<'_>,
+    office: &Office,
+    members: &MemberChanges<'_>,
     version: VersionId,
 ) -> Result<(), AllocError>
-    ensures { OnOk result ((s : MergeSet) → AreMembers setting.entry.office.now s setting.entry.members.now
-        → rows.new.items ≡ rows.old.items ++ version_rows setting.entry.office.now s version) }
+    ensures { OnOk result ((s : MergeSet) → AreMembers office.now s members.now
+        → rows.new.items ≡ rows.old.items ++ version_rows office.now s version) }
 {
-    let members = setting.members;
-    if let Some(row) = members.row_of(setting.office, version) {
+    if let Some(row) = row_of_version(office, members, version) {
         rows.push(CauseRow {
             cell: version.cell,
             owner: owner_of(members.standing(version)),
@@ -49,14 +51,19 @@ fn add_version(
 }
 
 /// Returns the rows of the subjects of a need.
-pub(crate) fn subjects_of(setting: Setting<'_>, need: &Need) -> Result<Vec<CauseRow>, AllocError>
-    ensures { IfOk result (λ rows. (s : MergeSet) → AreMembers setting.entry.office.now s setting.entry.members.now
-        → rows.items ≡ subject_rows setting.entry.office.now s need.now) }
+pub(crate) fn subjects_of(
+    alloc: Global,
+    office: &Office,
+    members: &MemberChanges<'_>,
+    need: &Need,
+) -> Result<Vec<CauseRow>, AllocError>
+    ensures { IfOk result (λ rows. (s : MergeSet) → AreMembers office.now s members.now
+        → rows.items ≡ subject_rows office.now s need.now) }
 {
-    let mut rows = Vec::new(setting.alloc);
-    add_version(&mut rows, setting, need.first)?;
+    let mut rows = Vec::new(alloc);
+    add_version(&mut rows, office, members, need.first)?;
     if let Some(version) = need.second {
-        add_version(&mut rows, setting, version)?;
+        add_version(&mut rows, office, members, version)?;
     }
     Ok(rows)
 }
@@ -99,12 +106,17 @@ fn goers_among(
 }
 
 /// Returns the rows that served a need and go with a design.
-pub(crate) fn goers_of(setting: Setting<'_>, need: &Need) -> Result<Vec<CauseRow>, AllocError>
-    ensures { IfOk result (λ goers. (s : MergeSet) → AreMembers setting.entry.office.now s setting.entry.members.now
-        → goers.items ≡ goers_among (change_sets setting.entry.office.now s) (changes_of_servers setting.entry.office.now s need.now)) }
+pub(crate) fn goers_of(
+    alloc: Global,
+    office: &Office,
+    members: &MemberChanges<'_>,
+    need: &Need,
+) -> Result<Vec<CauseRow>, AllocError>
+    ensures { IfOk result (λ goers. (s : MergeSet) → AreMembers office.now s members.now
+        → goers.items ≡ goers_among (change_sets office.now s) (changes_of_servers office.now s need.now)) }
 {
-    let changes = server_changes(setting.alloc, setting.office, setting.members, need)?;
-    goers_among(setting.alloc, setting.members, changes.as_slice())
+    let changes = server_changes(alloc, office, members, need)?;
+    goers_among(alloc, members, changes.as_slice())
 }
 
 /// Returns the row that a design has at a cell, or else the one that stood there before.

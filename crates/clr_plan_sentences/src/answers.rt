@@ -1,8 +1,8 @@
 //! What a plan answers, in sentences.
 
 use crate::settings::Setting;
+use clr_merge_sets::Plan;
 use clr_phrases::add_names;
-use clr_plan::Plan;
 use std::alloc::AllocError;
 
 /// Adds in which order a merge is refused.

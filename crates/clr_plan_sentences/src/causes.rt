@@ -1,8 +1,9 @@
 //! The cause of a no in words: its rows, and where they stand.
 
-use crate::members::Standing;
 use crate::settings::Setting;
 use clr_clearance::Verdict;
+use clr_member_changes::Standing;
+use clr_merge_sets::row_of_version;
 use clr_needs::{Need, VersionId};
 use clr_phrases::row_words;
 use clr_rows::{CellId, Row};
@@ -78,7 +79,7 @@ impl Setting<'_> {
 
     /// Adds the row of a version of a cause.
     fn add_version(&self, cause: &mut CauseWords, version: VersionId) -> Result<(), AllocError> {
-        let row = self.members.row_of(self.office, version);
+        let row = row_of_version(self.office, self.members, version);
         self.add_row(cause, version.cell, row, self.members.standing(version))
     }
 

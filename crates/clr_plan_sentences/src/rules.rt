@@ -4,6 +4,7 @@ use crate::causes::CauseWords;
 use crate::need_places::{need_place, rule_of, server_side};
 use crate::servers::{ServerChange, server_changes};
 use crate::settings::Setting;
+use clr_merge_sets::row_of_version;
 use clr_needs::Need;
 use clr_phrases::{At, Meeting, add_names, field_words, rule_sentence, rule_title, side_words};
 use clr_rows::Held;
@@ -82,7 +83,7 @@ impl Setting<'_> {
         subject: &Side,
         columns: &ColumnList,
     ) -> Result<(), AllocError> {
-        let Some(row) = self.members.row_of(self.office, need.first) else {
+        let Some(row) = row_of_version(self.office, self.members, need.first) else {
             return Ok(());
         };
         let held = Held {

@@ -1,7 +1,7 @@
 //! What sentences are made of.
 
-use crate::members::PlannedDesigns;
 use clr_engine::Office;
+use clr_member_changes::MemberChanges;
 use clr_rows::CellId;
 use std::alloc::{AllocError, Global};
 
@@ -10,7 +10,7 @@ use std::alloc::{AllocError, Global};
 pub struct Setting<'a> {
     pub alloc: Global,
     pub office: &'a Office,
-    pub members: &'a PlannedDesigns<'a>,
+    pub members: &'a MemberChanges<'a>,
 }
 
 impl Setting<'_> {

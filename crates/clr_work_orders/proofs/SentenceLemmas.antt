@@ -5,8 +5,8 @@ use Rattle.clr_steps.specs.Offices.{Office}
 use Rattle.clr_steps.specs.Quiet.{MergeSet}
 use Rattle.clr_clearance.specs.MergeSets.{change_sets}
 use Rattle.clr_cert.specs.declared.certificates.Certificate.{Certificate}
-use Rattle.clr_plan.specs.declared.plans.Plan.{Plan}
-use Rattle.clr_plan.specs.declared.plans.Plan.TheVariants as plan
+use Rattle.clr_merge_sets.specs.declared.plans.Plan.{Plan}
+use Rattle.clr_merge_sets.specs.declared.plans.Plan.TheVariants as plan
 use Rattle.clr_work_orders.specs.Sentences.{IsSentences, cleared_details, verdict_text}
 
 pub begun : (o : Office) (s : MergeSet) (p : Plan) (text rest : List ℕ) → ((c : Certificate) → p ≡ plan.Cleared c → ⊥) → text ≡ verdict_text p ++ rest

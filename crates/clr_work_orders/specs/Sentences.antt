@@ -7,11 +7,11 @@ use Rattle.clr_workspaces.specs.Marks.{Name}
 use Rattle.clr_steps.specs.Offices.{Office}
 use Rattle.clr_steps.specs.Quiet.{MergeSet}
 use Rattle.clr_clearance.specs.MergeSets.{change_sets}
-use Rattle.clr_lines.specs.Verdicts.{member_name}
-use Rattle.clr_plan.specs.declared.plans.Plan.{Plan}
-use Rattle.clr_plan.specs.declared.plans.Plan.TheVariants as plan
-use Rattle.clr_plan_sentences.specs.declared.changes.Counts.{Counts}
-use Rattle.clr_plan_sentences.specs.Counts.{counts_of}
+use Rattle.clr_member_changes.specs.Names.{member_name}
+use Rattle.clr_merge_sets.specs.declared.plans.Plan.{Plan}
+use Rattle.clr_merge_sets.specs.declared.plans.Plan.TheVariants as plan
+use Rattle.clr_member_changes.specs.declared.counts.Counts.{Counts}
+use Rattle.clr_member_changes.specs.Counts.{counts_of}
 
 -- the first words of a plan
 abbrev pub verdict_text : Plan → List ℕ

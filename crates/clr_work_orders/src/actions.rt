@@ -5,7 +5,7 @@ ghost use Rattle.clr_work_orders.specs.Actions.{action_text, brought_text, edit_
 ghost use Rattle.clr_work_orders.specs.Labels.{cell_label};
 
 use clr_change::Edit;
-use clr_lines::member_name;
+use clr_member_changes::member_name;
 use clr_phrases::At;
 use clr_rows::{CellId, Schema, Shape, Words};
 use std::alloc::{AllocError, Global};

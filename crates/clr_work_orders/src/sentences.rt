@@ -2,7 +2,7 @@
 
 ghost use Rattle.std.specs.Prelude.{◌≡◌, ◌++◌, ℕ, IfOk, List, OnOk, map, string_bytes};
 ghost use Rattle.clr_merge_sets.specs.MergeSetNames.{merge_set};
-ghost use Rattle.clr_plan_sentences.specs.Versions.{AreMembers};
+ghost use Rattle.clr_merge_sets.specs.MemberChanges.{AreMembers};
 ghost use Rattle.clr_work_orders.specs.Labels.{set_of};
 ghost use Rattle.clr_work_orders.specs.Sentences.{IsSentences, cleared_details, counts_text, member_line, members_text, more_text};
 ghost use Rattle.clr_work_orders.specs.Sentences.{needs_text, some_needs_text, verdict_text};
@@ -11,8 +11,10 @@ use clr_cert::Entry;
 use clr_change::ChangeSet;
 use clr_clearance::Verdict;
 use clr_engine::Office;
+use clr_member_changes::{Counts, MemberChanges, count_rows};
+use clr_merge_sets::read_member_changes;
 use clr_plan::Plan;
-use clr_plan_sentences::{Counts, PlannedDesigns, Setting, answer_words, count_rows};
+use clr_plan_sentences::{Setting, answer_words};
 use std::alloc::{AllocError, Global};
 
 /// How many needs of a certificate are told one by one.
@@ -54,7 +56,7 @@ fn add_counts(text: &mut String, counts: Counts) -> Result<(), AllocError>
 /// Adds what a member changes, on a line.
 fn add_member(
     text: &mut String,
-    members: &PlannedDesigns<'_>,
+    members: &MemberChanges<'_>,
     at: usize,
     set: &ChangeSet,
 ) -> Result<(), AllocError>
@@ -68,7 +70,7 @@ fn add_member(
 }
 
 /// Adds what each member changes, a line each.
-fn add_members(text: &mut String, members: &PlannedDesigns<'_>) -> Result<(), AllocError>
+fn add_members(text: &mut String, members: &MemberChanges<'_>) -> Result<(), AllocError>
     ensures { OnOk result (string_bytes text.new ≡ string_bytes text.old ++ members_text (set_of members.now).members members.now.changes.items) }
 {
     let sets = members.changes.as_slice();
@@ -134,7 +136,7 @@ fn add_needs(text: &mut String, lines: &str, count: usize) -> Result<(), AllocEr
 /// Adds what each member changes, and what serves the needs; nothing where there are no members.
 fn add_cleared(
     text: &mut String,
-    members: &PlannedDesigns<'_>,
+    members: &MemberChanges<'_>,
     lines: &str,
     count: usize,
 ) -> Result<(), AllocError>
@@ -207,7 +209,7 @@ pub(crate) fn plan_sentences(
 ) -> Result<String, AllocError>
     ensures { IfOk result (λ text. IsSentences office.now (merge_set root.now (map (λ name. name.now) names.now)) plan.now (string_bytes text)) }
 {
-    let members = PlannedDesigns::read(alloc, office, root, names)?;
+    let members = read_member_changes(alloc, office, root, names)?;
     let setting = Setting {
         alloc,
         office,
