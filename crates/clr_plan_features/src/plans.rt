@@ -11,8 +11,8 @@ use crate::standing::add_standing;
 use clr_engine::Office;
 use clr_geojson::{begin_collection, end_collection};
 use clr_plan::Plan;
-use clr_plan_sentences::PlannedDesigns;
 use clr_rows::Sheet;
+use clr_serving_rows::PlannedDesigns;
 use std::alloc::{AllocError, Global};
 
 /// Returns the rows of a root, and none where it doesn't stand.

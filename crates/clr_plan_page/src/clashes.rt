@@ -12,7 +12,8 @@ use clr_clearance::Verdict;
 use clr_html::{Block, Table, TableRow};
 use clr_merge_clashes::{MergeClash, MergeClashes, merge_clashes, names_at};
 use clr_phrases::add_names;
-use clr_plan_sentences::{PlannedDesigns, Setting};
+use clr_plan_sentences::Setting;
+use clr_serving_rows::PlannedDesigns;
 use std::alloc::{AllocError, Global};
 
 /// Returns names with commas between them.

@@ -19,8 +19,9 @@ use clr_engine::Office;
 use clr_html::{HtmlPage, Section, write_page};
 use clr_plan::Plan;
 use clr_plan_map::plan_map;
-use clr_plan_sentences::{PlannedDesigns, Setting, answer_words};
+use clr_plan_sentences::{Setting, answer_words};
 use clr_rows::Schema;
+use clr_serving_rows::PlannedDesigns;
 use clr_work_orders::{Trial, try_remedies};
 use std::alloc::{AllocError, Global};
 

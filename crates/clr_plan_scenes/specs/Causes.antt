@@ -23,12 +23,12 @@ use Rattle.clr_plan.specs.declared.plans.Plan.TheVariants as plan
 use Rattle.clr_drawing.specs.Paths.{middle_place}
 use Rattle.clr_phrases.specs.declared.meetings.Meeting.{Meeting}
 use Rattle.clr_phrases.specs.declared.meetings.Meeting.TheVariants as meeting
-use Rattle.clr_plan_sentences.specs.declared.members.Standing.{Standing}
-use Rattle.clr_plan_sentences.specs.declared.members.Standing.TheVariants as standing
-use Rattle.clr_plan_sentences.specs.declared.servers.ServerChange.{ServerChange}
-use Rattle.clr_plan_sentences.specs.NeedPlaces.{IsPlaceIn, rule_in}
-use Rattle.clr_plan_sentences.specs.Servers.{server_changes}
-use Rattle.clr_plan_sentences.specs.Versions.{row_in, set_row, standing_of}
+use Rattle.clr_serving_rows.specs.declared.members.Standing.{Standing}
+use Rattle.clr_serving_rows.specs.declared.members.Standing.TheVariants as standing
+use Rattle.clr_serving_rows.specs.declared.servers.ServerChange.{ServerChange}
+use Rattle.clr_serving_rows.specs.NeedPlaces.{IsPlaceIn, rule_in}
+use Rattle.clr_serving_rows.specs.Servers.{server_changes}
+use Rattle.clr_serving_rows.specs.Versions.{row_in, set_row, standing_of}
 use Rattle.clr_plan_scenes.specs.declared.causes.Cause.{Cause}
 use Rattle.clr_plan_scenes.specs.declared.causes.CauseRow.{CauseRow}
 use Rattle.clr_plan_scenes.specs.declared.causes.Mark.{Mark}

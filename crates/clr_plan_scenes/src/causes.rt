@@ -5,9 +5,9 @@ ghost use Rattle.std.specs.Fmt.{signed_decimal};
 ghost use Rattle.std.specs.Option.{option_copied};
 ghost use Rattle.clr_clearance.specs.MergeSets.{change_sets};
 ghost use Rattle.clr_steps.specs.Quiet.{MergeSet};
-ghost use Rattle.clr_plan_sentences.specs.NeedPlaces.{rule_in};
-ghost use Rattle.clr_plan_sentences.specs.Servers.{server_changes as changes_of_servers};
-ghost use Rattle.clr_plan_sentences.specs.Versions.{AreMembers};
+ghost use Rattle.clr_serving_rows.specs.NeedPlaces.{rule_in};
+ghost use Rattle.clr_serving_rows.specs.Servers.{server_changes as changes_of_servers};
+ghost use Rattle.clr_serving_rows.specs.Versions.{AreMembers};
 ghost use Rattle.clr_plan_scenes.specs.Causes.{contested_rows, goer_of, goers_among, middle_of_first, owner_of, ring_at, row_of_design, shown_row};
 ghost use Rattle.clr_plan_scenes.specs.Causes.{Finds, IsCauseOf, IsCauseUnder, IsCellCause, IsMark, IsRing, IsVerdictCause, conflict_words, shared_words};
 ghost use Rattle.clr_plan_scenes.specs.Causes.{subject_rows, version_rows};
@@ -20,9 +20,9 @@ use crate::places::{CausePlace, middle_of_first, place_of_need};
 use clr_clearance::Verdict;
 use clr_needs::{Need, VersionId};
 use clr_plan::Plan;
-use clr_plan_sentences::{ServerChange, Standing, rule_of, server_changes};
 use clr_rows::{CellId, Row, Schema};
 use clr_rules::Rule;
+use clr_serving_rows::{ServerChange, Standing, rule_of, server_changes};
 use std::alloc::{AllocError, Global};
 
 /// A row that a cause names, and the design that lays, changes or removes it, if one does.

@@ -6,15 +6,15 @@ ghost use Rattle.std.specs.Prelude.{slice_get};
 ghost use Rattle.clr_drawing.specs.Palette.{colours_of};
 ghost use Rattle.clr_steps.specs.Quiet.{MergeSet};
 ghost use Rattle.clr_lines.specs.Verdicts.{member_name};
-ghost use Rattle.clr_plan_sentences.specs.Versions.{AreMembers};
+ghost use Rattle.clr_serving_rows.specs.Versions.{AreMembers};
 ghost use Rattle.clr_plan_scenes.specs.Designs.{change_of, changer_of, counts_at, follower, index_of_design, is_among, leaders_of, order_of};
 ghost use Rattle.clr_plan_scenes.specs.Designs.{rank_of, sets_of};
 
 use clr_change::ChangeSet;
 use clr_drawing::{DesignColours, design_colours};
 use clr_engine::Office;
-use clr_plan_sentences::{Counts, PlannedDesigns, count_rows};
 use clr_rows::{CellId, Change};
+use clr_serving_rows::{Counts, PlannedDesigns, count_rows};
 use std::alloc::{AllocError, Global};
 
 /// The designs by position, with what each changes, and the order in which they are told: those that a cause names first.

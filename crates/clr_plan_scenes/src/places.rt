@@ -2,7 +2,7 @@
 
 ghost use Rattle.std.specs.Prelude.{◌≡◌};
 ghost use Rattle.clr_steps.specs.Quiet.{MergeSet};
-ghost use Rattle.clr_plan_sentences.specs.Versions.{AreMembers};
+ghost use Rattle.clr_serving_rows.specs.Versions.{AreMembers};
 ghost use Rattle.clr_plan_scenes.specs.Causes.{IsMeetingPlace, IsNear, IsNeedPlace, middle_of_first};
 
 use crate::causes::CauseRow;
@@ -10,9 +10,9 @@ use crate::fields::Field;
 use clr_drawing::middle_of;
 use clr_needs::Need;
 use clr_phrases::Meeting;
-use clr_plan_sentences::need_place;
 use clr_rows::Place;
 use clr_segments::part;
+use clr_serving_rows::need_place;
 
 /// Where a cause is.
 #[derive(Clone, Copy)]

@@ -5,26 +5,24 @@
 //! - `rule_of`, `need_place`: the rule of a need, and where a row that serves it would have to stand; a place where rows meet lies on both parts.
 //! - `server_changes`: exactly the changes of members that bring a row which serves a need, or take one away, in order.
 //! - `count_rows`: exactly how many rows a change set adds, changes and removes.
-//! - Which words stand for what is tested.
-//! - `Setting` tells what an office and members are about.
+//! - `answer_words`, `Setting::cause_words`, `Setting::need_words`, `Setting::cell_label`: each text is exactly the one that a definition
+//!   prescribes, memory aside: what a plan answers, the cause of a no with its rows, a need with what serves it until when, and a cell.
 #![tactic(auto)]
 
 mod answers;
-mod causes;
-mod changes;
-mod members;
-mod need_places;
-mod needs;
-mod rules;
-mod servers;
+mod cause_sentences;
+mod labels;
+mod need_causes;
+mod sentences;
+mod served_needs;
+mod server_words;
 mod settings;
+mod told_rows;
 mod unfit;
 
 pub use answers::answer_words;
-pub use causes::{CauseWords, RowWords};
-pub use changes::{Counts, count_rows};
-pub use members::{PlannedDesigns, Standing};
-pub use need_places::{need_place, rule_of, server_side};
-pub use needs::NeedWords;
-pub use servers::{ServerChange, server_changes};
+pub use labels::add_label;
+pub use sentences::plan_sentences;
+pub use served_needs::NeedWords;
 pub use settings::Setting;
+pub use told_rows::{CauseWords, RowWords};

@@ -3,14 +3,14 @@
 ghost use Rattle.std.specs.Prelude.{◌≡◌, ◌++◌, IfOk, OnOk};
 ghost use Rattle.std.specs.List.{flat_map};
 ghost use Rattle.std.specs.Option.{option_copied};
-ghost use Rattle.clr_plan_sentences.specs.Versions.{set_row};
+ghost use Rattle.clr_serving_rows.specs.Versions.{set_row};
 ghost use Rattle.clr_work_orders.specs.Remedies.{giving_up, giving_up_any, keeping, undoing, undoing_edit};
 
 use crate::actions::Action;
 use clr_change::Edit;
 use clr_needs::VersionId;
-use clr_plan_sentences::{PlannedDesigns, ServerChange};
 use clr_rows::{CellId, Row};
+use clr_serving_rows::{PlannedDesigns, ServerChange};
 use std::alloc::AllocError;
 
 /// Returns the edit by which a cell has again the row that was taken over, where it has a row then or now.

@@ -1,0 +1,4 @@
+pub mod Counts
+pub mod NeedPlaces
+pub mod Servers
+pub mod Versions
