@@ -21,10 +21,11 @@ use Rattle.clr_clearance.proofs.StaticLemmas.{keeps_rules}
 use Rattle.clr_merge_sets.specs.Certificates.{entries_in}
 use Rattle.clr_merge_sets.specs.MergeSetNames.{merge_set}
 use Rattle.clr_merge_sets.proofs.MergeSetLemmas.{names_free}
-use Rattle.clr_plan.specs.declared.plans.Plan.{Plan}
-use Rattle.clr_plan.specs.declared.plans.Plan.TheVariants as plan
+use Rattle.clr_merge_sets.specs.declared.plans.Plan.{Plan}
+use Rattle.clr_merge_sets.specs.declared.plans.Plan.TheVariants as plan
 use Rattle.clr_plan.specs.Plans.{IsPlan}
-use Rattle.clr_plan.specs.Promises.{Promises, is_cleared, is_out_of_memory}
+use Rattle.clr_merge_sets.specs.Plans.{is_cleared, is_out_of_memory}
+use Rattle.clr_plan.specs.Promises.{Promises}
 use Rattle.clr_choices.specs.Clearable.{AreClearable, PartsStayClearable, PlansTellClearable}
 
 module _ (o : Office) (s : MergeSet) where

@@ -7,10 +7,11 @@ use Rattle.clr_clearance.specs.Safety.{Safe}
 use Rattle.clr_clearance.specs.MergeSets.{AreMergeable, KeepsRules}
 use Rattle.clr_clearance.specs.Verdicts.{names_fault, repeated_member}
 use Rattle.clr_merge_sets.specs.MergeSetNames.{merge_set}
-use Rattle.clr_plan.specs.declared.plans.Plan.{Plan}
+use Rattle.clr_merge_sets.specs.declared.plans.Plan.{Plan}
 use Rattle.clr_plan.specs.Certificates.{IsReadableWhereCleared}
 use Rattle.clr_plan.specs.Plans.{IsPlan}
-use Rattle.clr_plan.specs.Promises.{IsExact, Promises, StaysCleared, is_cleared, is_out_of_memory}
+use Rattle.clr_merge_sets.specs.Plans.{is_cleared, is_out_of_memory}
+use Rattle.clr_plan.specs.Promises.{IsExact, Promises, StaysCleared}
 
 -- no test of names fails; the members are mergeable, and every rule holds whichever of them are merged; they are safe; and each plan of them for which
 -- memory was found is cleared

@@ -1,6 +1,6 @@
 -- The names of designs in a heading.
 use Rattle.std.specs.Prelude.{ℕ, ◌-◌, min, List, [], ◌∷◌, ◌++◌, codes, decimal, flat_map, length, map, nat_le, take, if◌then◌else◌}
-use Rattle.clr_lines.specs.Verdicts.{member_name}
+use Rattle.clr_member_changes.specs.Names.{member_name}
 use Rattle.clr_plan_scenes.specs.declared.designs.Designs.{Designs}
 use Rattle.clr_plan_scenes.specs.Designs.{leaders_of}
 

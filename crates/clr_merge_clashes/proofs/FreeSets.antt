@@ -17,10 +17,10 @@ use Rattle.clr_clearance.specs.Verdicts.{member_fault}
 use Rattle.clr_clearance.proofs.ClearLemmas.{no_member_fault}
 use Rattle.clr_clearance.proofs.StaticLemmas.{apart_sets}
 use Rattle.clr_merge_sets.specs.MergeSetNames.{merge_set}
-use Rattle.clr_plan.specs.declared.plans.Plan.{Plan}
-use Rattle.clr_plan.specs.declared.plans.Plan.TheVariants as plan
+use Rattle.clr_merge_sets.specs.declared.plans.Plan.{Plan}
+use Rattle.clr_merge_sets.specs.declared.plans.Plan.TheVariants as plan
 use Rattle.clr_plan.specs.Plans.{IsPlan}
-use Rattle.clr_plan.specs.Promises.{is_cleared, is_out_of_memory}
+use Rattle.clr_merge_sets.specs.Plans.{is_cleared, is_out_of_memory}
 use Rattle.clr_clashes.specs.Clashes.{LeavesNoneUncovered}
 use Rattle.clr_clashes.specs.Laws.{ClashesDecideSubsets, ListedClashesDecideSubsets}
 use Rattle.clr_clashes.specs.ListedClashes.{AreSmallestClashes, HoldNoneOf, ListedClash}

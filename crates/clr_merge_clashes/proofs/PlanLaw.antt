@@ -29,10 +29,10 @@ use Rattle.clr_clearance.proofs.PickLemmas.{picked_cover, unpicked_is_uncovered}
 use Rattle.clr_clearance.proofs.StaticLemmas.{apart_sets}
 use Rattle.clr_merge_sets.specs.Certificates.{entries_in}
 use Rattle.clr_merge_sets.proofs.MergeSetLemmas.{names_free}
-use Rattle.clr_plan.specs.declared.plans.Plan.{Plan}
-use Rattle.clr_plan.specs.declared.plans.Plan.TheVariants as plan
+use Rattle.clr_merge_sets.specs.declared.plans.Plan.{Plan}
+use Rattle.clr_merge_sets.specs.declared.plans.Plan.TheVariants as plan
 use Rattle.clr_plan.specs.Plans.{IsPlan}
-use Rattle.clr_plan.specs.Promises.{is_cleared, is_out_of_memory}
+use Rattle.clr_merge_sets.specs.Plans.{is_cleared, is_out_of_memory}
 use Rattle.clr_clashes.specs.Clashes.{LeavesNoneUncovered}
 use Rattle.clr_clashes.specs.Laws.{ListedClashesDecideSubsets}
 use Rattle.clr_merge_clashes.specs.Laws.{ClashesDecidePlans, merge_set_of_part}

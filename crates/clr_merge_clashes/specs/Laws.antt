@@ -10,9 +10,9 @@ use Rattle.clr_clearance.specs.Plans.{members_at}
 use Rattle.clr_clearance.specs.MergeSets.{RootHolds, change_sets, setting_by_position}
 use Rattle.clr_clearance.specs.Verdicts.{member_fault}
 use Rattle.clr_merge_sets.specs.MergeSetNames.{merge_set}
-use Rattle.clr_plan.specs.declared.plans.Plan.{Plan}
+use Rattle.clr_merge_sets.specs.declared.plans.Plan.{Plan}
 use Rattle.clr_plan.specs.Plans.{IsPlan}
-use Rattle.clr_plan.specs.Promises.{is_cleared, is_out_of_memory}
+use Rattle.clr_merge_sets.specs.Plans.{is_cleared, is_out_of_memory}
 use Rattle.clr_clashes.specs.Clashes.{IsAllIn}
 use Rattle.clr_clashes.specs.ListedClashes.{AreSmallestClashes, HoldNoneOf, ListedClash}
 use Rattle.clr_merge_clashes.specs.MergeClashes.{FindsClashes}

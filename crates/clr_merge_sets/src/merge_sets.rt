@@ -16,6 +16,7 @@ ghost use Rattle.clr_merge_sets.specs.Faults.{IsMergeSetFault};
 ghost use Rattle.clr_merge_sets.specs.MergeSetNames.{merge_set};
 ghost use Rattle.clr_merge_sets.specs.MergeSets.{AreOfMergeSet, AreParts, AreRowsAbove, IsSceneOf};
 
+use crate::member_changes::changes;
 use crate::merge_set_parts::MergeSetParts;
 use crate::name_lists::NameList;
 use crate::name_tests::name_fault;
@@ -27,16 +28,6 @@ use clr_grid::SpotIndex;
 use clr_needs::SceneFault;
 use clr_tree::View;
 use std::alloc::{AllocError, Global};
-
-/// Returns what a workspace changed, and nothing where there is none.
-fn changes(alloc: Global, office: &Office, name: &str) -> Result<ChangeSet, AllocError>
-    ensures { IfOk result (λ set. set ≡ changes_in office.now name.now) }
-{
-    match office.changes(name)? {
-        Some(set) => Ok(set),
-        None => Ok(ChangeSet::new(alloc)),
-    }
-}
 
 /// Returns the rows of a root that is kept as the office shows them, and the office's finder of
 /// them.

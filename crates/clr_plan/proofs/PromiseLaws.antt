@@ -18,11 +18,12 @@ use Rattle.clr_clearance.proofs.ClearLemmas.{clear_law}
 use Rattle.clr_clearance.proofs.HeadlineLemmas.{headline}
 use Rattle.clr_clearance.proofs.LastingLemmas.{lasting_reordered}
 use Rattle.clr_clearance.proofs.PlanLemmas as plans
-use Rattle.clr_plan.specs.declared.plans.Plan.{Plan}
-use Rattle.clr_plan.specs.declared.plans.Plan.TheVariants as plan
+use Rattle.clr_merge_sets.specs.declared.plans.Plan.{Plan}
+use Rattle.clr_merge_sets.specs.declared.plans.Plan.TheVariants as plan
 use Rattle.clr_merge_sets.specs.Certificates.{entries_in}
 use Rattle.clr_plan.specs.Plans.{IsPlan}
-use Rattle.clr_plan.specs.Promises.{IsExact, IsUnfitWhere, Promises, StaysCleared, is_cleared, is_out_of_memory}
+use Rattle.clr_merge_sets.specs.Plans.{is_cleared, is_out_of_memory}
+use Rattle.clr_plan.specs.Promises.{IsExact, IsUnfitWhere, Promises, StaysCleared}
 use Rattle.clr_plan.proofs.FaultLaws.{no_name_fault}
 
 not_found : (v : Verdict) → None ≡ Some v → ⊥

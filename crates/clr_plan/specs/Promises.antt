@@ -15,8 +15,9 @@ use Rattle.clr_clearance.specs.Safety.{Safe}
 use Rattle.clr_clearance.specs.MergeSets.{Covers, RootHolds}
 use Rattle.clr_clearance.specs.Verdicts.{IsVerdict, names_fault, repeated_member}
 use Rattle.clr_merge_sets.specs.Certificates.{entries_in, merge_set_of}
-use Rattle.clr_plan.specs.declared.plans.Plan.{Plan}
-use Rattle.clr_plan.specs.declared.plans.Plan.TheVariants as plan
+use Rattle.clr_merge_sets.specs.Plans.{is_cleared, is_out_of_memory}
+use Rattle.clr_merge_sets.specs.declared.plans.Plan.{Plan}
+use Rattle.clr_merge_sets.specs.declared.plans.Plan.TheVariants as plan
 
 -- the certificate covers the members as they are given, so that the verdict on it is clear; and they are safe, as the headline says
 pub record IsProof (o : Office) (s : MergeSet) (c : Certificate) : Type 0 where
@@ -36,18 +37,6 @@ Promises o s (plan.Cleared c) = IsProof o s c
 Promises o s (plan.Blocked order cause) = IsRefusedOrder o s order.items
 Promises o s (plan.Unfit v) = Unit {0}
 Promises o s plan.OutOfMemory = Unit {0}
-
-abbrev pub is_cleared : Plan → Bool
-is_cleared (plan.Cleared c) = true
-is_cleared (plan.Blocked order cause) = false
-is_cleared (plan.Unfit v) = false
-is_cleared plan.OutOfMemory = false
-
-abbrev pub is_out_of_memory : Plan → Bool
-is_out_of_memory (plan.Cleared c) = false
-is_out_of_memory (plan.Blocked order cause) = false
-is_out_of_memory (plan.Unfit v) = false
-is_out_of_memory plan.OutOfMemory = true
 
 -- where no test of names fails and memory was found, the plan is cleared exactly where the members are safe
 abbrev pub IsExact : Office → MergeSet → Plan → Type 0

@@ -8,10 +8,9 @@ ghost use Rattle.clr_plan.specs.Plans.{IsPlan};
 ghost use Rattle.clr_plan.specs.Promises.{IsExact, IsUnfitWhere, Promises, StaysCleared};
 
 use crate::faults::{plan_fault, plan_shared};
-use crate::plans::Plan;
 use crate::scene_plans::plan_scene;
 use clr_engine::Office;
-use clr_merge_sets::{MergeSetParts, read_merge_set};
+use clr_merge_sets::{MergeSetParts, Plan, read_merge_set};
 use std::alloc::Global;
 
 /// Returns the plan that the parts of a merge set decide.

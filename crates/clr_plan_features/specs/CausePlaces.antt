@@ -6,7 +6,7 @@ use Rattle.clr_rows.specs.declared.places.Shape.{Shape}
 use Rattle.clr_rows.specs.declared.places.Shape.TheVariants.{Bare, At, Line, Chain}
 use Rattle.clr_steps.specs.Offices.{Office}
 use Rattle.clr_steps.specs.Quiet.{MergeSet}
-use Rattle.clr_plan.specs.declared.plans.Plan.{Plan}
+use Rattle.clr_merge_sets.specs.declared.plans.Plan.{Plan}
 use Rattle.clr_drawing.specs.Paths.{middle_place}
 use Rattle.clr_plan_scenes.specs.declared.causes.Cause.{Cause}
 use Rattle.clr_plan_scenes.specs.declared.causes.CauseRow.{CauseRow}

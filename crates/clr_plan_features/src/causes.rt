@@ -4,8 +4,8 @@ ghost use Rattle.std.specs.Prelude.{◌≡◌, ◌∷◌, IfOk};
 ghost use Rattle.clr_plan_features.specs.PlanFeatures.{cause_cells, cells_of_verdict, second_cell};
 
 use clr_clearance::Verdict;
+use clr_merge_sets::Plan;
 use clr_needs::Need;
-use clr_plan::Plan;
 use clr_rows::CellId;
 use std::alloc::{AllocError, Global};
 

@@ -10,7 +10,7 @@ ghost use Rattle.clr_plan_features.specs.PlanFeatures.{place_feature, place_feat
 use clr_drawing::middle_of;
 use clr_engine::Office;
 use clr_geojson::{Feature, Properties, Property, add_feature};
-use clr_plan::Plan;
+use clr_merge_sets::Plan;
 use clr_plan_scenes::{Cause, CauseRow, Designs, Field, Mark, cause_of};
 use clr_rows::{Place, Shape, Sheet, Words};
 use std::alloc::{AllocError, Global};

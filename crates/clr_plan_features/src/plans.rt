@@ -10,9 +10,8 @@ use crate::places::{add_place, place_of_plan};
 use crate::standing::add_standing;
 use clr_engine::Office;
 use clr_geojson::{begin_collection, end_collection};
-use clr_plan::Plan;
+use clr_merge_sets::{Plan, read_member_changes};
 use clr_rows::Sheet;
-use clr_serving_rows::PlannedDesigns;
 use std::alloc::{AllocError, Global};
 
 /// Returns the rows of a root, and none where it doesn't stand.
@@ -40,7 +39,7 @@ pub fn plan_features(
     ensures { IfOk result (λ text. AreFeatures office.now (merge_set root.now (map (λ name. name.now) members.now)) plan.now system text.items) }
 {
     let rows = rows_of(alloc, office, root)?;
-    let designs = PlannedDesigns::read(alloc, office, root, members)?;
+    let designs = read_member_changes(alloc, office, root, members)?;
     let sets = designs.changes.as_slice();
     let causes = cause_cells(alloc, plan)?;
     let causes = causes.as_slice();

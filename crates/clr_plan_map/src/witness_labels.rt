@@ -4,7 +4,7 @@ use crate::anchors::anchors_of;
 use crate::chips::{Look, add_label};
 use clr_cert::Entry;
 use clr_drawing::{Labels, SOFT, Sketch};
-use clr_plan::Plan;
+use clr_merge_sets::{Plan, row_of_version};
 use clr_plan_scenes::MapScene;
 use clr_rows::CellId;
 use clr_svg::Pixels;
@@ -39,7 +39,7 @@ fn add_witness_label(
     entry: &Entry,
 ) -> Result<(), AllocError> {
     let field = scene.field;
-    let Some(row) = field.designs.members.row_of(field.office, entry.one) else {
+    let Some(row) = row_of_version(field.office, &field.designs.members, entry.one) else {
         return Ok(());
     };
     let anchors = anchors_of(scene, row, None)?;

@@ -11,9 +11,9 @@ use crate::sections::{Builder, row_of, table_of};
 use clr_clearance::Verdict;
 use clr_html::{Block, Table, TableRow};
 use clr_merge_clashes::{MergeClash, MergeClashes, merge_clashes, names_at};
+use clr_merge_sets::read_member_changes;
 use clr_phrases::add_names;
 use clr_plan_sentences::Setting;
-use clr_serving_rows::PlannedDesigns;
 use std::alloc::{AllocError, Global};
 
 /// Returns names with commas between them.
@@ -31,7 +31,7 @@ fn clash_row(setting: Setting<'_>, clash: &MergeClash) -> Result<TableRow, Alloc
 {
     let alloc = setting.alloc;
     let names = names_at(alloc, setting.members.names, clash.members.as_slice())?;
-    let members = PlannedDesigns::read(
+    let members = read_member_changes(
         alloc,
         setting.office,
         setting.members.root,

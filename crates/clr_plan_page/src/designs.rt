@@ -7,10 +7,10 @@ use crate::sections::{Builder, plain_text, row_of, table_of};
 use clr_change::ChangeSet;
 use clr_drawing::design_colours;
 use clr_html::{Block, Fold, InlineText, Table, TableRow};
+use clr_member_changes::count_rows;
 use clr_phrases::row_words;
 use clr_plan_sentences::Setting;
 use clr_rows::{CellId, Change, Row};
-use clr_serving_rows::count_rows;
 use clr_svg::Colour;
 use std::alloc::AllocError;
 

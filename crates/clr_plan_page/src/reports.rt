@@ -17,11 +17,11 @@ use crate::remedies::add_remedies;
 use crate::sections::Builder;
 use clr_engine::Office;
 use clr_html::{HtmlPage, Section, write_page};
+use clr_merge_sets::read_member_changes;
 use clr_plan::Plan;
 use clr_plan_map::plan_map;
 use clr_plan_sentences::{Setting, answer_words};
 use clr_rows::Schema;
-use clr_serving_rows::PlannedDesigns;
 use clr_work_orders::{Trial, try_remedies};
 use std::alloc::{AllocError, Global};
 
@@ -90,7 +90,7 @@ fn sections_between(
 ) -> Result<Vec<Section>, AllocError>
     ensures { IfOk result (λ sections. AreBetween office.now (merge_set root.now (map (λ name. name.now) members.now)) plan.now trials.now sections.items) }
 {
-    let changes = PlannedDesigns::read(alloc, office, root, members)?;
+    let changes = read_member_changes(alloc, office, root, members)?;
     let setting = Setting {
         alloc,
         office,

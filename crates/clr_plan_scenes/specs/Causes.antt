@@ -18,17 +18,18 @@ use Rattle.clr_steps.specs.Quiet.{MergeSet}
 use Rattle.clr_clearance.specs.declared.verdicts.Verdict.{Verdict}
 use Rattle.clr_clearance.specs.declared.verdicts.Verdict.TheVariants as verdict
 use Rattle.clr_clearance.specs.MergeSets.{change_sets}
-use Rattle.clr_plan.specs.declared.plans.Plan.{Plan}
-use Rattle.clr_plan.specs.declared.plans.Plan.TheVariants as plan
+use Rattle.clr_merge_sets.specs.declared.plans.Plan.{Plan}
+use Rattle.clr_merge_sets.specs.declared.plans.Plan.TheVariants as plan
 use Rattle.clr_drawing.specs.Paths.{middle_place}
 use Rattle.clr_phrases.specs.declared.meetings.Meeting.{Meeting}
 use Rattle.clr_phrases.specs.declared.meetings.Meeting.TheVariants as meeting
-use Rattle.clr_serving_rows.specs.declared.members.Standing.{Standing}
-use Rattle.clr_serving_rows.specs.declared.members.Standing.TheVariants as standing
+use Rattle.clr_member_changes.specs.declared.standings.Standing.{Standing}
+use Rattle.clr_member_changes.specs.declared.standings.Standing.TheVariants as standing
 use Rattle.clr_serving_rows.specs.declared.servers.ServerChange.{ServerChange}
 use Rattle.clr_serving_rows.specs.NeedPlaces.{IsPlaceIn, rule_in}
 use Rattle.clr_serving_rows.specs.Servers.{server_changes}
-use Rattle.clr_serving_rows.specs.Versions.{row_in, set_row, standing_of}
+use Rattle.clr_member_changes.specs.Versions.{set_row, standing_of}
+use Rattle.clr_merge_sets.specs.MemberChanges.{row_in}
 use Rattle.clr_plan_scenes.specs.declared.causes.Cause.{Cause}
 use Rattle.clr_plan_scenes.specs.declared.causes.CauseRow.{CauseRow}
 use Rattle.clr_plan_scenes.specs.declared.causes.Mark.{Mark}

@@ -8,8 +8,8 @@ use Rattle.clr_rows.specs.declared.cells.Change.{Change}
 use Rattle.clr_rows.specs.Contents.{Changes}
 use Rattle.clr_needs.specs.Members.{after_of, positions}
 use Rattle.clr_needs.specs.Settings.{first_changer}
-use Rattle.clr_serving_rows.specs.declared.changes.Counts.{Counts}
-use Rattle.clr_serving_rows.specs.Counts.{counts_of}
+use Rattle.clr_member_changes.specs.declared.counts.Counts.{Counts}
+use Rattle.clr_member_changes.specs.Counts.{counts_of}
 use Rattle.clr_plan_scenes.specs.declared.designs.Designs.{Designs}
 
 abbrev pub is_among : List ℕ → ℕ → Bool

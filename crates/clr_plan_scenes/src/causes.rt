@@ -7,7 +7,7 @@ ghost use Rattle.clr_clearance.specs.MergeSets.{change_sets};
 ghost use Rattle.clr_steps.specs.Quiet.{MergeSet};
 ghost use Rattle.clr_serving_rows.specs.NeedPlaces.{rule_in};
 ghost use Rattle.clr_serving_rows.specs.Servers.{server_changes as changes_of_servers};
-ghost use Rattle.clr_serving_rows.specs.Versions.{AreMembers};
+ghost use Rattle.clr_merge_sets.specs.MemberChanges.{AreMembers};
 ghost use Rattle.clr_plan_scenes.specs.Causes.{contested_rows, goer_of, goers_among, middle_of_first, owner_of, ring_at, row_of_design, shown_row};
 ghost use Rattle.clr_plan_scenes.specs.Causes.{Finds, IsCauseOf, IsCauseUnder, IsCellCause, IsMark, IsRing, IsVerdictCause, conflict_words, shared_words};
 ghost use Rattle.clr_plan_scenes.specs.Causes.{subject_rows, version_rows};
@@ -18,11 +18,12 @@ use crate::designs::Designs;
 use crate::fields::Field;
 use crate::places::{CausePlace, middle_of_first, place_of_need};
 use clr_clearance::Verdict;
+use clr_member_changes::Standing;
+use clr_merge_sets::{Plan, row_of_version};
 use clr_needs::{Need, VersionId};
-use clr_plan::Plan;
 use clr_rows::{CellId, Row, Schema};
 use clr_rules::Rule;
-use clr_serving_rows::{ServerChange, Standing, rule_of, server_changes};
+use clr_serving_rows::{ServerChange, rule_of, server_changes};
 use std::alloc::{AllocError, Global};
 
 /// A row that a cause names, and the design that lays, changes or removes it, if one does.
@@ -78,7 +79,7 @@ fn add_version(
         → rows.new.items ≡ rows.old.items ++ version_rows field.entry.office.now s version) }
 {
     let members = &field.designs.members;
-    if let Some(row) = members.row_of(field.office, version) {
+    if let Some(row) = row_of_version(field.office, members, version) {
         rows.push(CauseRow {
             cell: version.cell,
             owner: owner_of(members.standing(version)),

@@ -5,22 +5,23 @@ ghost use Rattle.std.specs.Option.{option_copied};
 ghost use Rattle.std.specs.Prelude.{slice_get};
 ghost use Rattle.clr_drawing.specs.Palette.{colours_of};
 ghost use Rattle.clr_steps.specs.Quiet.{MergeSet};
-ghost use Rattle.clr_lines.specs.Verdicts.{member_name};
-ghost use Rattle.clr_serving_rows.specs.Versions.{AreMembers};
+ghost use Rattle.clr_member_changes.specs.Names.{member_name};
+ghost use Rattle.clr_merge_sets.specs.MemberChanges.{AreMembers};
 ghost use Rattle.clr_plan_scenes.specs.Designs.{change_of, changer_of, counts_at, follower, index_of_design, is_among, leaders_of, order_of};
 ghost use Rattle.clr_plan_scenes.specs.Designs.{rank_of, sets_of};
 
 use clr_change::ChangeSet;
 use clr_drawing::{DesignColours, design_colours};
 use clr_engine::Office;
+use clr_member_changes::{Counts, MemberChanges, count_rows};
+use clr_merge_sets::read_member_changes;
 use clr_rows::{CellId, Change};
-use clr_serving_rows::{Counts, PlannedDesigns, count_rows};
 use std::alloc::{AllocError, Global};
 
 /// The designs by position, with what each changes, and the order in which they are told: those that a cause names first.
 #[derive(Drop)]
 pub struct Designs<'a> {
-    pub members: PlannedDesigns<'a>,
+    pub members: MemberChanges<'a>,
     order: Vec<usize>,
     leading: usize,
 }
@@ -84,7 +85,7 @@ impl<'a> Designs<'a> {
         ensures order { IfOk result (λ designs. designs.order.items ≡ order_of (length names.entry.now) leaders.now) }
         ensures leaders { IfOk result (λ designs. leaders_of designs ≡ leaders.now) }
     {
-        let members = PlannedDesigns::read(alloc, office, root, names)?;
+        let members = read_member_changes(alloc, office, root, names)?;
         Ok(Designs {
             members,
             order: order_of(alloc, names.len(), leaders)?,

@@ -18,7 +18,7 @@ mod places;
 mod scenes;
 
 pub use causes::{Cause, CauseRow, Mark, cause_of};
-pub use clr_serving_rows::Counts;
+pub use clr_member_changes::Counts;
 pub use designs::Designs;
 pub use fields::Field;
 pub use layouts::{BESIDE, EDGE, FOOT, LEFT, PAGE_WIDTH, RIGHT, TOP};

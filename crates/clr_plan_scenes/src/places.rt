@@ -2,7 +2,7 @@
 
 ghost use Rattle.std.specs.Prelude.{◌≡◌};
 ghost use Rattle.clr_steps.specs.Quiet.{MergeSet};
-ghost use Rattle.clr_serving_rows.specs.Versions.{AreMembers};
+ghost use Rattle.clr_merge_sets.specs.MemberChanges.{AreMembers};
 ghost use Rattle.clr_plan_scenes.specs.Causes.{IsMeetingPlace, IsNear, IsNeedPlace, middle_of_first};
 
 use crate::causes::CauseRow;

@@ -7,7 +7,7 @@ use Rattle.clr_steps.specs.Offices.{Office}
 use Rattle.clr_steps.specs.Quiet.{MergeSet}
 use Rattle.clr_clearance.specs.declared.verdicts.Verdict.{Verdict}
 use Rattle.clr_clearance.specs.declared.verdicts.Verdict.TheVariants as verdict
-use Rattle.clr_lines.specs.Verdicts.{member_name}
+use Rattle.clr_member_changes.specs.Names.{member_name}
 use Rattle.clr_plan_sentences.specs.declared.told_rows.CauseWords.{CauseWords}
 use Rattle.clr_plan_sentences.specs.Labels.{cell_label}
 use Rattle.clr_plan_sentences.specs.NeedCauses.{IsNeedCause, no_cause}

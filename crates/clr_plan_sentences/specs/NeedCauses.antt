@@ -15,7 +15,7 @@ use Rattle.clr_needs.specs.declared.needs.VersionId.{VersionId}
 use Rattle.clr_workspaces.specs.Marks.{Name}
 use Rattle.clr_steps.specs.Offices.{Office}
 use Rattle.clr_steps.specs.Quiet.{MergeSet}
-use Rattle.clr_lines.specs.Verdicts.{member_name}
+use Rattle.clr_member_changes.specs.Names.{member_name}
 use Rattle.clr_phrases.specs.declared.meetings.Meeting.{Meeting}
 use Rattle.clr_phrases.specs.declared.meetings.Meeting.TheVariants as meeting
 use Rattle.clr_phrases.specs.Lists.{names_text}
@@ -27,7 +27,7 @@ use Rattle.clr_plan_sentences.specs.Labels.{cell_label}
 use Rattle.clr_serving_rows.specs.NeedPlaces.{IsPlaceIn}
 use Rattle.clr_serving_rows.specs.Servers.{server_changes}
 use Rattle.clr_plan_sentences.specs.ToldRows.{row_of_second, row_of_version}
-use Rattle.clr_serving_rows.specs.Versions.{row_in}
+use Rattle.clr_merge_sets.specs.MemberChanges.{row_in}
 
 -- its rule and its rows -----------------------------------------------------------------------------
 

@@ -9,16 +9,16 @@ use Rattle.clr_steps.specs.Offices.{Office}
 use Rattle.clr_steps.specs.Quiet.{MergeSet}
 use Rattle.clr_clearance.specs.declared.verdicts.Verdict.{Verdict}
 use Rattle.clr_clearance.specs.MergeSets.{change_sets}
-use Rattle.clr_lines.specs.Verdicts.{member_name}
-use Rattle.clr_plan.specs.declared.plans.Plan.{Plan}
-use Rattle.clr_plan.specs.declared.plans.Plan.TheVariants as plan
-use Rattle.clr_serving_rows.specs.declared.changes.Counts.{Counts}
+use Rattle.clr_member_changes.specs.Names.{member_name}
+use Rattle.clr_merge_sets.specs.declared.plans.Plan.{Plan}
+use Rattle.clr_merge_sets.specs.declared.plans.Plan.TheVariants as plan
+use Rattle.clr_member_changes.specs.declared.counts.Counts.{Counts}
 use Rattle.clr_plan_sentences.specs.declared.served_needs.NeedWords.{NeedWords}
 use Rattle.clr_plan_sentences.specs.declared.told_rows.CauseWords.{CauseWords}
 use Rattle.clr_plan_sentences.specs.declared.told_rows.RowWords.{RowWords}
 use Rattle.clr_plan_sentences.specs.Answers.{answer_text}
 use Rattle.clr_plan_sentences.specs.Causes.{IsCause}
-use Rattle.clr_serving_rows.specs.Counts.{counts_of}
+use Rattle.clr_member_changes.specs.Counts.{counts_of}
 use Rattle.clr_plan_sentences.specs.ServedNeeds.{told_need}
 
 -- the first words of a plan

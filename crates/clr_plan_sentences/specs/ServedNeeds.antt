@@ -10,7 +10,7 @@ use Rattle.clr_needs.specs.Settings.{first_changer}
 use Rattle.clr_cert.specs.declared.certificates.Entry.{Entry}
 use Rattle.clr_workspaces.specs.Marks.{Name}
 use Rattle.clr_steps.specs.Offices.{Office}
-use Rattle.clr_lines.specs.Verdicts.{member_name}
+use Rattle.clr_member_changes.specs.Names.{member_name}
 use Rattle.clr_phrases.specs.Rules.{rule_title}
 use Rattle.clr_plan_sentences.specs.declared.served_needs.NeedWords.{NeedWords}
 use Rattle.clr_plan_sentences.specs.Labels.{cell_label}

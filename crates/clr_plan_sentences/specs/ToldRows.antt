@@ -7,13 +7,13 @@ use Rattle.clr_rows.specs.Contents.{Changes, row_at}
 use Rattle.clr_needs.specs.declared.needs.VersionId.{VersionId}
 use Rattle.clr_steps.specs.Offices.{Office, content_of}
 use Rattle.clr_steps.specs.Quiet.{MergeSet}
-use Rattle.clr_lines.specs.Verdicts.{member_name}
+use Rattle.clr_member_changes.specs.Names.{member_name}
 use Rattle.clr_phrases.specs.Rows.{row_words}
-use Rattle.clr_serving_rows.specs.declared.members.Standing.{Standing}
-use Rattle.clr_serving_rows.specs.declared.members.Standing.TheVariants as standing
+use Rattle.clr_member_changes.specs.declared.standings.Standing.{Standing}
+use Rattle.clr_member_changes.specs.declared.standings.Standing.TheVariants as standing
 use Rattle.clr_plan_sentences.specs.declared.told_rows.RowWords.{RowWords}
 use Rattle.clr_plan_sentences.specs.Labels.{cell_label}
-use Rattle.clr_serving_rows.specs.Versions.{set_row, standing_of}
+use Rattle.clr_member_changes.specs.Versions.{set_row, standing_of}
 
 -- a row of the root, and what a member does with it
 abbrev pub touched_text : MergeSet → ℕ → List ℕ → List ℕ

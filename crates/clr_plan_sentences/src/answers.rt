@@ -2,19 +2,19 @@
 
 ghost use Rattle.std.specs.Prelude.{◌≡◌, ◌++◌, IfOk, OnOk, string_bytes};
 ghost use Rattle.clr_plan_sentences.specs.Answers.{answer_text, blocked_text, cleared_text, lasting_text, mergeable_text, order_sentence, order_text, refused_text};
-ghost use Rattle.clr_serving_rows.specs.Versions.{set_of};
+ghost use Rattle.clr_plan_sentences.specs.Settings.{set_of};
 
 use crate::settings::Setting;
 use crate::unfit::add_unfit;
+use clr_member_changes::MemberChanges;
+use clr_merge_sets::Plan;
 use clr_phrases::add_names;
-use clr_plan::Plan;
-use clr_serving_rows::PlannedDesigns;
 use std::alloc::AllocError;
 
 /// Adds members one after another, by their positions.
 fn add_members(
     text: &mut String,
-    members: &PlannedDesigns<'_>,
+    members: &MemberChanges<'_>,
     order: &[usize],
 ) -> Result<(), AllocError>
     ensures { OnOk result (string_bytes text.new ≡ string_bytes text.old ++ order_text (set_of members.now).members order.now) }
@@ -44,7 +44,7 @@ fn refused_words(count: usize) -> &'static str
 /// Adds in which order a merge is refused.
 fn add_order(
     text: &mut String,
-    members: &PlannedDesigns<'_>,
+    members: &MemberChanges<'_>,
     order: &[usize],
 ) -> Result<(), AllocError>
     ensures { OnOk result (string_bytes text.new ≡ string_bytes text.old ++ order_sentence (set_of members.now).members order.now) }
@@ -57,7 +57,7 @@ fn add_order(
 /// Adds the sentence that members are blocked, and in which order.
 fn add_blocked(
     text: &mut String,
-    members: &PlannedDesigns<'_>,
+    members: &MemberChanges<'_>,
     order: &[usize],
 ) -> Result<(), AllocError>
     ensures { OnOk result (string_bytes text.new ≡ string_bytes text.old ++ blocked_text (set_of members.now) order.now) }
@@ -71,7 +71,7 @@ fn add_blocked(
 }
 
 /// Adds the sentence that members can be merged in every order.
-fn add_mergeable(text: &mut String, members: &PlannedDesigns<'_>) -> Result<(), AllocError>
+fn add_mergeable(text: &mut String, members: &MemberChanges<'_>) -> Result<(), AllocError>
     ensures { OnOk result (string_bytes text.new ≡ string_bytes text.old ++ mergeable_text (set_of members.now)) }
 {
     add_names(text, members.names)?;
@@ -82,7 +82,7 @@ fn add_mergeable(text: &mut String, members: &PlannedDesigns<'_>) -> Result<(), 
 }
 
 /// Adds how long it lasts that members can be merged.
-fn add_lasting(text: &mut String, members: &PlannedDesigns<'_>) -> Result<(), AllocError>
+fn add_lasting(text: &mut String, members: &MemberChanges<'_>) -> Result<(), AllocError>
     ensures { OnOk result (string_bytes text.new ≡ string_bytes text.old ++ lasting_text (set_of members.now)) }
 {
     text.push_str("This lasts while nobody edits ")?;
@@ -91,7 +91,7 @@ fn add_lasting(text: &mut String, members: &PlannedDesigns<'_>) -> Result<(), Al
 }
 
 /// Adds the sentences that members can be merged in every order, and how long that lasts.
-fn add_cleared(text: &mut String, members: &PlannedDesigns<'_>) -> Result<(), AllocError>
+fn add_cleared(text: &mut String, members: &MemberChanges<'_>) -> Result<(), AllocError>
     ensures { OnOk result (string_bytes text.new ≡ string_bytes text.old ++ cleared_text (set_of members.now)) }
 {
     if members.names.is_empty() {

@@ -3,7 +3,8 @@
 ghost use Rattle.std.specs.Prelude.{◌≡◌, ◌++◌, IfOk, OnOk, string_bytes};
 ghost use Rattle.clr_plan_sentences.specs.Causes.{IsCause, conflict_cause, conflict_reason, others_text, shared_cause, shared_reason};
 ghost use Rattle.clr_plan_sentences.specs.NeedCauses.{no_cause};
-ghost use Rattle.clr_serving_rows.specs.Versions.{AreMembers, set_of};
+ghost use Rattle.clr_merge_sets.specs.MemberChanges.{AreMembers};
+ghost use Rattle.clr_plan_sentences.specs.Settings.{set_of};
 
 use crate::labels::add_label;
 use crate::settings::Setting;

@@ -6,11 +6,13 @@ ghost use Rattle.clr_steps.specs.Quiet.{MergeSet};
 ghost use Rattle.clr_plan_sentences.specs.NeedCauses.{IsNeedCause, meeting_text, numbered_text, place_front, rule_reason, serving_text, told_cause};
 ghost use Rattle.clr_serving_rows.specs.NeedPlaces.{rule_in};
 ghost use Rattle.clr_plan_sentences.specs.ToldRows.{row_of_second, row_of_version};
-ghost use Rattle.clr_serving_rows.specs.Versions.{AreMembers, row_in, set_of};
+ghost use Rattle.clr_merge_sets.specs.MemberChanges.{AreMembers, row_in};
+ghost use Rattle.clr_plan_sentences.specs.Settings.{set_of};
 
 use crate::cause_sentences::no_cause;
 use crate::settings::Setting;
 use crate::told_rows::{CauseWords, RowWords};
+use clr_merge_sets::row_of_version;
 use clr_needs::Need;
 use clr_phrases::{At, Meeting, rule_sentence, rule_title};
 use clr_rows::{List, Row, Schema, Words};
@@ -85,7 +87,7 @@ impl Setting<'_> {
             → option_copied result ≡ option_and_then (row_in self.now.office.now s) need.now.second }
     {
         match need.second {
-            Some(version) => self.members.row_of(self.office, version),
+            Some(version) => row_of_version(self.office, self.members, version),
             None => None,
         }
     }
@@ -162,7 +164,7 @@ impl Setting<'_> {
             return Ok(no_cause(self.alloc));
         };
         let place = need_place(self.office, self.members, need);
-        let first = self.members.row_of(self.office, need.first);
+        let first = row_of_version(self.office, self.members, need.first);
         let second = self.second_row(need);
         let changes = server_changes(self.alloc, self.office, self.members, need)?;
         let cause = self.told_cause(need, rule, place, first, second, changes.as_slice())?;

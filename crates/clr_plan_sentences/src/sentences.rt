@@ -5,7 +5,8 @@ ghost use Rattle.std.specs.List.{flat_map};
 ghost use Rattle.clr_merge_sets.specs.MergeSetNames.{merge_set};
 ghost use Rattle.clr_plan_sentences.specs.Sentences.{AreCauseLines, AreDetails, IsSentences, cause_lines, cleared_details, counts_text, entry_line, entry_lines};
 ghost use Rattle.clr_plan_sentences.specs.Sentences.{member_line, members_text, more_text, need_line, needs_text, row_lines, some_needs_text, verdict_text};
-ghost use Rattle.clr_serving_rows.specs.Versions.{AreMembers, set_of};
+ghost use Rattle.clr_merge_sets.specs.MemberChanges.{AreMembers};
+ghost use Rattle.clr_plan_sentences.specs.Settings.{set_of};
 
 use crate::answers::answer_words;
 use crate::served_needs::NeedWords;
@@ -15,8 +16,8 @@ use clr_cert::Entry;
 use clr_change::ChangeSet;
 use clr_clearance::Verdict;
 use clr_engine::Office;
-use clr_plan::Plan;
-use clr_serving_rows::{Counts, PlannedDesigns, count_rows};
+use clr_member_changes::{Counts, MemberChanges, count_rows};
+use clr_merge_sets::{Plan, read_member_changes};
 use std::alloc::{AllocError, Global};
 
 /// How many needs of a certificate are told one by one.
@@ -76,7 +77,7 @@ fn add_counts(text: &mut String, counts: Counts) -> Result<(), AllocError>
 /// Adds what a member changes, on a line.
 fn add_member(
     text: &mut String,
-    members: &PlannedDesigns<'_>,
+    members: &MemberChanges<'_>,
     at: usize,
     set: &ChangeSet,
 ) -> Result<(), AllocError>
@@ -90,7 +91,7 @@ fn add_member(
 }
 
 /// Adds what each member changes, a line each.
-fn add_members(text: &mut String, members: &PlannedDesigns<'_>) -> Result<(), AllocError>
+fn add_members(text: &mut String, members: &MemberChanges<'_>) -> Result<(), AllocError>
     ensures { OnOk result (string_bytes text.new ≡ string_bytes text.old ++ members_text (set_of members.now).members members.now.changes.items) }
 {
     let sets = members.changes.as_slice();
@@ -258,7 +259,7 @@ pub fn plan_sentences(
 ) -> Result<String, AllocError>
     ensures { IfOk result (λ text. IsSentences office.now (merge_set root.now (map (λ name. name.now) names.now)) plan.now (string_bytes text)) }
 {
-    let members = PlannedDesigns::read(alloc, office, root, names)?;
+    let members = read_member_changes(alloc, office, root, names)?;
     let setting = Setting {
         alloc,
         office,

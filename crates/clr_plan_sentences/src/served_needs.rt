@@ -6,17 +6,18 @@ ghost use Rattle.clr_plan_sentences.specs.NeedCauses.{numbered_text};
 ghost use Rattle.clr_serving_rows.specs.NeedPlaces.{rule_in};
 ghost use Rattle.clr_plan_sentences.specs.ServedNeeds.{changer_name, later_text, name_of_any, second_subject_text, title_text, told_need};
 ghost use Rattle.clr_plan_sentences.specs.Labels.{cell_label};
-ghost use Rattle.clr_serving_rows.specs.Versions.{set_of};
+ghost use Rattle.clr_plan_sentences.specs.Settings.{set_of};
 
 use crate::labels::add_label;
 use crate::need_causes::add_numbered;
 use crate::settings::Setting;
 use clr_cert::Entry;
+use clr_member_changes::MemberChanges;
 use clr_needs::{Need, VersionId};
 use clr_phrases::rule_title;
 use clr_rows::{CellId, Schema, Words};
 use clr_rules::Rule;
-use clr_serving_rows::{PlannedDesigns, rule_of};
+use clr_serving_rows::rule_of;
 use std::alloc::AllocError;
 
 /// A need in words: its rule, the rows that ask, and the rows that serve it, with until when.
@@ -55,7 +56,7 @@ fn add_second_subject(
 }
 
 /// Returns the name of the first member that changes a cell, or an empty one where none does.
-fn changer_name<'a>(members: &'a PlannedDesigns<'_>, cell: CellId) -> &'a str
+fn changer_name<'a>(members: &'a MemberChanges<'_>, cell: CellId) -> &'a str
     ensures { result.now ≡ changer_name (set_of members.entry.now).members members.entry.now.changes.items cell }
 {
     match members.changer_of(cell) {
@@ -68,7 +69,7 @@ fn changer_name<'a>(members: &'a PlannedDesigns<'_>, cell: CellId) -> &'a str
 fn add_later(
     text: &mut String,
     schema: &Schema,
-    members: &PlannedDesigns<'_>,
+    members: &MemberChanges<'_>,
     later: Option<VersionId>,
 ) -> Result<(), AllocError>
     ensures { OnOk result (string_bytes text.new ≡ string_bytes text.old

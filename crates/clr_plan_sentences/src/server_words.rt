@@ -4,15 +4,16 @@ ghost use Rattle.std.specs.Prelude.{◌≡◌, ◌++◌, IfOk, OnOk, flat_map, m
 ghost use Rattle.std.specs.Option.{option_copied};
 ghost use Rattle.clr_plan_sentences.specs.NeedCauses.{change_front, change_label, changed_text, common_text, is_hopeless, label_if, listed_text};
 ghost use Rattle.clr_plan_sentences.specs.NeedCauses.{no_server_text, rows_word, servers_text, serving_text, told_changes};
-ghost use Rattle.clr_serving_rows.specs.Versions.{set_of};
+ghost use Rattle.clr_plan_sentences.specs.Settings.{set_of};
 
 use crate::labels::add_label;
 use crate::settings::Setting;
+use clr_member_changes::MemberChanges;
 use clr_needs::{Need, VersionId};
 use clr_phrases::{Meeting, add_names, field_words, side_words};
 use clr_rows::{Held, Row, Schema, Words};
 use clr_rules::{ColumnList, Rule, Side};
-use clr_serving_rows::{PlannedDesigns, ServerChange, server_side};
+use clr_serving_rows::{ServerChange, server_side};
 use std::alloc::{AllocError, Global};
 
 /// Returns whether no row can stand where a need asks for one.
@@ -39,7 +40,7 @@ fn rows_word(second: Option<VersionId>) -> &'static str
 fn change_label(
     alloc: Global,
     schema: &Schema,
-    members: &PlannedDesigns<'_>,
+    members: &MemberChanges<'_>,
     change: &ServerChange,
 ) -> Result<Words, AllocError>
     ensures { IfOk result (λ words. words ≡ change_label schema.now (set_of members.now).members change.now) }
@@ -57,7 +58,7 @@ fn add_label_if(
     alloc: Global,
     labels: &mut Vec<Words>,
     schema: &Schema,
-    members: &PlannedDesigns<'_>,
+    members: &MemberChanges<'_>,
     change: &ServerChange,
     leaves: bool,
 ) -> Result<(), AllocError>
@@ -73,7 +74,7 @@ fn add_label_if(
 fn change_labels(
     alloc: Global,
     schema: &Schema,
-    members: &PlannedDesigns<'_>,
+    members: &MemberChanges<'_>,
     changes: &[ServerChange],
     leaves: bool,
 ) -> Result<Vec<Words>, AllocError>

@@ -5,8 +5,8 @@ ghost use Rattle.clr_plan_sentences.specs.Labels.{cell_label};
 
 use crate::labels::add_label;
 use clr_engine::Office;
+use clr_member_changes::MemberChanges;
 use clr_rows::CellId;
-use clr_serving_rows::PlannedDesigns;
 use std::alloc::{AllocError, Global};
 
 /// What sentences are made of: an office, and members with their changes.
@@ -14,7 +14,7 @@ use std::alloc::{AllocError, Global};
 pub struct Setting<'a> {
     pub alloc: Global,
     pub office: &'a Office,
-    pub members: &'a PlannedDesigns<'a>,
+    pub members: &'a MemberChanges<'a>,
 }
 
 impl Setting<'_> {

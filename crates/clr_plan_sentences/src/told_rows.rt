@@ -3,13 +3,13 @@
 ghost use Rattle.std.specs.Prelude.{◌≡◌, ◌++◌, IfOk, OnOk, string_bytes};
 ghost use Rattle.std.specs.Option.{option_copied};
 ghost use Rattle.clr_plan_sentences.specs.ToldRows.{row_now, row_of_member, row_of_version, row_taken_over, row_text, standing_text, told_row, touched_text};
-ghost use Rattle.clr_serving_rows.specs.Versions.{set_of};
+ghost use Rattle.clr_plan_sentences.specs.Settings.{set_of};
 
 use crate::settings::Setting;
+use clr_member_changes::{MemberChanges, Standing};
 use clr_needs::VersionId;
 use clr_phrases::row_words;
 use clr_rows::{CellId, List, Row, Schema, Words};
-use clr_serving_rows::{PlannedDesigns, Standing};
 use std::alloc::{AllocError, Global};
 
 /// A row of a cause in words: its table and key, where it stands, and its values and its place.
@@ -34,7 +34,7 @@ pub struct CauseWords {
 /// Adds that a row stands in the root, and what a member does with it.
 fn add_touched(
     text: &mut String,
-    members: &PlannedDesigns<'_>,
+    members: &MemberChanges<'_>,
     at: usize,
     what: &str,
 ) -> Result<(), AllocError>
@@ -50,7 +50,7 @@ fn add_touched(
 /// Adds where a row stands.
 fn add_standing(
     text: &mut String,
-    members: &PlannedDesigns<'_>,
+    members: &MemberChanges<'_>,
     standing: Standing,
 ) -> Result<(), AllocError>
     ensures { OnOk result (string_bytes text.new ≡ string_bytes text.old ++ standing_text (set_of members.now) standing) }
@@ -85,7 +85,7 @@ fn add_standing(
 /// Returns where a row stands.
 fn standing_words(
     alloc: Global,
-    members: &PlannedDesigns<'_>,
+    members: &MemberChanges<'_>,
     standing: Standing,
 ) -> Result<Words, AllocError>
     ensures { IfOk result (λ words. words ≡ standing_text (set_of members.now) standing) }

@@ -2,16 +2,16 @@
 
 ghost use Rattle.std.specs.Prelude.{◌≡◌, ◌++◌, OnOk, string_bytes};
 ghost use Rattle.clr_plan_sentences.specs.Answers.{name_fault_text, unfit_text};
-ghost use Rattle.clr_serving_rows.specs.Versions.{set_of};
+ghost use Rattle.clr_plan_sentences.specs.Settings.{set_of};
 
 use clr_clearance::Verdict;
-use clr_serving_rows::PlannedDesigns;
+use clr_member_changes::MemberChanges;
 use std::alloc::AllocError;
 
 /// Adds what is wrong with a name.
 fn add_name_fault(
     text: &mut String,
-    members: &PlannedDesigns<'_>,
+    members: &MemberChanges<'_>,
     verdict: &Verdict,
 ) -> Result<(), AllocError>
     ensures { OnOk result (string_bytes text.new ≡ string_bytes text.old ++ name_fault_text (set_of members.now) verdict.now) }
@@ -46,7 +46,7 @@ fn add_name_fault(
 /// nothing more is told.
 pub(crate) fn add_unfit(
     text: &mut String,
-    members: &PlannedDesigns<'_>,
+    members: &MemberChanges<'_>,
     verdict: &Verdict,
 ) -> Result<(), AllocError>
     ensures { OnOk result (string_bytes text.new ≡ string_bytes text.old ++ unfit_text (set_of members.now) verdict.now) }

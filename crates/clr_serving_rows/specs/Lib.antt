@@ -1,4 +1,2 @@
-pub mod Counts
 pub mod NeedPlaces
 pub mod Servers
-pub mod Versions

@@ -13,7 +13,7 @@ use Rattle.clr_steps.specs.Quiet.{MergeSet}
 use Rattle.clr_phrases.specs.declared.meetings.Meeting.{Meeting}
 use Rattle.clr_phrases.specs.declared.meetings.Meeting.TheVariants as meeting
 use Rattle.clr_phrases.specs.Meetings.{IsMeetingOfParts}
-use Rattle.clr_serving_rows.specs.Versions.{row_in}
+use Rattle.clr_merge_sets.specs.MemberChanges.{row_in}
 
 -- the rule of a need, if there is one
 abbrev pub rule_in : Office → Need → Option Rule

@@ -20,7 +20,7 @@ use Rattle.clr_steps.specs.Quiet.{MergeSet}
 use Rattle.clr_clearance.specs.MergeSets.{change_sets}
 use Rattle.clr_serving_rows.specs.declared.servers.Asked.{Asked}
 use Rattle.clr_serving_rows.specs.declared.servers.ServerChange.{ServerChange}
-use Rattle.clr_serving_rows.specs.Versions.{row_in}
+use Rattle.clr_merge_sets.specs.MemberChanges.{row_in}
 
 -- the rows of a need's subjects
 pub record Subjects : Type 0 where

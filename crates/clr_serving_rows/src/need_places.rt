@@ -6,10 +6,11 @@ ghost use Rattle.clr_rows.specs.Parts.{part_of};
 ghost use Rattle.clr_rules.specs.Sides.{end_in, sides};
 ghost use Rattle.clr_steps.specs.Quiet.{MergeSet};
 ghost use Rattle.clr_serving_rows.specs.NeedPlaces.{IsCrossingPlace, IsPlaceIn, end_place, rule_in};
-ghost use Rattle.clr_serving_rows.specs.Versions.{AreMembers};
+ghost use Rattle.clr_merge_sets.specs.MemberChanges.{AreMembers};
 
-use crate::members::PlannedDesigns;
 use clr_engine::Office;
+use clr_member_changes::MemberChanges;
+use clr_merge_sets::row_of_version;
 use clr_needs::Need;
 use clr_phrases::{Meeting, meet_parts};
 use clr_rows::{Place, Row, Shape};
@@ -60,14 +61,14 @@ pub fn rule_of<'a>(office: &'a Office, need: &Need) -> Option<&'a Rule>
 
 /// Returns where a row that serves a need would have to stand: the place where its rows meet, or the
 /// end of the one row. No place is told where the rule asks for none.
-pub fn need_place(office: &Office, members: &PlannedDesigns<'_>, need: &Need) -> Meeting
+pub fn need_place(office: &Office, members: &MemberChanges<'_>, need: &Need) -> Meeting
     ensures { (s : MergeSet) → AreMembers office.now s members.now → IsPlaceIn office.now s need.now result }
 {
-    let Some(first) = members.row_of(office, need.first) else {
+    let Some(first) = row_of_version(office, members, need.first) else {
         return Meeting::NoParts;
     };
     let second = match need.second {
-        Some(version) => members.row_of(office, version),
+        Some(version) => row_of_version(office, members, version),
         None => None,
     };
     match (rule_of(office, need), second) {

@@ -7,11 +7,12 @@ ghost use Rattle.clr_rows.specs.Held.{held_of};
 ghost use Rattle.clr_rules.specs.Books.{FitsCell};
 ghost use Rattle.clr_steps.specs.Quiet.{MergeSet};
 ghost use Rattle.clr_serving_rows.specs.Servers.{changes_by, changes_of_member, fits, held_in, is_served, server_changes, serves_need, subjects_in, subjects_of};
-ghost use Rattle.clr_serving_rows.specs.Versions.{AreMembers};
+ghost use Rattle.clr_merge_sets.specs.MemberChanges.{AreMembers};
 
-use crate::members::PlannedDesigns;
 use clr_change::ChangeSet;
 use clr_engine::Office;
+use clr_member_changes::MemberChanges;
+use clr_merge_sets::row_of_version;
 use clr_needs::{Need, VersionId};
 use clr_rows::{CellId, Held, Row};
 use std::alloc::{AllocError, Global};
@@ -123,12 +124,12 @@ impl Asked<'_> {
 /// Finds the row of a version at its cell, if it stands.
 fn held_by<'a>(
     office: &'a Office,
-    members: &'a PlannedDesigns<'_>,
+    members: &'a MemberChanges<'_>,
     version: VersionId,
 ) -> Option<Held<'a>>
     ensures { (s : MergeSet) → AreMembers office.entry.now s members.entry.now → option_map held_of result ≡ held_in office.entry.now s version }
 {
-    let row = members.row_of(office, version)?;
+    let row = row_of_version(office, members, version)?;
     Some(Held {
         cell: version.cell,
         row,
@@ -138,7 +139,7 @@ fn held_by<'a>(
 /// Finds the rows of a need's subjects, if all of them stand.
 fn asked_by<'a>(
     office: &'a Office,
-    members: &'a PlannedDesigns<'_>,
+    members: &'a MemberChanges<'_>,
     need: &'a Need,
 ) -> Option<Asked<'a>>
     ensures need { IfSome result (λ asked. asked.need.now ≡ need.entry.now) }
@@ -162,7 +163,7 @@ fn asked_by<'a>(
 pub fn server_changes(
     alloc: Global,
     office: &Office,
-    members: &PlannedDesigns<'_>,
+    members: &MemberChanges<'_>,
     need: &Need,
 ) -> Result<Vec<ServerChange>, AllocError>
     ensures { IfOk result (λ found. (s : MergeSet) → AreMembers office.now s members.now → found.items ≡ server_changes office.now s need.now) }

@@ -28,15 +28,15 @@ use Rattle.clr_steps.specs.Quiet.{MergeSet}
 use Rattle.clr_clearance.specs.MergeSets.{change_sets}
 use Rattle.clr_clearance.specs.declared.verdicts.Verdict.{Verdict}
 use Rattle.clr_clearance.specs.declared.verdicts.Verdict.TheVariants as verdict
-use Rattle.clr_lines.specs.Verdicts.{member_name}
-use Rattle.clr_plan.specs.declared.plans.Plan.{Plan}
-use Rattle.clr_plan.specs.declared.plans.Plan.TheVariants as plan
+use Rattle.clr_member_changes.specs.Names.{member_name}
+use Rattle.clr_merge_sets.specs.declared.plans.Plan.{Plan}
+use Rattle.clr_merge_sets.specs.declared.plans.Plan.TheVariants as plan
 use Rattle.clr_phrases.specs.declared.meetings.Meeting.{Meeting}
 use Rattle.clr_phrases.specs.declared.meetings.Meeting.TheVariants as meeting
 use Rattle.clr_serving_rows.specs.declared.servers.ServerChange.{ServerChange}
 use Rattle.clr_serving_rows.specs.NeedPlaces.{IsPlaceIn, rule_in}
 use Rattle.clr_serving_rows.specs.Servers.{server_changes}
-use Rattle.clr_serving_rows.specs.Versions.{set_row}
+use Rattle.clr_member_changes.specs.Versions.{set_row}
 use Rattle.clr_work_orders.specs.declared.actions.Action.{Action}
 use Rattle.clr_work_orders.specs.declared.actions.Action.TheVariants as action
 use Rattle.clr_work_orders.specs.Keys.{all_names, greatest_key, key_among}

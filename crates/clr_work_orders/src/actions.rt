@@ -4,7 +4,7 @@ ghost use Rattle.std.specs.Prelude.{◌≡◌, ◌++◌, IfOk, OnOk, map, string
 ghost use Rattle.clr_work_orders.specs.Actions.{action_text, brought_text, edit_text};
 
 use clr_change::Edit;
-use clr_lines::member_name;
+use clr_member_changes::member_name;
 use clr_phrases::At;
 use clr_plan_sentences::add_label;
 use clr_rows::{Schema, Shape, Words};

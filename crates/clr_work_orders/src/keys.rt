@@ -8,8 +8,8 @@ ghost use Rattle.clr_work_orders.specs.Keys.{all_names, greater_key, greatest_in
 
 use clr_change::ChangeSet;
 use clr_engine::Office;
+use clr_merge_sets::read_member_changes;
 use clr_rows::{CellId, GREATEST_KEY, Sheet};
-use clr_serving_rows::PlannedDesigns;
 use std::alloc::{AllocError, Global};
 
 /// What the keys of a table's tips are made of: the names of LIVE and of all workspaces in order of creation, and the greatest key of the table.
@@ -99,7 +99,7 @@ fn greatest_key(
 {
     let rows = office.rows(root)?;
     let standing = standing_key(&rows, table);
-    let all = PlannedDesigns::read(alloc, office, root, names)?;
+    let all = read_member_changes(alloc, office, root, names)?;
     Ok(greatest_in(standing, all.changes.as_slice(), table))
 }
 

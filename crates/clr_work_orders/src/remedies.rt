@@ -4,7 +4,8 @@ ghost use Rattle.std.specs.Prelude.{◌≡◌, ◌++◌, IfOk, OnOk, map};
 ghost use Rattle.std.specs.Option.{option_copied};
 ghost use Rattle.clr_merge_sets.specs.MergeSetNames.{merge_set};
 ghost use Rattle.clr_serving_rows.specs.NeedPlaces.{IsPlaceIn};
-ghost use Rattle.clr_serving_rows.specs.Versions.{AreMembers, set_of};
+ghost use Rattle.clr_merge_sets.specs.MemberChanges.{AreMembers};
+ghost use Rattle.clr_plan_sentences.specs.Settings.{set_of};
 ghost use Rattle.clr_work_orders.specs.Remedies.{AreForCause, AreRemedies, IsPlaceOfCause, for_cause, for_need, leaving_out, server_of};
 ghost use Rattle.clr_phrases.specs.declared.meetings.Meeting.{Meeting as Met};
 
@@ -13,11 +14,13 @@ use crate::bringing::add_serving;
 use crate::undoings::{add_giving_up, add_giving_up_any, add_keeping, add_undoing};
 use clr_clearance::Verdict;
 use clr_engine::Office;
+use clr_member_changes::MemberChanges;
+use clr_merge_sets::read_member_changes;
 use clr_needs::Need;
 use clr_plan::Plan;
 use clr_plan_sentences::Setting;
 use clr_rules::Side;
-use clr_serving_rows::{PlannedDesigns, need_place, rule_of, server_changes, server_side};
+use clr_serving_rows::{need_place, rule_of, server_changes, server_side};
 use std::alloc::{AllocError, Global};
 
 /// Returns the side whose rows serve a need, if any can.
@@ -82,7 +85,7 @@ fn add_for_cause(
 /// Adds that one of several members is left out.
 fn add_leaving_out(
     list: &mut Vec<Action>,
-    members: &PlannedDesigns<'_>,
+    members: &MemberChanges<'_>,
     order: &[usize],
 ) -> Result<(), AllocError>
     ensures { OnOk result (list.new.items ≡ list.old.items ++ leaving_out (set_of members.now) order.now) }
@@ -125,7 +128,7 @@ pub(crate) fn plan_remedies(
     let Plan::Blocked { order, cause } = plan else {
         return Ok(Vec::new(alloc));
     };
-    let members = PlannedDesigns::read(alloc, office, root, names)?;
+    let members = read_member_changes(alloc, office, root, names)?;
     let setting = Setting {
         alloc,
         office,
