@@ -3,15 +3,9 @@ use Rattle.std.specs.Prelude.{ℕ, Bool, ◌&&◌, count_by, is_none, is_some}
 use Rattle.std.specs.FinMap as finite
 use Rattle.clr_rows.specs.declared.cells.Change.{Change}
 use Rattle.clr_rows.specs.Contents.{Changes}
-<<<<<<<< HEAD:crates/clr_serving_rows/specs/Counts.antt
-use Rattle.clr_serving_rows.specs.declared.changes.Counts.{Counts}
-use Rattle.clr_serving_rows.specs.declared.changes.RowChange.{RowChange}
-use Rattle.clr_serving_rows.specs.declared.changes.RowChange.TheVariants as kind
-========
 use Rattle.clr_member_changes.specs.declared.counts.Counts.{Counts}
 use Rattle.clr_member_changes.specs.declared.counts.RowChange.{RowChange}
 use Rattle.clr_member_changes.specs.declared.counts.RowChange.TheVariants as kind
->>>>>>>> ms_step1:crates/clr_member_changes/specs/Counts.antt
 
 -- a row is added where none stood, removed where none stands afterwards, and otherwise changed
 abbrev pub is_row_change : RowChange → Change → Bool

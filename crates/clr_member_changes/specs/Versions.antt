@@ -1,43 +1,15 @@
-<<<<<<<< HEAD:crates/clr_serving_rows/specs/Versions.antt
--- The rows that a cause names.
-use Rattle.std.specs.Prelude.{◌≡◌, ℕ, List, Option, Some, None, map, slice_get, is_some, if◌then◌else◌}
-========
 -- The rows that change sets have at a cell, and where a version stands.
 use Rattle.std.specs.Prelude.{ℕ, List, Option, Some, None, slice_get, is_some, if◌then◌else◌}
->>>>>>>> ms_step1:crates/clr_member_changes/specs/Versions.antt
 use Rattle.std.specs.FinMap as finite
 use Rattle.clr_rows.specs.declared.cells.CellId.{CellId}
 use Rattle.clr_rows.specs.declared.cells.Change.{Change}
-use Rattle.clr_rows.specs.declared.told_rows.Row.{Row}
+use Rattle.clr_rows.specs.declared.rows.Row.{Row}
 use Rattle.clr_rows.specs.Contents.{Changes}
 use Rattle.clr_needs.specs.declared.needs.VersionId.{VersionId}
 use Rattle.clr_needs.specs.Members.{after_of, positions}
-<<<<<<<< HEAD:crates/clr_serving_rows/specs/Versions.antt
-use Rattle.clr_needs.specs.Settings.{first_changer, version}
-use Rattle.clr_steps.specs.Offices.{Office}
-use Rattle.clr_steps.specs.Quiet.{MergeSet}
-use Rattle.clr_clearance.specs.MergeSets.{change_sets, setting_by_position}
-use Rattle.clr_serving_rows.specs.declared.members.PlannedDesigns.{PlannedDesigns}
-use Rattle.clr_serving_rows.specs.declared.members.Standing.{Standing}
-use Rattle.clr_serving_rows.specs.declared.members.Standing.TheVariants.{Changed, New, Removed, Stays}
-
--- what is read of the members of a merge set
-pub record AreMembers (o : Office) (s : MergeSet) (members : PlannedDesigns) : Type 0 where
-  pub root : members.root.now ≡ s.root
-  pub changes : members.changes.items ≡ change_sets o s
-
--- the merge set of members that were read
-abbrev pub set_of : PlannedDesigns → MergeSet
-set_of members = record { root = members.root.now; members = map (λ name. name.now) members.names.now }
-
--- the row of a version of a merge set, if it has the version
-abbrev pub row_in : Office → MergeSet → VersionId → Option Row
-row_in o s v = option_map (λ l. l.row) (version (setting_by_position o s) v)
-========
 use Rattle.clr_needs.specs.Settings.{first_changer}
 use Rattle.clr_member_changes.specs.declared.standings.Standing.{Standing}
 use Rattle.clr_member_changes.specs.declared.standings.Standing.TheVariants.{Changed, New, Removed, Stays}
->>>>>>>> ms_step1:crates/clr_member_changes/specs/Versions.antt
 
 abbrev pub row_by : (Change → Option Row) → Option Change → Option Row
 row_by f None = None

@@ -2,11 +2,7 @@
 
 ghost use Rattle.std.specs.Prelude.{◌≡◌, count_by};
 ghost use Rattle.std.specs.FinMap as finite;
-<<<<<<<< HEAD:crates/clr_serving_rows/src/changes.rt
-ghost use Rattle.clr_serving_rows.specs.Counts.{counts_of, is_row_change};
-========
 ghost use Rattle.clr_member_changes.specs.Counts.{counts_of, is_row_change};
->>>>>>>> ms_step1:crates/clr_member_changes/src/counts.rt
 
 use clr_change::ChangeSet;
 use clr_rows::Change;

@@ -14,12 +14,8 @@ use Rattle.clr_needs.specs.Settings.{Lived, first_changer, new_row, new_version,
 use Rattle.clr_steps.specs.Offices.{Office, content_of}
 use Rattle.clr_steps.specs.Quiet.{MergeSet, root_content}
 use Rattle.clr_clearance.specs.MergeSets.{change_sets}
-<<<<<<<< HEAD:crates/clr_serving_rows/proofs/VersionLemmas.antt
-use Rattle.clr_serving_rows.specs.Versions.{change_row, new_row_at, row_by, row_in, row_of_changer}
-========
 use Rattle.clr_member_changes.specs.Versions.{change_row, new_row_at, row_by, row_of_changer}
 use Rattle.clr_merge_sets.specs.MemberChanges.{row_in}
->>>>>>>> ms_step1:crates/clr_merge_sets/proofs/VersionLemmas.antt
 
 -- the row of a version that a member of a position brings
 new_is : (sets : List Changes) (q : CellId) (at : Option ℕ) → option_map (λ (l : Lived ℕ). l.row) (new_version (after_of sets) q at) ≡ row_of_changer sets q at

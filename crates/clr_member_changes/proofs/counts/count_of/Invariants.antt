@@ -1,13 +1,7 @@
 use Rattle.std.proofs.Common.{◌≡◌, ◌+◌}
 use Rattle.std.specs.Prelude.{count_by}
-<<<<<<<< HEAD:crates/clr_serving_rows/proofs/changes/count_of/Invariants.antt
-use Rattle.std.specs.FinMap as finite
-use Rattle.clr_serving_rows.specs.Counts.{counted, is_row_change}
-use Rattle.clr_serving_rows.proofs.changes.count_of.Given as goal
-========
 use Rattle.clr_member_changes.specs.Counts.{counted, is_row_change}
 use Rattle.clr_member_changes.proofs.counts.count_of.Given as goal
->>>>>>>> ms_step1:crates/clr_member_changes/proofs/counts/count_of/Invariants.antt
 
 -- the changes so far, with those that are left, are all of the set
 abbrev pub invariant-loop-change : goal.invariant-loop-change

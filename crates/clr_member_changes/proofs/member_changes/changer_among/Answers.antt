@@ -1,12 +1,7 @@
 use Rattle.std.proofs.Common.{◌∙◌, None, Some, ap, arith, is_some, length, sym}
 use Rattle.clr_row_versions.proofs.Searches.{found_is, none_behind}
-<<<<<<<< HEAD:crates/clr_serving_rows/proofs/members/changer_among/Answers.antt
-use Rattle.clr_serving_rows.proofs.VersionLemmas.{changes_here, some_copied}
-use Rattle.clr_serving_rows.proofs.members.changer_among.Goals as goal
-========
 use Rattle.clr_member_changes.proofs.ChangerLemmas.{changes_here, some_copied}
 use Rattle.clr_member_changes.proofs.member_changes.changer_among.Goals as goal
->>>>>>>> ms_step1:crates/clr_member_changes/proofs/member_changes/changer_among/Answers.antt
 
 pub returns-then-is_some : goal.returns-then-is_some
 returns-then-is_some c =

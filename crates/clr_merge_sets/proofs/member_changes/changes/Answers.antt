@@ -2,11 +2,7 @@ use Rattle.std.proofs.Common.{◌∙◌, sym}
 use Rattle.clr_steps.specs.Readings.{changes_in}
 use Rattle.clr_merge_sets.proofs.NameLemmas.{unshown}
 use Rattle.clr_merge_sets.proofs.MergeSetLemmas.{unchanged}
-<<<<<<<< HEAD:crates/clr_serving_rows/proofs/members/changes_of/Answers.antt
-use Rattle.clr_serving_rows.proofs.members.changes_of.Goals as goal
-========
 use Rattle.clr_merge_sets.proofs.member_changes.changes.Goals as goal
->>>>>>>> ms_step1:crates/clr_merge_sets/proofs/member_changes/changes/Answers.antt
 
 pub returns-in-None : goal.returns-in-None
 returns-in-None c =
