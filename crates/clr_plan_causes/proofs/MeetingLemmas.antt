@@ -17,7 +17,7 @@ use Rattle.clr_clearance.specs.MergeSets.{change_sets}
 use Rattle.clr_merge_sets.specs.MemberChanges.{row_in}
 use Rattle.clr_phrases.specs.declared.meetings.Meeting.{Meeting}
 use Rattle.clr_phrases.specs.declared.meetings.Meeting.TheVariants as meeting
-use Rattle.clr_plan_sentences.specs.NeedPlaces.{IsCrossingPlace, IsPlaceIn, IsServingPlace, end_place, rule_in}
+use Rattle.clr_serving_rows.specs.NeedPlaces.{IsCrossingPlace, IsPlaceIn, IsServingPlace, end_place, rule_in}
 use Rattle.clr_map_scenes.specs.declared.shown_causes.CauseRow.{CauseRow}
 use Rattle.clr_plan_causes.specs.CauseMarks.{DoMeet, IsInBothBoxes, IsNear, MeetsSo, both_parts, near_place}
 use Rattle.clr_plan_causes.specs.CauseRows.{subject_rows, version_row}

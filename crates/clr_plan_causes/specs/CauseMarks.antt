@@ -14,7 +14,7 @@ use Rattle.clr_steps.specs.Quiet.{MergeSet}
 use Rattle.clr_drawing.specs.Paths.{middle_place}
 use Rattle.clr_phrases.specs.declared.meetings.Meeting.{Meeting}
 use Rattle.clr_phrases.specs.declared.meetings.Meeting.TheVariants as meeting
-use Rattle.clr_plan_sentences.specs.NeedPlaces.{IsPlaceIn}
+use Rattle.clr_serving_rows.specs.NeedPlaces.{IsPlaceIn}
 use Rattle.clr_map_scenes.specs.declared.shown_causes.CausePlace.{CausePlace}
 use Rattle.clr_map_scenes.specs.declared.shown_causes.CauseRow.{CauseRow}
 use Rattle.clr_map_scenes.specs.declared.shown_causes.Mark.{Mark}

@@ -11,7 +11,7 @@ use Rattle.clr_steps.specs.Quiet.{MergeSet}
 use Rattle.clr_clearance.specs.MergeSets.{change_sets}
 use Rattle.clr_member_changes.specs.declared.standings.Standing.{Standing}
 use Rattle.clr_member_changes.specs.declared.standings.Standing.TheVariants as standing
-use Rattle.clr_plan_sentences.specs.declared.servers.ServerChange.{ServerChange}
+use Rattle.clr_serving_rows.specs.declared.servers.ServerChange.{ServerChange}
 use Rattle.clr_member_changes.specs.Versions.{set_row, standing_of}
 use Rattle.clr_merge_sets.specs.MemberChanges.{row_in}
 use Rattle.clr_map_scenes.specs.declared.shown_causes.CauseRow.{CauseRow}

@@ -11,8 +11,8 @@ use Rattle.clr_clearance.specs.declared.verdicts.Verdict.TheVariants as verdict
 use Rattle.clr_clearance.specs.MergeSets.{change_sets}
 use Rattle.clr_merge_sets.specs.declared.plans.Plan.{Plan}
 use Rattle.clr_merge_sets.specs.declared.plans.Plan.TheVariants as plan
-use Rattle.clr_plan_sentences.specs.NeedPlaces.{rule_in}
-use Rattle.clr_plan_sentences.specs.Servers.{server_changes}
+use Rattle.clr_serving_rows.specs.NeedPlaces.{rule_in}
+use Rattle.clr_serving_rows.specs.Servers.{server_changes}
 use Rattle.clr_map_scenes.specs.declared.shown_causes.Cause.{Cause}
 use Rattle.clr_plan_causes.specs.Badges.{badge_words, conflict_words, shared_words}
 use Rattle.clr_plan_causes.specs.CauseMarks.{IsMark, middle_of_first, ring_at}

@@ -13,7 +13,7 @@ use clr_map_scenes::{CausePlace, CauseRow};
 use clr_member_changes::MemberChanges;
 use clr_needs::Need;
 use clr_phrases::Meeting;
-use clr_plan_sentences::need_place;
+use clr_serving_rows::need_place;
 use clr_rows::Place;
 use clr_segments::part;
 

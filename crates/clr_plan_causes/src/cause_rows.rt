@@ -4,7 +4,7 @@ ghost use Rattle.std.specs.Prelude.{◌≡◌, ◌++◌, IfOk, OnOk};
 ghost use Rattle.std.specs.Option.{option_copied};
 ghost use Rattle.clr_clearance.specs.MergeSets.{change_sets};
 ghost use Rattle.clr_steps.specs.Quiet.{MergeSet};
-ghost use Rattle.clr_plan_sentences.specs.Servers.{server_changes as changes_of_servers};
+ghost use Rattle.clr_serving_rows.specs.Servers.{server_changes as changes_of_servers};
 ghost use Rattle.clr_merge_sets.specs.MemberChanges.{AreMembers};
 ghost use Rattle.clr_plan_causes.specs.CauseRows.{contested_rows, goer_of, goers_among, owner_of, row_of_design, shown_row, subject_rows, version_rows};
 
@@ -13,7 +13,7 @@ use clr_map_scenes::CauseRow;
 use clr_member_changes::{MemberChanges, Standing};
 use clr_merge_sets::row_of_version;
 use clr_needs::{Need, VersionId};
-use clr_plan_sentences::{ServerChange, server_changes};
+use clr_serving_rows::{ServerChange, server_changes};
 use clr_rows::{CellId, Row};
 use std::alloc::{AllocError, Global};
 

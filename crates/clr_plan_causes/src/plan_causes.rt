@@ -2,7 +2,7 @@
 
 ghost use Rattle.std.specs.Prelude.{◌∷◌, [], IfOk, string_bytes};
 ghost use Rattle.clr_steps.specs.Quiet.{MergeSet};
-ghost use Rattle.clr_plan_sentences.specs.NeedPlaces.{rule_in};
+ghost use Rattle.clr_serving_rows.specs.NeedPlaces.{rule_in};
 ghost use Rattle.clr_merge_sets.specs.MemberChanges.{AreMembers};
 ghost use Rattle.clr_plan_causes.specs.Badges.{conflict_words, shared_words};
 ghost use Rattle.clr_plan_causes.specs.PlanCauses.{Finds, IsCauseOf, IsCauseUnder, IsCellCause, IsVerdictCause};
@@ -17,7 +17,7 @@ use clr_map_scenes::Cause;
 use clr_member_changes::MemberChanges;
 use clr_merge_sets::Plan;
 use clr_needs::Need;
-use clr_plan_sentences::rule_of;
+use clr_serving_rows::rule_of;
 use clr_rows::{CellId, Schema};
 use std::alloc::{AllocError, Global};
 

@@ -6,7 +6,8 @@ use clr_needs::Need;
 use clr_phrases::rule_sentence;
 use clr_plan::Plan;
 use clr_plan_scenes::Field;
-use clr_plan_sentences::{Setting, answer_words, rule_of};
+use clr_plan_sentences::{Setting, answer_words};
+use clr_serving_rows::rule_of;
 use std::alloc::{AllocError, Global};
 
 /// Returns what sentences are made of.

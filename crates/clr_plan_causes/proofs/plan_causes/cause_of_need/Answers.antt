@@ -1,6 +1,6 @@
 use Rattle.std.proofs.Common.{◌≡◌, ◌∙◌, ℕ, List, Some, ap, length, rules, subst}
 use Rattle.clr_rows.specs.declared.tables.TableDef.{TableDef}
-use Rattle.clr_plan_sentences.specs.NeedPlaces.{rule_in}
+use Rattle.clr_serving_rows.specs.NeedPlaces.{rule_in}
 use Rattle.clr_map_scenes.specs.declared.shown_causes.Cause.{Cause}
 use Rattle.clr_map_scenes.specs.declared.shown_causes.CauseRow.{CauseRow}
 use Rattle.clr_plan_causes.specs.Badges.{badge_words}
