@@ -1,7 +1,7 @@
 //! Boxes round what a map shows.
 
-use crate::shown_causes::{Cause, CauseRow, Mark};
 use crate::designs::Designs;
+use crate::shown_causes::{Cause, CauseRow, Mark};
 use clr_change::ChangeSet;
 use clr_drawing::{extent_of, join_boxes};
 use clr_rows::{Place, Row, Shape, Sheet};

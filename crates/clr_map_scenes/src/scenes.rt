@@ -3,11 +3,11 @@
 ghost use Rattle.std.specs.Prelude.{◌≡◌, ◌&&◌, not, is_some};
 ghost use Rattle.clr_map_scenes.specs.Designs.{is_among, leaders_of};
 
-use crate::shown_causes::Cause;
 use crate::designs::Designs;
 use crate::extents::{extent_of_cause, extent_of_changes, extent_of_everything};
 use crate::fields::Field;
 use crate::layouts::{view_of, world_of_cause, world_of_changes};
+use crate::shown_causes::Cause;
 use clr_change::ChangeSet;
 use clr_drawing::{Area, Detail, Viewport};
 use clr_rows::{Row, Sheet};

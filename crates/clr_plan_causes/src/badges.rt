@@ -138,7 +138,11 @@ fn key_words(alloc: Global, key: i64) -> Result<String, AllocError>
 }
 
 /// Returns the few words for a cell that two designs change.
-pub(crate) fn shared_words(alloc: Global, schema: &Schema, cell: CellId) -> Result<String, AllocError>
+pub(crate) fn shared_words(
+    alloc: Global,
+    schema: &Schema,
+    cell: CellId,
+) -> Result<String, AllocError>
     ensures { IfOk result (λ text. string_bytes text ≡ shared_words schema.now cell) }
 {
     let key = key_words(alloc, cell.key)?;

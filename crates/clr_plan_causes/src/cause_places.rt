@@ -13,9 +13,9 @@ use clr_map_scenes::{CausePlace, CauseRow};
 use clr_member_changes::MemberChanges;
 use clr_needs::Need;
 use clr_phrases::Meeting;
-use clr_serving_rows::need_place;
 use clr_rows::Place;
 use clr_segments::part;
+use clr_serving_rows::need_place;
 
 /// Returns the parts of a need's two rows at which they meet, if both are there.
 fn meeting_parts(need: &Need, rows: &[CauseRow]) -> Option<((Place, Place), (Place, Place))>

@@ -13,8 +13,8 @@ use clr_map_scenes::CauseRow;
 use clr_member_changes::{MemberChanges, Standing};
 use clr_merge_sets::row_of_version;
 use clr_needs::{Need, VersionId};
-use clr_serving_rows::{ServerChange, server_changes};
 use clr_rows::{CellId, Row};
+use clr_serving_rows::{ServerChange, server_changes};
 use std::alloc::{AllocError, Global};
 
 /// Returns the design that brings, changes or removes a row.

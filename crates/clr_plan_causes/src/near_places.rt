@@ -75,11 +75,7 @@ fn place_within(place: Place, first: (Place, Place), second: (Place, Place)) -> 
 }
 
 /// Returns a place near where two parts meet, in the boxes of both.
-pub(crate) fn place_near(
-    meeting: Meeting,
-    first: (Place, Place),
-    second: (Place, Place),
-) -> Place
+pub(crate) fn place_near(meeting: Meeting, first: (Place, Place), second: (Place, Place)) -> Place
     ensures { BoxesTouch (box_between first.0 first.1) (box_between second.0 second.1) → IsInBothBoxes first second result }
 {
     let place = match meeting {

@@ -17,8 +17,8 @@ use clr_map_scenes::Cause;
 use clr_member_changes::MemberChanges;
 use clr_merge_sets::Plan;
 use clr_needs::Need;
-use clr_serving_rows::rule_of;
 use clr_rows::{CellId, Schema};
+use clr_serving_rows::rule_of;
 use std::alloc::{AllocError, Global};
 
 /// Returns a need that nothing covers.

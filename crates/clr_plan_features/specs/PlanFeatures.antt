@@ -16,7 +16,7 @@ use Rattle.clr_merge_sets.specs.declared.plans.Plan.TheVariants as plan
 use Rattle.clr_geojson.specs.declared.features.Feature.{Feature}
 use Rattle.clr_geojson.specs.Collections.{collection_text}
 use Rattle.clr_geojson.specs.Properties.{flag_property, number_property, text_property}
-use Rattle.clr_plan_features.specs.declared.places.MarkedPlace.{MarkedPlace}
+use Rattle.clr_plan_features.specs.declared.cause_features.MarkedPlace.{MarkedPlace}
 use Rattle.clr_plan_features.specs.CausePlaces.{IsPlaceOfPlan}
 use Rattle.clr_plan_features.specs.ChangeFeatures.{changed_features, standing_features}
 

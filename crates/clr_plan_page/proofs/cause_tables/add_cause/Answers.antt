@@ -2,7 +2,7 @@ use Rattle.std.proofs.Common.{refl}
 use Rattle.std.proofs.lemmas.Result.{on_ok_weaker}
 use Rattle.clr_html.specs.declared.blocks.Block.TheVariants as block
 use Rattle.clr_plan_page.proofs.SectionLemmas.{plain_one, plain_twice, said_plain}
-use Rattle.clr_plan_page.proofs.causes.add_cause.Goals as goal
+use Rattle.clr_plan_page.proofs.cause_tables.add_cause.Goals as goal
 
 pub returns : goal.returns
 returns c =

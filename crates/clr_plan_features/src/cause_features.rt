@@ -1,8 +1,9 @@
-//! The place of a cause.
+//! The feature of the place of a cause.
 
-ghost use Rattle.std.specs.Prelude.{◌≡◌, ◌++◌, map, IfOk, OnOk};
+ghost use Rattle.std.specs.Prelude.{◌≡◌, ◌++◌, IfOk, OnOk};
 ghost use Rattle.std.specs.List.{flat_map};
-ghost use Rattle.clr_merge_sets.specs.MergeSetNames.{merge_set};
+ghost use Rattle.clr_steps.specs.Quiet.{MergeSet};
+ghost use Rattle.clr_merge_sets.specs.MemberChanges.{AreMembers};
 ghost use Rattle.clr_geojson.specs.Collections.{line_with_comma};
 ghost use Rattle.clr_plan_features.specs.CausePlaces.{IsPlaceOfPlan, place_between, place_between_rows, place_of_cause, place_of_mark};
 ghost use Rattle.clr_plan_features.specs.PlanFeatures.{place_feature, place_features};
@@ -10,9 +11,11 @@ ghost use Rattle.clr_plan_features.specs.PlanFeatures.{place_feature, place_feat
 use clr_drawing::middle_of;
 use clr_engine::Office;
 use clr_geojson::{Feature, Properties, Property, add_feature};
+use clr_map_scenes::{Cause, CauseRow, Mark};
+use clr_member_changes::MemberChanges;
 use clr_merge_sets::Plan;
-use clr_plan_scenes::{Cause, CauseRow, Designs, Field, Mark, cause_of};
-use clr_rows::{Place, Shape, Sheet, Words};
+use clr_plan_causes::cause_of;
+use clr_rows::{Place, Shape, Words};
 use std::alloc::{AllocError, Global};
 
 /// A place that a map marks, and the few words that it says there.
@@ -67,46 +70,18 @@ fn place_of_cause(cause: Cause) -> Option<MarkedPlace>
     }
 }
 
-/// Returns the place of the cause of a blocked plan, if it has one.
-fn place_of_blocked(
-    alloc: Global,
-    office: &Office,
-    root: &str,
-    names: &[&str],
-    rows: &Sheet,
-    plan: &Plan,
-) -> Result<Option<MarkedPlace>, AllocError>
-    ensures { IfOk result (IsPlaceOfPlan office.now (merge_set root.now (map (λ name. name.now) names.now)) plan.now) }
-{
-    let designs = Designs::read(alloc, office, root, names, &[])?;
-    let field = Field {
-        alloc,
-        office,
-        schema: office.schema(),
-        root,
-        rows,
-        designs: &designs,
-    };
-    match cause_of(field, plan)? {
-        Some(cause) => Ok(place_of_cause(cause)),
-        None => Ok(None),
-    }
-}
-
 /// Returns the place of the cause of a plan, with what a map says there: none where the plan isn't blocked, or its cause has no place.
 pub(crate) fn place_of_plan(
     alloc: Global,
     office: &Office,
-    root: &str,
-    names: &[&str],
-    rows: &Sheet,
+    members: &MemberChanges<'_>,
     plan: &Plan,
 ) -> Result<Option<MarkedPlace>, AllocError>
-    ensures { IfOk result (IsPlaceOfPlan office.now (merge_set root.now (map (λ name. name.now) names.now)) plan.now) }
+    ensures { IfOk result (λ found. (s : MergeSet) → AreMembers office.now s members.now → IsPlaceOfPlan office.now s plan.now found) }
 {
-    match plan {
-        Plan::Blocked { .. } => place_of_blocked(alloc, office, root, names, rows, plan),
-        _ => Ok(None),
+    match cause_of(alloc, office, members, plan)? {
+        Some(cause) => Ok(place_of_cause(cause)),
+        None => Ok(None),
     }
 }
 
