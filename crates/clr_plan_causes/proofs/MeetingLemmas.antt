@@ -1,5 +1,5 @@
 -- Rows that are told to meet, and a place near where they do.
-use Rattle.std.proofs.Common.{◌≡◌, ◌++◌, List, Option, Some, None, cc, option_to_list, refl, subst, sym}
+use Rattle.std.proofs.Common.{◌≡◌, ◌++◌, List, Option, Some, None, option_to_list, refl, subst, sym}
 use Rattle.std.specs.Option.{option_and_then, option_map}
 use Rattle.clr_rows.specs.declared.places.Place.{Place}
 use Rattle.clr_rows.specs.declared.rows.Row.{Row}
@@ -20,27 +20,27 @@ use Rattle.clr_phrases.specs.declared.meetings.Meeting.TheVariants as meeting
 use Rattle.clr_serving_rows.specs.NeedPlaces.{IsCrossingPlace, IsPlaceIn, IsServingPlace, end_place, rule_in}
 use Rattle.clr_map_scenes.specs.declared.shown_causes.CauseRow.{CauseRow}
 use Rattle.clr_plan_causes.specs.CauseMarks.{DoMeet, IsInBothBoxes, IsNear, MeetsSo, both_parts, near_place}
-use Rattle.clr_plan_causes.specs.CauseRows.{subject_rows, version_row}
+use Rattle.clr_plan_causes.specs.CauseRows.{second_rows, subject_rows, version_row, version_rows}
 
 -- parts that are told to meet between whole places, or in more than one, do meet
 parts_between : (x y : Option Segment) → IsCrossingPlace x y meeting.Between → DoMeet (both_parts x y)
-parts_between None y is = absurd (cc is)
-parts_between (Some a) None is = absurd (cc is)
+parts_between None y is = absurd cc
+parts_between (Some a) None is = absurd cc
 parts_between (Some a) (Some b) is = is.0
 
 parts_overlap : (x y : Option Segment) → IsCrossingPlace x y meeting.Overlap → DoMeet (both_parts x y)
-parts_overlap None y is = absurd (cc is)
-parts_overlap (Some a) None is = absurd (cc is)
+parts_overlap None y is = absurd cc
+parts_overlap (Some a) None is = absurd cc
 parts_overlap (Some a) (Some b) is = (is.d, is.s, is.t, is.one)
 
 -- an end is told as a whole place
 end_not_between : (place : Option Place) → meeting.Between ≡ end_place place → ⊥
-end_not_between None is = cc is
-end_not_between (Some p) is = cc is
+end_not_between None is = cc
+end_not_between (Some p) is = cc
 
 end_not_overlap : (place : Option Place) → meeting.Overlap ≡ end_place place → ⊥
-end_not_overlap None is = cc is
-end_not_overlap (Some p) is = cc is
+end_not_overlap None is = cc
+end_not_overlap (Some p) is = cc
 
 -- the subjects of a need, by their rows
 meets_by : (sets : List Changes) (v w : VersionId) (r : Option Rule) (need : Need) (told : Meeting) (first second : Option Row)
@@ -53,13 +53,19 @@ meets_by sets v w (Some (Crossing a b server)) need meeting.Between (Some first)
 meets_by sets v w (Some (Crossing a b server)) need meeting.Overlap (Some first) (Some second) is = parts_overlap _ _ is
 meets_by sets v w (Some (EndNode subject tip server)) need meeting.Between (Some first) second is = absurd (end_not_between _ is)
 meets_by sets v w (Some (EndNode subject tip server)) need meeting.Overlap (Some first) second is = absurd (end_not_overlap _ is)
-meets_by sets v w r need meeting.Between first second is = absurd (cc is)
-meets_by sets v w r need meeting.Overlap first second is = absurd (cc is)
+meets_by sets v w r need meeting.Between first second is = absurd cc
+meets_by sets v w r need meeting.Overlap first second is = absurd cc
+
+subjects_meet : (o : Office) (s : MergeSet) (need : Need) (told : Meeting) (second : Option VersionId)
+    → IsServingPlace (rule_in o need) need (row_in o s need.first) (option_and_then (row_in o s) second) told
+    → MeetsSo (version_rows o s need.first ++ second_rows o s second) need told
+subjects_meet o s need told None is = meets_by (change_sets o s) need.first need.first (rule_in o need) need told (row_in o s need.first) None is
+subjects_meet o s need told (Some v) is = meets_by (change_sets o s) need.first v (rule_in o need) need told (row_in o s need.first) (row_in o s v) is
 
 -- where the subjects of a need are told to meet between whole places, or in more than one, they do meet
 pub told_meets : (o : Office) (s : MergeSet) (need : Need) (told : Meeting) (rows : List CauseRow) → rows ≡ subject_rows o s need → IsPlaceIn o s need told
     → MeetsSo rows need told
-told_meets o s need told rows are is = subst (λ (rs : List CauseRow). MeetsSo rs need told) (sym are) ?
+told_meets o s need told rows are is = subst (λ (rs : List CauseRow). MeetsSo rs need told) (sym are) (subjects_meet o s need told need.second is)
 
 -- a place in the boxes of two parts with a common point is near where they meet
 pub near_by : (parts : Option (Segment × Segment)) (a b : Segment) (p : Place) → parts ≡ Some (a, b)
