@@ -52,3 +52,10 @@ IsCauseOf o s (plan.Blocked order cause) found = IsVerdictCause o s cause found
 IsCauseOf o s (plan.Cleared c) found = found ≡ None
 IsCauseOf o s (plan.Unfit v) found = found ≡ None
 IsCauseOf o s plan.OutOfMemory found = found ≡ None
+
+-- the members that the cause of a plan names, in the order in which a merge of them is refused
+abbrev pub leaders_of : Plan → List ℕ
+leaders_of (plan.Blocked order cause) = order.items
+leaders_of (plan.Cleared c) = []
+leaders_of (plan.Unfit v) = []
+leaders_of plan.OutOfMemory = []

@@ -1,11 +1,11 @@
 //! What the cause of a plan is about.
 
-ghost use Rattle.std.specs.Prelude.{◌∷◌, [], IfOk, string_bytes};
+ghost use Rattle.std.specs.Prelude.{◌≡◌, ◌∷◌, [], IfOk, string_bytes};
 ghost use Rattle.clr_steps.specs.Quiet.{MergeSet};
 ghost use Rattle.clr_serving_rows.specs.NeedPlaces.{rule_in};
 ghost use Rattle.clr_merge_sets.specs.MemberChanges.{AreMembers};
 ghost use Rattle.clr_plan_causes.specs.Badges.{conflict_words, shared_words};
-ghost use Rattle.clr_plan_causes.specs.PlanCauses.{Finds, IsCauseOf, IsCauseUnder, IsCellCause, IsVerdictCause};
+ghost use Rattle.clr_plan_causes.specs.PlanCauses.{Finds, IsCauseOf, IsCauseUnder, IsCellCause, IsVerdictCause, leaders_of};
 
 use crate::badges::{badge_of_need, conflict_words, shared_words};
 use crate::cause_marks::{mark_of, ring_at};
@@ -132,5 +132,16 @@ pub fn cause_of(
     match plan {
         Plan::Blocked { cause, .. } => cause_of_verdict(alloc, office, members, cause),
         Plan::Unfit(_) | Plan::Cleared(_) | Plan::OutOfMemory => Ok(None),
+    }
+}
+
+/// Returns the positions of the members that the cause of a plan names, in the order in which a merge of them is refused: none where the plan isn't
+/// blocked.
+pub fn leaders_of(plan: &Plan) -> &[usize]
+    ensures { result.now ≡ leaders_of plan.entry.now }
+{
+    match plan {
+        Plan::Blocked { order, .. } => order.as_slice(),
+        Plan::Unfit(_) | Plan::Cleared(_) | Plan::OutOfMemory => &[],
     }
 }

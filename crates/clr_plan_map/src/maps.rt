@@ -16,7 +16,7 @@ use clr_map_marks::{add_haloes, add_line_marks, add_lines, add_mark, add_point_m
 use clr_map_scenes::{Cause, Designs, FOOT, Field, MapScene, PAGE_WIDTH};
 use clr_member_changes::MemberChanges;
 use clr_plan::Plan;
-use clr_plan_causes::cause_of;
+use clr_plan_causes::{cause_of, leaders_of};
 use clr_plan_sentences::Setting;
 use clr_rows::{Schema, Sheet};
 use clr_svg::{Ink, Layer, PagePoint, Pixels, SvgPage, write_page};
@@ -105,14 +105,6 @@ fn drawn_with(
         names,
         sentence,
     })
-}
-
-/// Returns the members that a plan's order names.
-fn leaders_of(plan: &Plan) -> &[usize] {
-    match plan {
-        Plan::Blocked { order, .. } => order.as_slice(),
-        _ => &[],
-    }
 }
 
 /// Returns the rows of a root, or none where it doesn't stand.

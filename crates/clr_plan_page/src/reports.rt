@@ -19,6 +19,7 @@ use clr_engine::Office;
 use clr_html::{HtmlPage, Section, write_page};
 use clr_member_changes::MemberChanges;
 use clr_plan::Plan;
+use clr_plan_causes::leaders_of;
 use clr_plan_map::plan_map;
 use clr_plan_sentences::{Setting, answer_words};
 use clr_rows::Schema;
@@ -57,14 +58,6 @@ fn why_of(setting: Setting<'_>, plan: &Plan, trials: &[Trial]) -> Result<Section
     section.add_paragraph(answer.as_str())?;
     add_reasons(&mut section, setting, plan, trials)?;
     Ok(section.into_section())
-}
-
-/// Returns the members that a plan's order names.
-fn leaders_of(plan: &Plan) -> &[usize] {
-    match plan {
-        Plan::Blocked { order, .. } => order.as_slice(),
-        _ => &[],
-    }
 }
 
 /// Returns the designs, and the smallest sets of them that can't be merged together.
