@@ -3,17 +3,18 @@
 ghost use Rattle.std.specs.Prelude.{◌≡◌, map, IfOk};
 ghost use Rattle.clr_steps.specs.Quiet.{MergeSet};
 ghost use Rattle.clr_merge_sets.specs.MemberChanges.{AreMembers};
-ghost use Rattle.clr_plan_features.specs.PlanFeatures.{AreFeatures, rows_of_root};
+ghost use Rattle.clr_geojson.specs.Collections.{collection_text};
+ghost use Rattle.clr_plan_features.specs.PlanFeatures.{AreFeatures, features_of, rows_of_root};
 
 use crate::cause_cells::cause_cells;
-use crate::cause_features::{add_place, place_of_plan};
+use crate::cause_features::{MarkedPlace, add_place, place_of_plan};
 use crate::changes::add_changes;
 use crate::standing::add_standing;
 use clr_engine::Office;
 use clr_geojson::{begin_collection, end_collection};
 use clr_member_changes::MemberChanges;
 use clr_merge_sets::Plan;
-use clr_rows::Sheet;
+use clr_rows::{CellId, Schema, Sheet};
 use std::alloc::{AllocError, Global};
 
 /// Returns the rows of a root, and none where it doesn't stand.
@@ -24,6 +25,28 @@ fn rows_of(alloc: Global, office: &Office, root: &str) -> Result<Sheet, AllocErr
         Some(rows) => Ok(rows),
         None => Ok(Sheet::new(alloc)),
     }
+}
+
+/// Returns the features of a root's rows, of what members change and of the place of a cause, if there is one.
+fn features_text(
+    alloc: Global,
+    schema: &Schema,
+    members: &MemberChanges<'_>,
+    rows: &Sheet,
+    causes: &[CellId],
+    marked: &Option<MarkedPlace>,
+    system: Option<u32>,
+) -> Result<Vec<u8>, AllocError>
+    ensures { IfOk result (λ text. text.items ≡ collection_text system (features_of schema.now causes.now members.now.root.now
+        (map (λ name. name.now) members.now.names.now) members.now.changes.items rows.now marked.now)) }
+{
+    let sets = members.changes.as_slice();
+    let mut text = begin_collection(alloc, system)?;
+    add_standing(alloc, &mut text, schema, causes, members.root, sets, rows)?;
+    add_changes(alloc, &mut text, schema, causes, members.names, sets)?;
+    add_place(alloc, &mut text, marked)?;
+    let whole = end_collection(text)?;
+    Ok(whole)
 }
 
 /// Returns the features of a plan of members of a root, as GeoJSON in metres, one a line: each row of the root that no member changes; each
@@ -41,15 +64,17 @@ pub fn plan_features(
         → AreFeatures office.now s plan.now system text.items) }
 {
     let rows = rows_of(alloc, office, members.root)?;
-    let sets = members.changes.as_slice();
     let causes = cause_cells(alloc, plan)?;
-    let causes = causes.as_slice();
-    let schema = office.schema();
     let marked = place_of_plan(alloc, office, members, plan)?;
-    let mut text = begin_collection(alloc, system)?;
-    add_standing(alloc, &mut text, schema, causes, members.root, sets, &rows)?;
-    add_changes(alloc, &mut text, schema, causes, members.names, sets)?;
-    add_place(alloc, &mut text, &marked)?;
-    let whole = end_collection(text)?;
-    Ok(whole)
+    let schema = office.schema();
+    let text = features_text(
+        alloc,
+        schema,
+        members,
+        &rows,
+        causes.as_slice(),
+        &marked,
+        system,
+    )?;
+    Ok(text)
 }
