@@ -3,10 +3,10 @@
 ghost use Rattle.std.specs.Prelude.{◌≡◌, ◌++◌, IfOk, OnOk, map};
 ghost use Rattle.std.specs.Option.{option_copied};
 ghost use Rattle.clr_merge_sets.specs.MergeSetNames.{merge_set};
-ghost use Rattle.clr_plan_sentences.specs.NeedPlaces.{IsPlaceIn};
+ghost use Rattle.clr_serving_rows.specs.NeedPlaces.{IsPlaceIn};
 ghost use Rattle.clr_merge_sets.specs.MemberChanges.{AreMembers};
-ghost use Rattle.clr_work_orders.specs.Labels.{IsPlaceOfCause, set_of};
-ghost use Rattle.clr_work_orders.specs.Remedies.{AreForCause, AreRemedies, for_cause, for_need, leaving_out, server_of};
+ghost use Rattle.clr_plan_sentences.specs.Settings.{set_of};
+ghost use Rattle.clr_work_orders.specs.Remedies.{AreForCause, AreRemedies, IsPlaceOfCause, for_cause, for_need, leaving_out, server_of};
 ghost use Rattle.clr_phrases.specs.declared.meetings.Meeting.{Meeting as Met};
 
 use crate::actions::Action;
@@ -18,8 +18,9 @@ use clr_member_changes::MemberChanges;
 use clr_merge_sets::read_member_changes;
 use clr_needs::Need;
 use clr_plan::Plan;
-use clr_plan_sentences::{Setting, need_place, rule_of, server_changes, server_side};
+use clr_plan_sentences::Setting;
 use clr_rules::Side;
+use clr_serving_rows::{need_place, rule_of, server_changes, server_side};
 use std::alloc::{AllocError, Global};
 
 /// Returns the side whose rows serve a need, if any can.

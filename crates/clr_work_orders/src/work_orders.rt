@@ -4,11 +4,11 @@ ghost use Rattle.std.specs.Prelude.{◌≡◌, ◌++◌, codes, map, IfOk};
 ghost use Rattle.clr_merge_sets.specs.MergeSetNames.{merge_set};
 ghost use Rattle.clr_work_orders.specs.WorkOrders.{IsWorkOrder, trials_text};
 
-use crate::sentences::plan_sentences;
 use crate::trial_lines::add_trials;
 use crate::trials::{Trial, try_remedies};
 use clr_engine::Office;
 use clr_plan::{plan, plan_lines};
+use clr_plan_sentences::plan_sentences;
 use std::alloc::{AllocError, Global};
 
 /// A plan in words: the text, whether the members are cleared, and whether the plan found no memory.

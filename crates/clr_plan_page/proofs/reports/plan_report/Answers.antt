@@ -8,13 +8,13 @@ use Rattle.clr_plan_page.proofs.reports.plan_report.Goals as goal
 
 pub returns-clause-report : goal.returns-clause-report
 returns-clause-report c =
-    let s = merge_set c.args.root.now (map (λ name. name.now) c.args.members.now) in
+    let s = merge_set c.args.members.now.root.now (map (λ name. name.now) c.args.members.now.names.now) in
     let p = c.args.plan.now in
     let page = c.in_ok-page.page in
     let picture = c.in_ok-picture.picture.items in
     let trials = c.in_ok-trials.trials.items in
     let between = c.in_ok-between.between.items in
-    let tables = c.schema.ensures.value ∙ ap (λ (o : Office). o.schema) c.in_ok-trials.ensures.back in
+    let tables = c.schema-schema.ensures.value ∙ ap (λ (o : Office). o.schema) c.in_ok-trials.ensures.back in
     let told = subst (λ (trials : List Trial). AreBetween c.try_remedies.new.office s p trials between) c.as_slice.ensures.value c.in_ok-between.ensures in
     record {
       picture = picture;
