@@ -31,7 +31,7 @@ pub(crate) fn add_numbered(text: &mut String, number: u16, title: &str) -> Resul
 }
 
 /// Returns a rule as a sentence, behind its number and what it is about.
-fn rule_reason(
+pub(crate) fn rule_reason(
     alloc: Global,
     schema: &Schema,
     number: u16,
