@@ -24,7 +24,7 @@ use Rattle.clr_clearance.proofs.ReplyLemmas.{quiet_run}
 use Rattle.clr_clearance.proofs.RunLemmas.{clear_is_safe}
 use Rattle.clr_engine.specs.Fitting.{IsAdmitted}
 use Rattle.clr_merge_sets.specs.Faults.{IsMergeSetFault, of_member, verdict_of, without_memory}
-use Rattle.clr_merge_sets.proofs.MergeSetLemmas.{names_free, root_holds}
+use Rattle.clr_merge_sets.proofs.MergeSetLemmas.{names_free}
 
 -- what an answer says ------------------------------------------------------------------------------
 

@@ -10,8 +10,8 @@ use crate::actions::Action;
 use clr_change::Edit;
 use clr_member_changes::MemberChanges;
 use clr_needs::VersionId;
-use clr_plan_sentences::ServerChange;
 use clr_rows::{CellId, Row};
+use clr_serving_rows::ServerChange;
 use std::alloc::AllocError;
 
 /// Returns the edit by which a cell has again the row that was taken over, where it has a row then or now.
