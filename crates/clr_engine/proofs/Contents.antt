@@ -18,7 +18,6 @@ use Rattle.clr_change.proofs.EditLemmas.{set_change_is}
 use Rattle.clr_rules.specs.declared.needs.Broken.{Broken}
 use Rattle.clr_rules.specs.declared.rules.Rule.{Rule}
 use Rattle.clr_steps.specs.declared.commands.Reply.TheVariants.{RuleBroken}
-use Rattle.clr_rules.specs.Needs.{Holds, broken_needs, newly_broken_needs}
 use Rattle.clr_rules.proofs.NewlyBroken.{all_where_held}
 use Rattle.clr_steps.proofs.NeedLemmas.{holds_in_none}
 use Rattle.clr_rows.specs.Contents.{no_rows}

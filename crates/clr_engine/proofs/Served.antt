@@ -4,10 +4,10 @@ use Rattle.std.proofs.Common.{sym, ap, subst, slice_get, slice_set, arith}
 use Rattle.std.specs.Prelude.{Result, Ok, Err, OnOk, IfSome, is_err}
 use Rattle.std.specs.declared.alloc.AllocError.{AllocError}
 use Rattle.std.specs.Option.{option_and_then, option_map, option_map_or}
-use Rattle.std.proofs.lemmas.Bool.{false≢true, true≢false}
+use Rattle.std.proofs.lemmas.Bool.{true≢false}
 use Rattle.std.proofs.Math.Seq.{take-length}
 use Rattle.std.proofs.lemmas.List.{length-append, length-map, map-set, take-append-le, take_more}
-use Rattle.clr_rows.specs.Contents.{no_rows, row_at}
+use Rattle.clr_rows.specs.Contents.{no_rows}
 use Rattle.clr_rows.specs.declared.tables.TableDef.{TableDef}
 use Rattle.clr_rules.specs.declared.rules.Rule.{Rule}
 use Rattle.clr_finders.specs.RowMaps.{FiledRows}

@@ -3,11 +3,9 @@ use Rattle.std.proofs.Common.{Bool, true, false, sym, ap, subst}
 use Rattle.clr_rules.specs.Books.{FitsBook}
 use Rattle.clr_steps.specs.declared.commands.Command.{Command}
 use Rattle.clr_steps.specs.declared.commands.Reply.{Reply}
-use Rattle.clr_steps.specs.Invariants.{HoldsWhereKept}
 use Rattle.clr_steps.specs.Offices.{Office}
 use Rattle.clr_steps.specs.Steps.{Answer, IsAnswer, is_lost, step, step_or_lost}
 use Rattle.clr_steps.proofs.FitLemmas.{fit_law}
-use Rattle.clr_steps.proofs.RuleLemmas.{rules_law}
 use Rattle.clr_steps.proofs.SchemaLemmas.{schema_law}
 use Rattle.clr_engine.specs.Fitting.{IsFitting}
 

@@ -1,5 +1,5 @@
 -- Offices that fit their schema and hold their rules, and trees of such, with their finders.
-use Rattle.std.specs.Prelude.{◌≡◌, ℕ, List, Option, Some, if◌then◌else◌}
+use Rattle.std.specs.Prelude.{◌≡◌, List, Option, Some, if◌then◌else◌}
 use Rattle.clr_rows.specs.declared.tables.TableDef.{TableDef}
 use Rattle.clr_rows.specs.declared.cells.CellId.{CellId}
 use Rattle.clr_rows.specs.declared.rows.Row.{Row}

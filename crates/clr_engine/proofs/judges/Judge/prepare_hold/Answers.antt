@@ -1,5 +1,4 @@
 use Rattle.std.proofs.Common.{◌∙◌, not, None, Some, Ok, refl, ap, sym}
-use Rattle.std.specs.Result.{result_err}
 use Rattle.clr_rows.specs.Contents.{no_rows}
 use Rattle.clr_workspaces.specs.Workspaces.{workspace_at}
 use Rattle.clr_engine.specs.Fitting.{kept_or}
