@@ -15,11 +15,9 @@ use Rattle.clr_rows.specs.declared.places.Shape.{Shape}
 use Rattle.clr_rows.specs.declared.places.Shape.TheVariants.{Bare, At, Line, Chain}
 use Rattle.clr_rows.specs.declared.rows.Row.{Row}
 use Rattle.clr_rows.specs.declared.rows.Value.{Value}
-use Rattle.clr_rows.specs.declared.rows.Value.TheVariants.{Int, Words}
 use Rattle.clr_rows.specs.declared.tables.Form.{Form}
 use Rattle.clr_rows.specs.declared.tables.Form.TheVariants as form
 use Rattle.clr_rows.specs.declared.tables.Kind.{Kind}
-use Rattle.clr_rows.specs.declared.tables.Kind.TheVariants as kind
 use Rattle.clr_rows.specs.declared.tables.TableDef.{TableDef}
 use Rattle.clr_rows.specs.Numbers.{is_i64}
 use Rattle.clr_rows.specs.Schemas.{are_of_kinds, cell_fault, has_coordinates, is_bad_path, is_coordinate, is_number, is_of_form, is_of_kind, is_place}
@@ -32,7 +30,7 @@ use Rattle.clr_records.specs.Values.{value_field}
 use Rattle.clr_records.proofs.Decimals.{number_again}
 use Rattle.clr_records.proofs.ValuesAgain.{value_again}
 use Rattle.clr_lines.specs.Rows.{place_fields, shape_fields}
-use Rattle.clr_scripts.specs.Edits.{can_have_coordinates, edit_in, edit_of, place_in, place_of, row_can_have_fields, row_of, shape_of, value_of, values_of}
+use Rattle.clr_scripts.specs.Edits.{can_have_coordinates, edit_in, edit_of, place_in, place_of, row_can_have_fields, row_of, shape_of, values_of}
 use Rattle.clr_scripts.specs.Edits.{vertices_of, whole_number}
 use Rattle.clr_designs.specs.Scripts.{edit_fields}
 use Rattle.clr_designs.specs.ReadBack.{Fits}

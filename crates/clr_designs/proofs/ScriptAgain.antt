@@ -13,12 +13,9 @@ use Rattle.clr_rows.specs.declared.places.Place.{Place}
 use Rattle.clr_rows.specs.declared.places.Shape.{Shape}
 use Rattle.clr_rows.specs.declared.places.Shape.TheVariants.{Bare, At, Line, Chain}
 use Rattle.clr_rows.specs.declared.rows.Row.{Row}
-use Rattle.clr_rows.specs.declared.rows.Value.{Value}
-use Rattle.clr_rows.specs.declared.rows.Value.TheVariants.{Int, Words}
 use Rattle.clr_rows.specs.declared.tables.TableDef.{TableDef}
 use Rattle.clr_rows.specs.Names.{is_good_name}
-use Rattle.clr_rows.specs.Numbers.{is_i64}
-use Rattle.clr_rows.specs.Schemas.{has_coordinates, is_coordinate, is_key, is_number, is_place, name_of_table, row_fault, schema_fault}
+use Rattle.clr_rows.specs.Schemas.{has_coordinates, is_coordinate, is_key, is_place, name_of_table, row_fault, schema_fault}
 use Rattle.clr_rows.proofs.SchemaLemmas as schema
 use Rattle.clr_change.specs.declared.edits.Edit.{Edit}
 use Rattle.clr_change.specs.declared.edits.Edit.TheVariants.{Insert, Update, Delete}

@@ -2,7 +2,7 @@
 use Rattle.std.proofs.Common.{◌≡◌, ℕ, suc, ◌+◌, Bool, true, List, [], ◌∷◌, get_or, map, Ok, Option, Some, None, ℤ, pos, refl}
 use Rattle.std.proofs.Common.{arith}
 use Rattle.std.specs.Prelude.{IsUtf8, slice_get, unwrap_or}
-use Rattle.std.specs.List.{All, AllByRecursion, list_all}
+use Rattle.std.specs.List.{All, AllByRecursion}
 use Rattle.std.proofs.lemmas.Bool.{and_parts}
 use Rattle.std.proofs.lemmas.List.Elements.{recursion_from_All}
 use Rattle.std.proofs.lemmas.Str.{IsUtf8-nil, is_utf8-from_IsUtf8}
@@ -11,8 +11,6 @@ use Rattle.csv.specs.Reading.{strip_bom}
 use Rattle.clr_rows.specs.declared.limits.TheConstants.{KEY}
 use Rattle.clr_rows.specs.declared.places.Shape.{Shape}
 use Rattle.clr_rows.specs.declared.places.Shape.TheVariants.{Bare, At, Line, Chain}
-use Rattle.clr_rows.specs.declared.rows.Value.{Value}
-use Rattle.clr_rows.specs.declared.rows.Value.TheVariants.{Int, Words}
 use Rattle.clr_rows.specs.declared.tables.Form.{Form}
 use Rattle.clr_rows.specs.declared.tables.Form.TheVariants as form
 use Rattle.clr_rows.specs.declared.tables.Kind.{Kind}
@@ -22,7 +20,7 @@ use Rattle.clr_records.proofs.RecordsAgain.{HasField, read_written, rows_closed,
 use Rattle.clr_records.proofs.Turns.{joined}
 use Rattle.clr_records.proofs.Utf8.{low_utf8, name_utf8, number_utf8}
 use Rattle.clr_layer_text.specs.declared.limits.TheConstants.{SHAPE}
-use Rattle.clr_rows.specs.Schemas.{is_key, is_number, names_of, schema_fault}
+use Rattle.clr_rows.specs.Schemas.{is_key, names_of, schema_fault}
 use Rattle.clr_rows.proofs.SchemaLemmas.{good_column_name, key_within, row_fits}
 use Rattle.clr_records.specs.Records.{in_turn}
 use Rattle.clr_layer_text.specs.declared.rows.LayerRow.{LayerRow}

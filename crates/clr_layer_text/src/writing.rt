@@ -6,7 +6,6 @@ ghost use Rattle.csv.specs.Writing.{default_writer, row_text};
 ghost use Rattle.clr_rows.specs.Schemas.{names_of};
 ghost use Rattle.clr_layer_text.specs.Layers.{header_of, key_text, layer_text, row_fields, shape_fields, shape_name};
 ghost use Rattle.std.specs.List.{All};
-ghost use Rattle.clr_records.specs.Values.{IsText};
 ghost use Rattle.clr_layer_text.specs.ReadBack.{HasTexts};
 ghost use Rattle.clr_records.specs.Writing.{IsBetween, records_text, written_by};
 
