@@ -1,14 +1,16 @@
 //! A plan as a work order.
 
-ghost use Rattle.std.specs.Prelude.{◌≡◌, ◌++◌, codes, map, IfOk};
+ghost use Rattle.std.specs.Prelude.{◌≡◌, ◌++◌, codes, map, string_bytes, IfOk};
 ghost use Rattle.clr_merge_sets.specs.MergeSetNames.{merge_set};
+ghost use Rattle.clr_plan_sentences.specs.Sentences.{IsSentences};
 ghost use Rattle.clr_work_orders.specs.WorkOrders.{IsWorkOrder, trials_text};
 
 use crate::trial_lines::add_trials;
 use crate::trials::{Trial, try_remedies};
 use clr_engine::Office;
-use clr_plan::{plan, plan_lines};
-use clr_plan_sentences::plan_sentences;
+use clr_merge_sets::read_member_changes;
+use clr_plan::{Plan, plan, plan_lines};
+use clr_plan_sentences::{Setting, plan_sentences};
 use std::alloc::{AllocError, Global};
 
 /// A plan in words: the text, whether the members are cleared, and whether the plan found no memory.
@@ -35,6 +37,25 @@ fn order_text(
     Ok(text)
 }
 
+/// Returns a plan of members of a root in sentences.
+fn sentences_of(
+    alloc: Global,
+    office: &Office,
+    root: &str,
+    names: &[&str],
+    plan: &Plan,
+) -> Result<String, AllocError>
+    ensures { IfOk result (λ text. IsSentences office.now (merge_set root.now (map (λ name. name.now) names.now)) plan.now (string_bytes text)) }
+{
+    let members = read_member_changes(alloc, office, root, names)?;
+    let setting = Setting {
+        alloc,
+        office,
+        members: &members,
+    };
+    plan_sentences(setting, plan)
+}
+
 /// Returns the plan of members that are to be merged into a root as a work order. Its text has sentences:
 /// where the members are cleared what each of them changes, and what serves each need that they touch; where
 /// they are blocked an order in which a merge is refused, the cause with its rows, and where they meet; where a
@@ -54,7 +75,7 @@ pub fn work_order(
 {
     let planned = plan(alloc, office, root, names);
     let lines = plan_lines(alloc, office.schema(), names, root, &planned)?;
-    let sentences = plan_sentences(alloc, office, root, names, &planned)?;
+    let sentences = sentences_of(alloc, office, root, names, &planned)?;
     let trials = try_remedies(alloc, office, root, names, &planned)?;
     let text = order_text(
         alloc,
