@@ -4,8 +4,7 @@ ghost use Rattle.std.specs.Prelude.{◌≡◌, ◌++◌, IfOk, OnOk, string_byte
 ghost use Rattle.std.specs.List.{flat_map};
 ghost use Rattle.clr_plan_sentences.specs.Sentences.{AreCauseLines, AreDetails, IsSentences, cause_lines, cleared_details, counts_text, entry_line, entry_lines};
 ghost use Rattle.clr_plan_sentences.specs.Sentences.{member_line, members_text, more_text, need_line, needs_text, row_lines, some_needs_text, verdict_text};
-ghost use Rattle.clr_merge_sets.specs.MemberChanges.{AreMembers};
-ghost use Rattle.clr_plan_sentences.specs.Settings.{set_of};
+ghost use Rattle.clr_merge_sets.specs.MemberChanges.{AreMembers, set_of};
 
 use crate::answers::answer_words;
 use crate::served_needs::NeedWords;

@@ -1,15 +1,14 @@
 //! A plan as a work order.
 
-ghost use Rattle.std.specs.Prelude.{◌≡◌, ◌++◌, codes, map, string_bytes, IfOk};
+ghost use Rattle.std.specs.Prelude.{◌≡◌, ◌++◌, codes, map, IfOk};
 ghost use Rattle.clr_merge_sets.specs.MergeSetNames.{merge_set};
-ghost use Rattle.clr_plan_sentences.specs.Sentences.{IsSentences};
 ghost use Rattle.clr_work_orders.specs.WorkOrders.{IsWorkOrder, trials_text};
 
 use crate::trial_lines::add_trials;
 use crate::trials::{Trial, try_remedies};
 use clr_engine::Office;
 use clr_merge_sets::read_member_changes;
-use clr_plan::{Plan, plan, plan_lines};
+use clr_plan::{plan_changes, plan_lines};
 use clr_plan_sentences::{Setting, plan_sentences};
 use std::alloc::{AllocError, Global};
 
@@ -37,25 +36,6 @@ fn order_text(
     Ok(text)
 }
 
-/// Returns a plan of members of a root in sentences.
-fn sentences_of(
-    alloc: Global,
-    office: &Office,
-    root: &str,
-    names: &[&str],
-    plan: &Plan,
-) -> Result<String, AllocError>
-    ensures { IfOk result (λ text. IsSentences office.now (merge_set root.now (map (λ name. name.now) names.now)) plan.now (string_bytes text)) }
-{
-    let members = read_member_changes(alloc, office, root, names)?;
-    let setting = Setting {
-        alloc,
-        office,
-        members: &members,
-    };
-    plan_sentences(setting, plan)
-}
-
 /// Returns the plan of members that are to be merged into a root as a work order. Its text has sentences:
 /// where the members are cleared what each of them changes, and what serves each need that they touch; where
 /// they are blocked an order in which a merge is refused, the cause with its rows, and where they meet; where a
@@ -73,10 +53,16 @@ pub fn work_order(
     ensures order { IfOk result (IsWorkOrder office.old (merge_set root.now (map (λ name. name.now) names.now))) }
     ensures back { IfOk result (λ order. office.new ≡ office.old) }
 {
-    let planned = plan(alloc, office, root, names);
+    let members = read_member_changes(alloc, office, root, names)?;
+    let planned = plan_changes(alloc, office, root, names, members.changes.as_slice());
     let lines = plan_lines(alloc, office.schema(), names, root, &planned)?;
-    let sentences = sentences_of(alloc, office, root, names, &planned)?;
-    let trials = try_remedies(alloc, office, root, names, &planned)?;
+    let setting = Setting {
+        alloc,
+        office,
+        members: &members,
+    };
+    let sentences = plan_sentences(setting, &planned)?;
+    let trials = try_remedies(alloc, office, &members, &planned)?;
     let text = order_text(
         alloc,
         sentences.as_str(),
