@@ -3,6 +3,7 @@
 ghost use Rattle.std.specs.Prelude.{◌≡◌};
 ghost use Rattle.clr_clearance.specs.Headline.{Headline, RunsAreCleared};
 ghost use Rattle.clr_clearance.specs.Laws.{StaysFree};
+ghost use Rattle.clr_clearance.specs.MergeSets.{change_sets};
 ghost use Rattle.clr_clearance.specs.Safety.{Safe};
 ghost use Rattle.clr_clearance.specs.declared.verdicts.Verdict.TheVariants as verdict;
 ghost use Rattle.clr_steps.specs.Quiet.{MergeSet};
@@ -13,9 +14,12 @@ ghost use Rattle.clr_merge_sets.specs.MergeSets.{AreOfMergeSet, AreParts};
 
 use crate::covers::first_uncovered;
 use clr_cert::{Certificate, Entry};
+use clr_change::ChangeSet;
 use clr_clearance::Verdict;
 use clr_engine::Office;
-use clr_merge_sets::{MergeSetParts, read_merge_set, verdict_of};
+use clr_merge_sets::{
+    MergeSetParts, fault_without_memory, read_changes, read_merge_set, verdict_of,
+};
 use std::alloc::Global;
 
 /// Returns what the tests of cells and needs say of the parts of a merge set.
@@ -30,6 +34,28 @@ fn judge_parts(alloc: Global, office: &Office, parts: &MergeSetParts, entries: &
             Err(_) => Verdict::OutOfMemory,
         },
         Err(fault) => verdict_of(fault),
+    }
+}
+
+/// Returns what the tests say of a certificate, over what its members changed.
+fn judge_changes(
+    alloc: Global,
+    office: &Office,
+    certificate: &Certificate,
+    changes: &[ChangeSet],
+) -> Verdict
+    requires { changes.now ≡ change_sets office.now (merge_set_of certificate.now) }
+    ensures { IsCheckAnswer office.now (merge_set_of certificate.now) (entries_in certificate.now.entries) result }
+{
+    match read_merge_set(
+        alloc,
+        office,
+        certificate.root.as_str(),
+        &certificate.members,
+        changes,
+    ) {
+        Ok(parts) => judge_parts(alloc, office, &parts, certificate.entries.as_slice()),
+        Err(verdict) => verdict,
     }
 }
 
@@ -56,13 +82,14 @@ pub fn check(alloc: Global, office: &Office, certificate: &Certificate) -> Verdi
     ensures runs { result ≡ verdict.Clear → RunsAreCleared office.now (merge_set_of certificate.now) }
     ensures admitted { IsAdmitted office.now }
 {
-    match read_merge_set(
-        alloc,
-        office,
-        certificate.root.as_str(),
-        &certificate.members,
-    ) {
-        Ok(parts) => judge_parts(alloc, office, &parts, certificate.entries.as_slice()),
-        Err(verdict) => verdict,
+    let _rules = office.book();
+    match read_changes(alloc, office, &certificate.members) {
+        Ok(changes) => judge_changes(alloc, office, certificate, changes.as_slice()),
+        Err(_) => fault_without_memory(
+            alloc,
+            office,
+            certificate.root.as_str(),
+            &certificate.members,
+        ),
     }
 }

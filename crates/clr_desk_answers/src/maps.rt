@@ -25,8 +25,8 @@ fn print_of_set(
 ) -> Result<Print, AllocError>
     ensures { IfOk result (λ p. IsMapOfSet office.now (merge_set root.now (map (λ name. name.now) members.now)) (printed p)) }
 {
-    let plan = found_plan(alloc, office, root, members)?;
     let changes = read_member_changes(alloc, office, root, members)?;
+    let plan = found_plan(alloc, office, &changes)?;
     let text = plan_map(alloc, office, &changes, &plan)?;
     Ok(print_of_plan_text(alloc, text, &plan))
 }

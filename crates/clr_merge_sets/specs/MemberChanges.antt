@@ -1,5 +1,5 @@
 -- What is read of the members of a merge set, and the rows of its versions.
-use Rattle.std.specs.Prelude.{◌≡◌, Option}
+use Rattle.std.specs.Prelude.{◌≡◌, Option, map}
 use Rattle.std.specs.Option.{option_map}
 use Rattle.clr_rows.specs.declared.rows.Row.{Row}
 use Rattle.clr_needs.specs.declared.needs.VersionId.{VersionId}
@@ -13,6 +13,10 @@ use Rattle.clr_member_changes.specs.declared.member_changes.MemberChanges.{Membe
 pub record AreMembers (o : Office) (s : MergeSet) (members : MemberChanges) : Type 0 where
   pub root : members.root.now ≡ s.root
   pub changes : members.changes.items ≡ change_sets o s
+
+-- the merge set of a root and members
+abbrev pub set_of : MemberChanges → MergeSet
+set_of members = record { root = members.root.now; members = map (λ name. name.now) members.names.now }
 
 -- the row of a version of a merge set, if it has the version
 abbrev pub row_in : Office → MergeSet → VersionId → Option Row

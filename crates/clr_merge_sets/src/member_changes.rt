@@ -6,6 +6,7 @@ ghost use Rattle.clr_steps.specs.Quiet.{MergeSet};
 ghost use Rattle.clr_steps.specs.Readings.{changes_in};
 ghost use Rattle.clr_merge_sets.specs.MemberChanges.{AreMembers, row_in};
 
+use crate::name_lists::NameList;
 use clr_change::ChangeSet;
 use clr_engine::Office;
 use clr_member_changes::MemberChanges;
@@ -14,7 +15,7 @@ use clr_rows::Row;
 use std::alloc::{AllocError, Global};
 
 /// Returns what a workspace changed, and nothing where there is none.
-pub(crate) fn changes(alloc: Global, office: &Office, name: &str) -> Result<ChangeSet, AllocError>
+fn changes_of(alloc: Global, office: &Office, name: &str) -> Result<ChangeSet, AllocError>
     ensures { IfOk result (λ set. set ≡ changes_in office.now name.now) }
 {
     match office.changes(name)? {
@@ -23,23 +24,22 @@ pub(crate) fn changes(alloc: Global, office: &Office, name: &str) -> Result<Chan
     }
 }
 
-/// Returns what workspaces changed, in their order.
-fn changes_of_all(
+/// Returns what workspaces changed, in their order: nothing where there is no such workspace. Whether they can be merged isn't looked at.
+pub fn read_changes<N: NameList>(
     alloc: Global,
     office: &Office,
-    names: &[&str],
+    names: &N,
 ) -> Result<Vec<ChangeSet>, AllocError>
-    ensures { IfOk result (λ sets. sets.items ≡ map (changes_in office.now) (map (λ name. name.now) names.now)) }
+    ensures { IfOk result (λ sets. sets.items ≡ map (changes_in office.now) (N.names names.now)) }
 {
     let mut sets = Vec::new(alloc);
-    for name in names {
-        sets.push(changes(alloc, office, name)?)?;
+    for at in 0..names.len() {
+        sets.push(changes_of(alloc, office, names.name_at(at))?)?;
     }
     Ok(sets)
 }
 
-/// Reads what each of these members changed, in their order: nothing where there is no such workspace. Whether they can be merged into
-/// the root isn't looked at.
+/// Returns a root and members with what each of them changed, as `read_changes` has it.
 pub fn read_member_changes<'a>(
     alloc: Global,
     office: &Office,
@@ -50,7 +50,7 @@ pub fn read_member_changes<'a>(
         (record { root = root.entry.now; members = map (λ name. name.now) names.entry.now }) members) }
     ensures names { IfOk result (λ members. map (λ name. name.now) members.names.now ≡ map (λ name. name.now) names.entry.now) }
 {
-    let changes = changes_of_all(alloc, office, names)?;
+    let changes = read_changes(alloc, office, &names)?;
     Ok(MemberChanges {
         root,
         names,

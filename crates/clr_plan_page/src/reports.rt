@@ -1,6 +1,7 @@
 //! The report of a plan.
 
 ghost use Rattle.std.specs.Prelude.{◌≡◌, map, IfOk, OnOk};
+ghost use Rattle.clr_merge_sets.specs.MemberChanges.{AreMembers, set_of};
 ghost use Rattle.clr_merge_sets.specs.MergeSetNames.{merge_set};
 ghost use Rattle.clr_plan_page.specs.Clashes.{AreDesigns};
 ghost use Rattle.clr_plan_page.specs.Reasons.{AreReasons, IsWhy};
@@ -62,6 +63,7 @@ fn why_of(setting: Setting<'_>, plan: &Plan, trials: &[Trial]) -> Result<Section
 
 /// Returns the designs, and the smallest sets of them that can't be merged together.
 fn designs_of(setting: Setting<'_>, plan: &Plan) -> Result<Section, AllocError>
+    requires { AreMembers setting.entry.office.now (set_of setting.entry.members.now) setting.entry.members.now }
     ensures { IfOk result (λ section. AreDesigns setting.entry.office.now
         (merge_set setting.entry.members.now.root.now (map (λ name. name.now) setting.entry.members.now.names.now)) section.blocks.items) }
 {
@@ -80,6 +82,7 @@ fn sections_between(
     plan: &Plan,
     trials: &[Trial],
 ) -> Result<Vec<Section>, AllocError>
+    requires { AreMembers office.now (set_of members.now) members.now }
     ensures { IfOk result (λ sections. AreBetween office.now (merge_set members.now.root.now (map (λ name. name.now) members.now.names.now))
         plan.now trials.now sections.items) }
 {
@@ -120,7 +123,7 @@ fn page_of(
     Ok(HtmlPage { title, sections })
 }
 
-/// Returns the report of a plan of members of a root, as the text of a page of hypertext in one file, which loads nothing. It begins with the
+/// Returns the report of a plan of members whose changes were read of this office, as the text of a page of hypertext in one file, which loads nothing. It begins with the
 /// word for what the plan says and with the map; then it tells why, with the rows of the cause and what was tried to help, or with what
 /// serves each need; what each design changes; and the smallest sets of designs that can't be merged together. It ends with the command of
 /// `clr_office` that prints the lines of the plan, in which DB stands for the office's file, and with these lines. Each text of the office is
@@ -132,13 +135,14 @@ pub fn plan_report(
     members: &MemberChanges<'_>,
     plan: &Plan,
 ) -> Result<Vec<u8>, AllocError>
+    requires { AreMembers office.old (set_of members.now) members.now }
     ensures report { IfOk result (λ text. IsReport office.old (merge_set members.now.root.now (map (λ name. name.now) members.now.names.now))
         plan.now text.items) }
     ensures back { IfOk result (λ text. office.new ≡ office.old) }
 {
     let (root, names) = (members.root, members.names);
     let picture = plan_map(alloc, office, members, plan)?;
-    let trials = try_remedies(alloc, office, root, names, plan)?;
+    let trials = try_remedies(alloc, office, members, plan)?;
     let between = sections_between(alloc, office, members, plan, trials.as_slice())?;
     let schema = office.schema();
     let page = page_of(alloc, schema, root, names, plan, picture, between)?;

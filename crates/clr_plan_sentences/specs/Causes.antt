@@ -1,8 +1,10 @@
 -- The cause of a no in words.
-use Rattle.std.specs.Prelude.{◌≡◌, ℕ, List, [], ◌∷◌, ◌++◌, codes, nat_lt, if◌then◌else◌}
+use Rattle.std.specs.Prelude.{◌≡◌, ℕ, List, [], ◌∷◌, ◌++◌, codes, nat_lt, Option, Some, None, if◌then◌else◌}
 use Rattle.std.specs.Fmt.{decimal}
 use Rattle.clr_rows.specs.declared.cells.CellId.{CellId}
+use Rattle.clr_rows.specs.declared.tables.TableDef.{TableDef}
 use Rattle.clr_rows.specs.Contents.{Changes}
+use Rattle.clr_rules.specs.declared.rules.Rule.{Rule}
 use Rattle.clr_steps.specs.Offices.{Office}
 use Rattle.clr_steps.specs.Quiet.{MergeSet}
 use Rattle.clr_clearance.specs.declared.verdicts.Verdict.{Verdict}
@@ -10,7 +12,7 @@ use Rattle.clr_clearance.specs.declared.verdicts.Verdict.TheVariants as verdict
 use Rattle.clr_member_changes.specs.Names.{member_name}
 use Rattle.clr_plan_sentences.specs.declared.told_rows.CauseWords.{CauseWords}
 use Rattle.clr_plan_sentences.specs.Labels.{cell_label}
-use Rattle.clr_plan_sentences.specs.NeedCauses.{IsNeedCause, no_cause}
+use Rattle.clr_plan_sentences.specs.NeedCauses.{IsNeedCause, no_cause, rule_reason}
 use Rattle.clr_serving_rows.specs.NeedPlaces.{rule_in}
 use Rattle.clr_plan_sentences.specs.ToldRows.{row_now, row_of_member, row_taken_over}
 
@@ -52,3 +54,15 @@ IsCause o s sets (verdict.Conflict member q count) cause = cause ≡ conflict_ca
 IsCause o s sets (verdict.SharedCell q first second) cause = cause ≡ shared_cause o s sets q first second
 IsCause o s sets (verdict.Uncovered need) cause = IsNeedCause o s sets need (rule_in o need) cause
 IsCause o s sets _ cause = cause ≡ no_cause
+
+-- the rule that nothing serves, if the book has one of its number
+abbrev pub need_reason : List TableDef → ℕ → Option Rule → List ℕ
+need_reason tables number None = []
+need_reason tables number (Some rule) = rule_reason tables number rule
+
+-- why members are blocked, without the rows
+abbrev pub reason_text : Office → MergeSet → Verdict → List ℕ
+reason_text o s (verdict.Conflict member q count) = conflict_reason o s q member count
+reason_text o s (verdict.SharedCell q first second) = shared_reason o s q first second
+reason_text o s (verdict.Uncovered need) = need_reason o.schema need.rule (rule_in o need)
+reason_text o s _ = []

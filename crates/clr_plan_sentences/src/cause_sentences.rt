@@ -1,16 +1,19 @@
 //! The cause of a no in words: its rows, and where they stand.
 
 ghost use Rattle.std.specs.Prelude.{◌≡◌, ◌++◌, IfOk, OnOk, string_bytes};
-ghost use Rattle.clr_plan_sentences.specs.Causes.{IsCause, conflict_cause, conflict_reason, others_text, shared_cause, shared_reason};
+ghost use Rattle.clr_plan_sentences.specs.Causes.{IsCause, conflict_cause, conflict_reason, need_reason, others_text, reason_text, shared_cause, shared_reason};
 ghost use Rattle.clr_plan_sentences.specs.NeedCauses.{no_cause};
-ghost use Rattle.clr_merge_sets.specs.MemberChanges.{AreMembers};
-ghost use Rattle.clr_plan_sentences.specs.Settings.{set_of};
+ghost use Rattle.clr_serving_rows.specs.NeedPlaces.{rule_in};
+ghost use Rattle.clr_merge_sets.specs.MemberChanges.{AreMembers, set_of};
 
 use crate::labels::add_label;
+use crate::need_causes::rule_reason;
 use crate::settings::Setting;
 use crate::told_rows::{CauseWords, RowWords};
 use clr_clearance::Verdict;
+use clr_needs::Need;
 use clr_rows::{CellId, List, Words};
+use clr_serving_rows::rule_of;
 use std::alloc::{AllocError, Global};
 
 /// Returns a cause of which nothing is told.
@@ -163,6 +166,37 @@ impl Setting<'_> {
             }
             Verdict::Uncovered(need) => self.need_cause(need),
             _ => Ok(no_cause(self.alloc)),
+        }
+    }
+
+    /// Returns the rule that a need asks for and nothing serves, as a sentence.
+    fn need_reason(&self, need: &Need) -> Result<String, AllocError>
+        ensures { IfOk result (λ text. string_bytes text
+            ≡ need_reason self.now.office.now.schema need.now.rule (rule_in self.now.office.now need.now)) }
+    {
+        match rule_of(self.office, need) {
+            Some(rule) => rule_reason(self.alloc, self.office.schema(), need.rule, rule),
+            None => Ok(String::new(self.alloc)),
+        }
+    }
+
+    /// Returns why members are blocked, without the rows; nothing of a verdict that blocks none. It looks at no member's changes.
+    pub fn reason(&self, verdict: &Verdict) -> Result<String, AllocError>
+        ensures { IfOk result (λ text. string_bytes text ≡ reason_text self.now.office.now (set_of self.now.members.now) verdict.now) }
+    {
+        match verdict {
+            Verdict::Conflict {
+                member,
+                cell,
+                count,
+            } => self.conflict_reason(*cell, *member, *count),
+            Verdict::SharedCell {
+                cell,
+                first,
+                second,
+            } => self.shared_reason(*cell, *first, *second),
+            Verdict::Uncovered(need) => self.need_reason(need),
+            _ => Ok(String::new(self.alloc)),
         }
     }
 }

@@ -6,6 +6,7 @@
 //! - `plan_sentences`: all sentences of what `plan` answers, each a line.
 //! - `answer_words`: whether members can be merged, and in which order a merge is refused; or which name has to be mended.
 //! - `Setting::cause_words`: the cause of a no; each row that it tells is the version that the cause names, and stands where that stands.
+//! - `Setting::reason`: why members are blocked, without the rows; no member's changes are looked at.
 //! - `Setting::need_words`: a need of a certificate, with the rows that serve it.
 //! - `add_label`, `Setting::cell_label`: a cell, as `main 20`.
 //! - `Setting` tells what an office and members are about.

@@ -14,7 +14,7 @@ use clr_call_test_kit::Memory;
 use clr_engine::{Broken, Office};
 use clr_foot::Scene;
 use clr_grid::{RowFinder, SpotIndex};
-use clr_merge_sets::{MergeSetParts, read_merge_set};
+use clr_merge_sets::{MergeSetParts, read_changes, read_merge_set};
 use clr_needs::SceneFault;
 use clr_rows::RowView;
 use clr_tree::View;
@@ -90,7 +90,8 @@ pub(crate) fn merge_set_lines(
     members: &[&str],
     memory: &mut Memory,
 ) -> Result<String, AllocError> {
-    match read_merge_set(alloc, office, root, &members) {
+    let changes = read_changes(alloc, office, &members)?;
+    match read_merge_set(alloc, office, root, &members, changes.as_slice()) {
         Ok(parts) => lines_of_parts(alloc, office, &parts, memory),
         Err(_) => Err(AllocError),
     }
@@ -141,7 +142,8 @@ pub(crate) fn are_independent(
     if usize::from(pair.0) >= members.len() || usize::from(pair.1) >= members.len() {
         return Err(AllocError);
     }
-    match read_merge_set(alloc, office, "LIVE", &members) {
+    let changes = read_changes(alloc, office, &members)?;
+    match read_merge_set(alloc, office, "LIVE", &members, changes.as_slice()) {
         Ok(parts) => { are_parts_independent(alloc, office, &parts, "LIVE", members, pair, memory) }
         Err(_) => Err(AllocError),
     }
@@ -189,7 +191,8 @@ pub(crate) fn first_broken(
     memory: &mut Memory,
 ) -> Result<Option<Broken>, AllocError> {
     let members = [member];
-    match read_merge_set(alloc, office, root, &members.as_slice()) {
+    let changes = read_changes(alloc, office, &members.as_slice())?;
+    match read_merge_set(alloc, office, root, &members.as_slice(), changes.as_slice()) {
         Ok(parts) => first_broken_of_parts(alloc, office, &parts, root, &members, memory),
         Err(_) => Err(AllocError),
     }

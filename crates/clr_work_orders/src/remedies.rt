@@ -2,10 +2,8 @@
 
 ghost use Rattle.std.specs.Prelude.{◌≡◌, ◌++◌, IfOk, OnOk, map};
 ghost use Rattle.std.specs.Option.{option_copied};
-ghost use Rattle.clr_merge_sets.specs.MergeSetNames.{merge_set};
 ghost use Rattle.clr_serving_rows.specs.NeedPlaces.{IsPlaceIn};
-ghost use Rattle.clr_merge_sets.specs.MemberChanges.{AreMembers};
-ghost use Rattle.clr_plan_sentences.specs.Settings.{set_of};
+ghost use Rattle.clr_merge_sets.specs.MemberChanges.{AreMembers, set_of};
 ghost use Rattle.clr_work_orders.specs.Remedies.{AreForCause, AreRemedies, IsPlaceOfCause, for_cause, for_need, leaving_out, server_of};
 ghost use Rattle.clr_phrases.specs.declared.meetings.Meeting.{Meeting as Met};
 
@@ -15,7 +13,6 @@ use crate::undoings::{add_giving_up, add_giving_up_any, add_keeping, add_undoing
 use clr_clearance::Verdict;
 use clr_engine::Office;
 use clr_member_changes::MemberChanges;
-use clr_merge_sets::read_member_changes;
 use clr_needs::Need;
 use clr_plan::Plan;
 use clr_plan_sentences::Setting;
@@ -115,24 +112,23 @@ fn remedies_for(
     Ok(list)
 }
 
-/// Returns what may clear members of a root that this plan says are blocked, to be tried one by one; nothing of any other plan.
+/// Returns what may clear members that this plan says are blocked, to be tried one by one; nothing of any other plan.
 pub(crate) fn plan_remedies(
     alloc: Global,
     office: &Office,
-    root: &str,
-    names: &[&str],
+    members: &MemberChanges<'_>,
     plan: &Plan,
 ) -> Result<Vec<Action>, AllocError>
-    ensures { IfOk result (λ list. AreRemedies office.now (merge_set root.now (map (λ name. name.now) names.now)) plan.now list.items) }
+    ensures { IfOk result (λ list. AreMembers office.now (set_of members.now) members.now
+        → AreRemedies office.now (set_of members.now) plan.now list.items) }
 {
     let Plan::Blocked { order, cause } = plan else {
         return Ok(Vec::new(alloc));
     };
-    let members = read_member_changes(alloc, office, root, names)?;
     let setting = Setting {
         alloc,
         office,
-        members: &members,
+        members,
     };
     remedies_for(setting, order.as_slice(), cause)
 }

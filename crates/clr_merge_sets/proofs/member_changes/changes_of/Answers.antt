@@ -2,7 +2,7 @@ use Rattle.std.proofs.Common.{◌∙◌, sym}
 use Rattle.clr_steps.specs.Readings.{changes_in}
 use Rattle.clr_merge_sets.proofs.NameLemmas.{unshown}
 use Rattle.clr_merge_sets.proofs.MergeSetLemmas.{unchanged}
-use Rattle.clr_merge_sets.proofs.member_changes.changes.Goals as goal
+use Rattle.clr_merge_sets.proofs.member_changes.changes_of.Goals as goal
 
 pub returns-in-None : goal.returns-in-None
 returns-in-None c =
