@@ -12,8 +12,7 @@ found_plan-plan-requires c =
 pub returns : goal.returns
 returns c =
     let read = c.in_ok-changes.ensures in
-    let s = merge_set c.args.root.now (map (λ name. name.now) c.args.members.now) in
-    (
+    let s = merge_set c.args.root.now (map (λ name. name.now) c.args.members.now) in (
       c.in_ok-plan.plan,
       c.in_ok-text.text.items,
       subst₂ (λ (members : List (List ℕ)) (root : List ℕ). IsFoundPlan c.args.office.now (merge_set root members) c.in_ok-plan.plan) read.names read.members.root

@@ -12,13 +12,12 @@ found_plan-plan-requires c =
 
 pub returns : goal.returns
 returns c =
-    let read = c.in_ok-changes.ensures in
-    (
+    let read = c.in_ok-changes.ensures in (
       c.in_ok-plan.plan,
       c.in_ok-text.text.items,
       subst₂ (λ (members : List (List ℕ)) (root : List ℕ). IsFoundPlan c.args.office.now (merge_set root members) c.in_ok-plan.plan) read.names read.members.root
           c.in_ok-plan.ensures,
       subst₂ (λ (members : List (List ℕ)) (root : List ℕ). IsMap c.args.office.now.schema members root c.in_ok-plan.plan c.in_ok-text.text.items) read.names
-      read.members.root c.in_ok-text.ensures.map,
+          read.members.root c.in_ok-text.ensures.map,
       c.print_of_plan_text.ensures,
     )

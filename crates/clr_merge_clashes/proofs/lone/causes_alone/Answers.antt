@@ -18,7 +18,7 @@ cause_alone-requires c =
     let none : Bor Name = record { ref_ptr = (0, 0); now = [] } in
     let name = get_or names at none in
     let sets = c.args.sets.now in
-    let set = c.index-sets-at.result.now in
+    let set = c.index-sets-at.result in
     let long = ap length c.requires ∙ length-map (map (λ (n : Bor Name). n.now) names) (changes_in o) ∙ length-map names (λ (n : Bor Name). n.now) in
     let less : at < length sets = omega (arith, long, c.loop-at-test.true) in
     let named = slice_get-map (λ (n : Bor Name). n.now) names at ∙ ap (option_map (λ (n : Bor Name). n.now)) (slice_get-get_or names at none
