@@ -16,7 +16,7 @@ use crate::places::{names_at, sets_at};
 use clr_change::ChangeSet;
 use clr_clearance::Verdict;
 use clr_engine::Office;
-use clr_merge_sets::{fault_without_memory, name_fault, read_changes};
+use clr_merge_sets::{name_fault, read_changes};
 use std::alloc::{AllocError, Global};
 
 /// Returns the sets where no test of names fails.
@@ -89,6 +89,9 @@ pub fn merge_clashes(
 {
     match read_changes(alloc, office, &members) {
         Ok(changes) => merge_clashes_of(alloc, office, root, members, changes.as_slice()),
-        Err(_) => Err(fault_without_memory(alloc, office, root, &members)),
+        Err(_) => match name_fault(alloc, office, root, &members) {
+            Some(fault) => Err(fault),
+            None => Err(Verdict::OutOfMemory),
+        },
     }
 }

@@ -4,5 +4,4 @@ pub mod Labels
 pub mod NeedCauses
 pub mod Sentences
 pub mod ServedNeeds
-pub mod Settings
 pub mod ToldRows

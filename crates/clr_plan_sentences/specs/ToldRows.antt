@@ -1,7 +1,7 @@
 -- The rows of a cause in words.
 use Rattle.std.specs.Prelude.{ℕ, List, [], ◌∷◌, ◌++◌, Option, Some, None, codes}
 use Rattle.clr_rows.specs.declared.cells.CellId.{CellId}
-use Rattle.clr_rows.specs.declared.told_rows.Row.{Row}
+use Rattle.clr_rows.specs.declared.rows.Row.{Row}
 use Rattle.clr_rows.specs.declared.tables.TableDef.{TableDef}
 use Rattle.clr_rows.specs.Contents.{Changes, row_at}
 use Rattle.clr_needs.specs.declared.needs.VersionId.{VersionId}

@@ -2,7 +2,7 @@
 
 ghost use Rattle.std.specs.Prelude.{◌≡◌, ◌++◌, IfOk, OnOk, string_bytes};
 ghost use Rattle.clr_plan_sentences.specs.Answers.{answer_text, blocked_text, cleared_text, lasting_text, mergeable_text, order_sentence, order_text, refused_text};
-ghost use Rattle.clr_plan_sentences.specs.Settings.{set_of};
+ghost use Rattle.clr_merge_sets.specs.MemberChanges.{set_of};
 
 use crate::settings::Setting;
 use crate::unfit::add_unfit;

@@ -4,8 +4,7 @@ ghost use Rattle.std.specs.Prelude.{◌≡◌, ◌++◌, IfOk, OnOk, string_byte
 ghost use Rattle.clr_plan_sentences.specs.Causes.{IsCause, conflict_cause, conflict_reason, need_reason, others_text, reason_text, shared_cause, shared_reason};
 ghost use Rattle.clr_plan_sentences.specs.NeedCauses.{no_cause};
 ghost use Rattle.clr_serving_rows.specs.NeedPlaces.{rule_in};
-ghost use Rattle.clr_merge_sets.specs.MemberChanges.{AreMembers};
-ghost use Rattle.clr_plan_sentences.specs.Settings.{set_of};
+ghost use Rattle.clr_merge_sets.specs.MemberChanges.{AreMembers, set_of};
 
 use crate::labels::add_label;
 use crate::need_causes::rule_reason;

@@ -6,8 +6,7 @@ ghost use Rattle.clr_steps.specs.Quiet.{MergeSet};
 ghost use Rattle.clr_plan_sentences.specs.NeedCauses.{IsNeedCause, meeting_text, numbered_text, place_front, rule_reason, serving_text, told_cause};
 ghost use Rattle.clr_serving_rows.specs.NeedPlaces.{rule_in};
 ghost use Rattle.clr_plan_sentences.specs.ToldRows.{row_of_second, row_of_version};
-ghost use Rattle.clr_merge_sets.specs.MemberChanges.{AreMembers, row_in};
-ghost use Rattle.clr_plan_sentences.specs.Settings.{set_of};
+ghost use Rattle.clr_merge_sets.specs.MemberChanges.{AreMembers, row_in, set_of};
 
 use crate::cause_sentences::no_cause;
 use crate::settings::Setting;

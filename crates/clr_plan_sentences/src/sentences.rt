@@ -1,12 +1,10 @@
 //! A plan in sentences, line by line.
 
-ghost use Rattle.std.specs.Prelude.{◌≡◌, ◌++◌, IfOk, OnOk, map, string_bytes, take};
+ghost use Rattle.std.specs.Prelude.{◌≡◌, ◌++◌, IfOk, OnOk, string_bytes, take};
 ghost use Rattle.std.specs.List.{flat_map};
-ghost use Rattle.clr_merge_sets.specs.MergeSetNames.{merge_set};
 ghost use Rattle.clr_plan_sentences.specs.Sentences.{AreCauseLines, AreDetails, IsSentences, cause_lines, cleared_details, counts_text, entry_line, entry_lines};
 ghost use Rattle.clr_plan_sentences.specs.Sentences.{member_line, members_text, more_text, need_line, needs_text, row_lines, some_needs_text, verdict_text};
-ghost use Rattle.clr_merge_sets.specs.MemberChanges.{AreMembers};
-ghost use Rattle.clr_plan_sentences.specs.Settings.{set_of};
+ghost use Rattle.clr_merge_sets.specs.MemberChanges.{AreMembers, set_of};
 
 use crate::answers::answer_words;
 use crate::served_needs::NeedWords;
@@ -15,10 +13,9 @@ use crate::told_rows::{CauseWords, RowWords};
 use clr_cert::Entry;
 use clr_change::ChangeSet;
 use clr_clearance::Verdict;
-use clr_engine::Office;
 use clr_member_changes::{Counts, MemberChanges, count_rows};
-use clr_merge_sets::{Plan, read_member_changes};
-use std::alloc::{AllocError, Global};
+use clr_merge_sets::Plan;
+use std::alloc::AllocError;
 
 /// How many needs of a certificate are told one by one.
 const MOST_NEEDS: usize = 12;
@@ -235,8 +232,9 @@ impl Setting<'_> {
     }
 }
 
-/// Returns a plan in sentences: its first words, what it answers, and its details.
-fn sentences_of(setting: Setting<'_>, plan: &Plan) -> Result<String, AllocError>
+/// Returns a plan of members that were read from an office, in sentences, each a line: what it answers, and then the cause, or what
+/// each member changes and what serves each need.
+pub fn plan_sentences(setting: Setting<'_>, plan: &Plan) -> Result<String, AllocError>
     ensures { IfOk result (λ text. AreMembers setting.entry.office.now (set_of setting.entry.members.now) setting.entry.members.now
         → IsSentences setting.entry.office.now (set_of setting.entry.members.now) plan.now (string_bytes text)) }
 {
@@ -246,24 +244,4 @@ fn sentences_of(setting: Setting<'_>, plan: &Plan) -> Result<String, AllocError>
     text.push_str(answer.as_str())?;
     text.push_str(details.as_str())?;
     Ok(text)
-}
-
-/// Returns a plan of members of a root in sentences: what it answers, and then the cause, or what each member changes and what
-/// serves each need.
-pub fn plan_sentences(
-    alloc: Global,
-    office: &Office,
-    root: &str,
-    names: &[&str],
-    plan: &Plan,
-) -> Result<String, AllocError>
-    ensures { IfOk result (λ text. IsSentences office.now (merge_set root.now (map (λ name. name.now) names.now)) plan.now (string_bytes text)) }
-{
-    let members = read_member_changes(alloc, office, root, names)?;
-    let setting = Setting {
-        alloc,
-        office,
-        members: &members,
-    };
-    sentences_of(setting, plan)
 }

@@ -4,7 +4,7 @@ ghost use Rattle.std.specs.Prelude.{◌≡◌, ◌++◌, IfOk, OnOk, flat_map, m
 ghost use Rattle.std.specs.Option.{option_copied};
 ghost use Rattle.clr_plan_sentences.specs.NeedCauses.{change_front, change_label, changed_text, common_text, is_hopeless, label_if, listed_text};
 ghost use Rattle.clr_plan_sentences.specs.NeedCauses.{no_server_text, rows_word, servers_text, serving_text, told_changes};
-ghost use Rattle.clr_plan_sentences.specs.Settings.{set_of};
+ghost use Rattle.clr_merge_sets.specs.MemberChanges.{set_of};
 
 use crate::labels::add_label;
 use crate::settings::Setting;

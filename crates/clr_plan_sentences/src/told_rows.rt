@@ -3,7 +3,7 @@
 ghost use Rattle.std.specs.Prelude.{◌≡◌, ◌++◌, IfOk, OnOk, string_bytes};
 ghost use Rattle.std.specs.Option.{option_copied};
 ghost use Rattle.clr_plan_sentences.specs.ToldRows.{row_now, row_of_member, row_of_version, row_taken_over, row_text, standing_text, told_row, touched_text};
-ghost use Rattle.clr_plan_sentences.specs.Settings.{set_of};
+ghost use Rattle.clr_merge_sets.specs.MemberChanges.{set_of};
 
 use crate::settings::Setting;
 use clr_member_changes::{MemberChanges, Standing};

@@ -2,7 +2,7 @@
 
 ghost use Rattle.std.specs.Prelude.{◌≡◌, ◌++◌, OnOk, string_bytes};
 ghost use Rattle.clr_plan_sentences.specs.Answers.{name_fault_text, unfit_text};
-ghost use Rattle.clr_plan_sentences.specs.Settings.{set_of};
+ghost use Rattle.clr_merge_sets.specs.MemberChanges.{set_of};
 
 use clr_clearance::Verdict;
 use clr_member_changes::MemberChanges;

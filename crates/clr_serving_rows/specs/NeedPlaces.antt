@@ -2,7 +2,7 @@
 use Rattle.std.specs.Prelude.{◌≡◌, Option, Some, None, slice_get}
 use Rattle.std.specs.Option.{option_and_then}
 use Rattle.clr_rows.specs.declared.places.Place.{Place}
-use Rattle.clr_rows.specs.declared.told_rows.Row.{Row}
+use Rattle.clr_rows.specs.declared.rows.Row.{Row}
 use Rattle.clr_rows.specs.Parts.{part_of}
 use Rattle.clr_rules.specs.declared.rules.Rule.{Rule}
 use Rattle.clr_rules.specs.declared.rules.Rule.TheVariants.{Crossing, EndNode}

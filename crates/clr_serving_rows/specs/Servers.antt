@@ -6,7 +6,7 @@ use Rattle.std.specs.List.{enumerate_from, list_all}
 use Rattle.std.specs.Option.{option_and_then, option_map}
 use Rattle.clr_rows.specs.declared.cells.CellId.{CellId}
 use Rattle.clr_rows.specs.declared.cells.Change.{Change}
-use Rattle.clr_rows.specs.declared.told_rows.Row.{Row}
+use Rattle.clr_rows.specs.declared.rows.Row.{Row}
 use Rattle.clr_rows.specs.declared.tables.TableDef.{TableDef}
 use Rattle.clr_rows.specs.Contents.{Changes}
 use Rattle.clr_rows.specs.Held.{Held, held_of}

@@ -1,7 +1,7 @@
 use Rattle.std.proofs.Common.{◌≡◌, ◌++◌, string_bytes, take}
 use Rattle.std.specs.List.{flat_map}
 use Rattle.clr_plan_sentences.specs.Answers.{then_text}
-use Rattle.clr_plan_sentences.specs.Settings.{set_of}
+use Rattle.clr_merge_sets.specs.MemberChanges.{set_of}
 use Rattle.clr_plan_sentences.proofs.answers.add_members.Given as goal
 
 -- the first member, and the others so far

@@ -1,6 +1,6 @@
 use Rattle.std.proofs.Common.{◌≡◌, ◌++◌, drop, string_bytes}
 use Rattle.std.specs.List.{enumerate_from, flat_map}
-use Rattle.clr_plan_sentences.specs.Settings.{set_of}
+use Rattle.clr_merge_sets.specs.MemberChanges.{set_of}
 use Rattle.clr_plan_sentences.specs.Sentences.{member_line, members_text}
 use Rattle.clr_plan_sentences.proofs.sentences.add_members.Given as goal
 

@@ -1,7 +1,7 @@
 use Rattle.std.proofs.Common.{◌≡◌, map, string_bytes, take}
 use Rattle.std.specs.List.{flat_map}
 use Rattle.clr_plan_sentences.specs.Sentences.{entry_line}
-use Rattle.clr_plan_sentences.specs.Settings.{set_of}
+use Rattle.clr_merge_sets.specs.MemberChanges.{set_of}
 use Rattle.clr_plan_sentences.proofs.settings.Setting.entry_lines.Given as goal
 
 -- the lines of the needs so far

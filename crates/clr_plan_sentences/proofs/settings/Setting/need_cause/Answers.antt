@@ -5,8 +5,7 @@ use Rattle.std.specs.Option.{option_and_then, option_copied}
 use Rattle.clr_serving_rows.specs.declared.servers.ServerChange.{ServerChange}
 use Rattle.clr_plan_sentences.specs.NeedCauses.{IsNeedCause, told_cause}
 use Rattle.clr_serving_rows.specs.NeedPlaces.{rule_in}
-use Rattle.clr_merge_sets.specs.MemberChanges.{row_in}
-use Rattle.clr_plan_sentences.specs.Settings.{set_of}
+use Rattle.clr_merge_sets.specs.MemberChanges.{row_in, set_of}
 use Rattle.clr_plan_sentences.proofs.settings.Setting.need_cause.Goals as goal
 
 pub returns : goal.returns
