@@ -6,7 +6,7 @@
 
 use clr_desk::{AskFault, DeskAsk, answer, ask_of, fault_place, take_layers};
 use clr_office::{Port, RunFault, Sink, Words};
-use clr_office_reports::{
+use clr_process_io::{
     BAD_WORDS, end_run, file_name, print_fault, print_input_remark, print_parser_message,
     read_files, text_at, texts_of_words, words,
 };

@@ -6,7 +6,7 @@
 #![tactic(auto)]
 
 use clr_office::{Ask, AskFault, Disposal, Port, RunFault, Words, answer, ask_of, run_office};
-use clr_office_reports::{
+use clr_process_io::{
     BAD_WORDS, end_run, file_name, has_words, print_fault, print_input_remark,
     print_parser_message, read_files, text_at, texts_of_words, words,
 };
