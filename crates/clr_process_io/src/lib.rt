@@ -6,7 +6,8 @@
 //!   position, and `file_name` its name. What a file holds no contract says.
 //! - `RunFault` says why a run ends without an exit status; `FileFault` says also of which file.
 //! - `end_run`, `print_fault`, `print_parser_message` [`either`, `bad`]: the exit status. `input_remark`: exactly the line that names an
-//!   input behind its fault, and the limit where it is too long. What is printed no contract says.
+//!   input behind its fault, and the limit where it is too long; `put_input_remark` [`line`, `keeps`] writes it. What else is printed no
+//!   contract says.
 #![tactic(auto)]
 
 mod arguments;
@@ -20,6 +21,6 @@ pub use faults::{FileFault, RunFault};
 pub use files::{file_name, read_files, text_at};
 pub use reading::{MOST_INPUT_BYTES, inputs_have_a_limit, read_input};
 pub use refusals::{
-    BAD_WORDS, end_run, exit_statuses, input_remark, print_fault, print_input_remark,
-    print_parser_message,
+    BAD_WORDS, end_run, exit_statuses, input_remark, print_fault, print_parser_message,
+    put_input_remark,
 };

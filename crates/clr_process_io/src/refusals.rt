@@ -1,13 +1,15 @@
 //! What is printed on standard error, and the exit status of it.
 
-ghost use Rattle.std.specs.Prelude.{◌≡◌, ◌≢◌, ◌⊎◌, IfOk};
+ghost use Rattle.std.specs.Prelude.{◌≡◌, ◌≢◌, ◌⊎◌, IfOk, IfErr, OnOk};
+ghost use Rattle.std.specs.Io.KnownBytes.{Appends};
 ghost use Rattle.clap.specs.Values.{kind_of};
 ghost use Rattle.clap.specs.declared.error.ErrorKind.{ErrorKind};
 ghost use Rattle.clr_process_io.specs.Input.{input_remark};
 ghost use Rattle.clr_process_io.specs.ExitStatuses.{end_status, exit_status};
+ghost use Rattle.clr_process_io.specs.declared.faults.RunFault.TheVariants as run_fault;
 
 use crate::faults::RunFault;
-use clr_streams::{Port, Sink, show_on_one_line};
+use clr_streams::{Sink, show_on_one_line};
 use std::alloc::{AllocError, Global};
 use std::io;
 
@@ -58,11 +60,21 @@ pub fn input_remark(alloc: Global, name: &str, fault: RunFault) -> Result<Vec<u8
     Ok(line)
 }
 
-/// Prints on standard error which input can't be read or is too long. What can't be printed changes nothing.
-pub fn print_input_remark(rt: &HostRuntime, name: &str, fault: RunFault) {
-    if let Ok(line) = input_remark(rt.alloc(), name, fault) {
-        let _ = Port::new(rt.stderr()).put(line.as_slice());
-    }
+/// Writes which input can't be read or is too long. Fails with `OutOfMemory` if memory runs out, and then nothing was written, and with
+/// `WriteFailed` where the sink fails.
+pub fn put_input_remark<N: Sink>(
+    alloc: Global,
+    notes: &mut N,
+    name: &str,
+    fault: RunFault,
+) -> Result<(), RunFault>
+    ensures line { OnOk result (Appends (N.contents notes.old) (N.contents notes.new) (input_remark name.now fault)) }
+    ensures keeps { IfErr result (λ e. e ≡ run_fault.OutOfMemory → notes.new ≡ notes.old) }
+{
+    let line = input_remark(alloc, name, fault)?;
+    notes
+        .put(line.as_slice())
+        .map_err(|_| RunFault::WriteFailed)
 }
 
 /// Prints what the parser of the command line says, and gives the exit status: 2 where that is no help and no version, and else 0
