@@ -7,6 +7,7 @@
 
 mod features;
 mod maps;
+mod plans;
 mod reports;
 mod systems;
 

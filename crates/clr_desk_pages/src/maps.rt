@@ -6,7 +6,8 @@ ghost use Rattle.clr_desk_pages.specs.Maps.{IsMapOfSet, IsMapPrint};
 ghost use Rattle.clr_desk_prints.specs.NameHints.{IsHinted};
 ghost use Rattle.clr_desk_prints.specs.Printing.{IsMadePrintout, IsPrintoutIn, printed};
 
-use clr_desk_prints::{Print, found_plan, members_asked, notes_of, print_of_plan_text, with_hints};
+use crate::plans::{found_plan, print_of_plan_text};
+use clr_desk_prints::{Print, members_asked, notes_of, with_hints};
 use clr_engine::Office;
 use clr_office::{RunFault, Words, open_office, texts_of_names};
 use clr_plan_map::plan_map;

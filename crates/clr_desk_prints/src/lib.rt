@@ -6,8 +6,7 @@
 //! - `with_hints`, and `hint_lines` of `clr_office`: hints at names that no workspace has, each at the workspace whose name is most like it, where one is like
 //!   enough, and no others (`IsHinted`).
 //! - `members_asked`: the members that names ask for, which are all children of the root where there is no name (`members_or_children`).
-//! - `plan_members`: the plan of members, with what it promises (`IsPlanned`). `found_plan` fails where this finds no memory
-//!   (`IsFoundPlan`), and `print_of_plan_text` is a text that is made of such a plan.
+//! - `plan_members`: the plan of members, with what it promises (`IsPlanned`).
 #![tactic(auto)]
 
 mod children;
@@ -18,5 +17,5 @@ mod prints;
 pub use children::members_asked;
 pub use clr_office::{RunFault, hint_lines};
 pub use name_hints::with_hints;
-pub use plans::{found_plan, plan_members, print_of_plan_text};
+pub use plans::plan_members;
 pub use prints::{Ending, Print, notes_of};
