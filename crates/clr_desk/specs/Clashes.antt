@@ -10,10 +10,10 @@ use Rattle.clr_clearance.specs.Plans.{members_at}
 use Rattle.clr_clearance.specs.Verdicts.{names_fault}
 use Rattle.clr_lines.specs.Reports.{count_line}
 use Rattle.clr_lines.specs.Verdicts.{verdict_text}
-use Rattle.clr_plan.specs.declared.plans.Plan.{Plan}
-use Rattle.clr_plan.specs.declared.plans.Plan.TheVariants as plan
+use Rattle.clr_merge_sets.specs.declared.plans.Plan.{Plan}
+use Rattle.clr_merge_sets.specs.declared.plans.Plan.TheVariants as plan
 use Rattle.clr_plan.specs.Plans.{IsPlan}
-use Rattle.clr_plan.specs.Promises.{is_cleared, is_out_of_memory}
+use Rattle.clr_merge_sets.specs.Plans.{is_cleared, is_out_of_memory}
 use Rattle.clr_merge_clashes.specs.Laws.{ArePositions, AreSmallestSets, HoldNoSet, merge_set_of_part}
 use Rattle.clr_merge_clashes.specs.MergeClashes.{FindsClashes}
 use Rattle.clr_merge_clashes.specs.declared.clash_sets.MergeClash.{MergeClash}

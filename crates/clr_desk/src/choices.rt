@@ -3,7 +3,7 @@ ghost use Rattle.std.specs.Prelude.{◌≡◌, ◌∷◌, ◌++◌, [], codes, f
 ghost use Rattle.clr_cert.specs.Texts.{certificate_text};
 ghost use Rattle.clr_merge_sets.specs.MergeSetNames.{merge_set};
 ghost use Rattle.clr_office_texts.specs.Drafts.{draft_in};
-ghost use Rattle.clr_plan.specs.declared.plans.Plan.TheVariants as plan;
+ghost use Rattle.clr_merge_sets.specs.declared.plans.Plan.TheVariants as plan;
 ghost use Rattle.clr_choices.specs.Clearable.{IsPlanOf};
 ghost use Rattle.clr_desk.specs.Choices.{IsChoicePrint, names_line};
 ghost use Rattle.clr_desk_prints.specs.NameHints.{IsHinted};

@@ -11,6 +11,7 @@ use crate::plans::{found_plan, print_of_plan_text};
 use crate::systems::{print_of_no_system, system_of};
 use clr_desk_prints::{Print, members_asked, notes_of, with_hints};
 use clr_engine::Office;
+use clr_merge_sets::read_member_changes;
 use clr_office::{RunFault, Words, open_office, texts_of_names};
 use clr_plan_features::plan_features;
 use std::alloc::{AllocError, Global};
@@ -25,8 +26,9 @@ fn print_of_set(
 ) -> Result<Print, AllocError>
     ensures { IfOk result (λ p. AreFeaturesOfSet system office.now (merge_set root.now (map (λ name. name.now) members.now)) (printed p)) }
 {
-    let plan = found_plan(alloc, office, root, members)?;
-    let text = plan_features(alloc, office, root, members, &plan, system)?;
+    let changes = read_member_changes(alloc, office, root, members)?;
+    let plan = found_plan(alloc, office, &changes)?;
+    let text = plan_features(alloc, office, &changes, &plan, system)?;
     Ok(print_of_plan_text(alloc, text, &plan))
 }
 

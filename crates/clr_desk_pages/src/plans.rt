@@ -1,23 +1,26 @@
 //! Plans of members that found memory, and prints of texts that are made of them.
-ghost use Rattle.std.specs.Prelude.{◌≡◌, map, IfOk};
-ghost use Rattle.clr_merge_sets.specs.MergeSetNames.{merge_set};
+ghost use Rattle.std.specs.Prelude.{◌≡◌, IfOk};
+ghost use Rattle.clr_merge_sets.specs.MemberChanges.{AreMembers, set_of};
 ghost use Rattle.clr_desk_prints.specs.Printing.{IsFoundPlan, plan_text_print, printed};
 
-use clr_desk_prints::{Print, plan_members};
+use clr_desk_prints::Print;
 use clr_engine::Office;
+use clr_member_changes::MemberChanges;
 use clr_office::Plan;
+use clr_plan::plan_changes;
 use std::alloc::{AllocError, Global};
 
-/// Returns the plan of members of a root, with what it promises. Where the plan finds no memory, this call fails.
+/// Returns the plan of members whose changes were read, with what it promises. Where the plan finds no memory, this call fails.
 pub(crate) fn found_plan(
     alloc: Global,
     office: &Office,
-    root: &str,
-    members: &[&str],
+    members: &MemberChanges<'_>,
 ) -> Result<Plan, AllocError>
-    ensures { IfOk result (IsFoundPlan office.now (merge_set root.now (map (λ name. name.now) members.now))) }
+    requires { AreMembers office.now (set_of members.now) members.now }
+    ensures { IfOk result (IsFoundPlan office.now (set_of members.now)) }
 {
-    let plan = plan_members(alloc, office, root, members);
+    let (root, names) = (members.root, members.names);
+    let plan = plan_changes(alloc, office, root, names, members.changes.as_slice());
     if plan.is_out_of_memory() {
         return Err(AllocError);
     }

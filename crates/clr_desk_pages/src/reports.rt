@@ -9,6 +9,7 @@ ghost use Rattle.clr_desk_prints.specs.Printing.{IsMadePrintout, IsPrintoutIn, p
 use crate::plans::{found_plan, print_of_plan_text};
 use clr_desk_prints::{Print, members_asked, notes_of};
 use clr_engine::Office;
+use clr_merge_sets::read_member_changes;
 use clr_office::{RunFault, Words, hint_lines, open_office, texts_of_names};
 use clr_plan_page::plan_report;
 use std::alloc::{AllocError, Global};
@@ -22,8 +23,9 @@ fn print_of_set(
 ) -> Result<Print, AllocError>
     ensures { IfOk result (λ p. IsReportOfSet office.old (merge_set root.now (map (λ name. name.now) members.now)) (printed p)) }
 {
-    let plan = found_plan(alloc, office, root, members)?;
-    let text = plan_report(alloc, office, root, members, &plan)?;
+    let changes = read_member_changes(alloc, office, root, members)?;
+    let plan = found_plan(alloc, office, &changes)?;
+    let text = plan_report(alloc, office, &changes, &plan)?;
     Ok(print_of_plan_text(alloc, text, &plan))
 }
 

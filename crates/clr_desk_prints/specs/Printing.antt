@@ -6,8 +6,8 @@ use Rattle.clr_engine.specs.Drafts.{unheld_in}
 use Rattle.clr_cert.specs.declared.certificates.Certificate.{Certificate}
 use Rattle.clr_check.specs.Cases.{Case}
 use Rattle.clr_check.specs.declared.cases.CaseFault.{CaseFault}
-use Rattle.clr_plan.specs.declared.plans.Plan.{Plan}
-use Rattle.clr_plan.specs.Promises.{is_cleared, is_out_of_memory}
+use Rattle.clr_merge_sets.specs.declared.plans.Plan.{Plan}
+use Rattle.clr_merge_sets.specs.Plans.{is_cleared, is_out_of_memory}
 use Rattle.clr_rule_text.specs.declared.faults.TextFault.{TextFault}
 use Rattle.clr_office.specs.Clearances.{fault_print}
 use Rattle.clr_office.specs.Outcomes.{IsPlanned}

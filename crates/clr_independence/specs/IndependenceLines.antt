@@ -5,7 +5,8 @@ use Rattle.clr_rows.specs.declared.tables.TableDef.{TableDef}
 use Rattle.clr_workspaces.specs.Marks.{Name}
 use Rattle.clr_steps.specs.Offices.{Office}
 use Rattle.clr_steps.specs.Quiet.{MergeSet}
-use Rattle.clr_lines.specs.Verdicts.{member_name, verdict_text}
+use Rattle.clr_lines.specs.Verdicts.{verdict_text}
+use Rattle.clr_member_changes.specs.Names.{member_name}
 use Rattle.clr_independence.specs.declared.independent_members.Independence.{Independence}
 use Rattle.clr_independence.specs.declared.independent_members.Independence.TheVariants as said
 use Rattle.clr_independence.specs.declared.member_pairs.Pair.{Pair}

@@ -12,9 +12,12 @@ ghost use Rattle.clr_merge_sets.specs.MergeSets.{AreParts};
 ghost use Rattle.clr_independence.specs.Independences.{IsIndependenceOf};
 
 use crate::member_pairs::{Pair, pairs};
+use clr_change::ChangeSet;
 use clr_clearance::Verdict;
 use clr_engine::Office;
-use clr_merge_sets::{MergeSetParts, read_merge_set, verdict_of};
+use clr_merge_sets::{
+    MergeSetParts, fault_without_memory, read_changes, read_merge_set, verdict_of,
+};
 use clr_needs::SceneFault;
 use std::alloc::{AllocError, Global};
 
@@ -70,6 +73,23 @@ fn of_parts(
     }
 }
 
+/// Returns the answer for members whose changes were read.
+fn of_changes(
+    alloc: Global,
+    office: &Office,
+    root: &str,
+    members: &[&str],
+    changes: &[ChangeSet],
+) -> Result<Independence, AllocError>
+    requires { changes.now ≡ change_sets office.now (merge_set root.now (map (λ name. name.now) members.now)) }
+    ensures { IfOk result (IsIndependenceOf office.now (merge_set root.now (map (λ name. name.now) members.now))) }
+{
+    match read_merge_set(alloc, office, root, &members, changes) {
+        Ok(parts) => of_parts(alloc, office, &parts, root, members),
+        Err(fault) => of_fault(fault),
+    }
+}
+
 /// Returns which members of a root are independent. Two members are so where no possible need, touched or not, involves both:
 /// where none has, among its subjects and the versions that serve it, one whose life depends on the first member and one whose
 /// life depends on the second. Where the root isn't kept, a name is wrong, a member is in conflict or two change one cell, the
@@ -83,8 +103,8 @@ pub fn independence_of(
 ) -> Result<Independence, AllocError>
     ensures { IfOk result (IsIndependenceOf office.now (merge_set root.now (map (λ name. name.now) members.now))) }
 {
-    match read_merge_set(alloc, office, root, &members) {
-        Ok(parts) => of_parts(alloc, office, &parts, root, members),
-        Err(fault) => of_fault(fault),
+    match read_changes(alloc, office, &members) {
+        Ok(changes) => of_changes(alloc, office, root, members, changes.as_slice()),
+        Err(_) => of_fault(fault_without_memory(alloc, office, root, &members)),
     }
 }

@@ -8,7 +8,8 @@ ghost use Rattle.clr_independence.specs.IndependenceLines.{AreIndependenceLines,
 use crate::independent_members::{Independence, independence_of};
 use crate::member_pairs::Pair;
 use clr_engine::Office;
-use clr_lines::{member_name, unfit_line};
+use clr_lines::unfit_line;
+use clr_member_changes::member_name;
 use clr_rows::Schema;
 use std::alloc::{AllocError, Global};
 

@@ -3,3 +3,4 @@ pub mod NameLemmas
 pub mod RepeatLemmas
 pub mod RootLemmas
 pub mod MergeSetLemmas
+pub mod VersionLemmas

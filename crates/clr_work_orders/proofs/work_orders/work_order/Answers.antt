@@ -9,15 +9,16 @@ use Rattle.clr_work_orders.proofs.work_orders.work_order.Goals as goal
 pub returns-clause-order : goal.returns-clause-order
 returns-clause-order c =
     let s = merge_set c.args.root.now (map (λ name. name.now) c.args.names.now) in
-    let p = c.plan-planned.result in
+    let p = c.plan_changes-planned.result in
+    let are = c.in_ok-members.ensures.members in
     let lines = c.as_slice-2.ensures.value ∙ c.in_ok-lines.ensures
     ∙ ap (λ (tables : List TableDef). plan_text tables s.members s.root p) c.schema.ensures.value in record {
       plan = p;
-      planned = record { plan = c.plan-planned.ensures.plan; promises = c.plan-planned.ensures.promises; exact = c.plan-planned.ensures.exact };
+      planned = record { plan = c.plan_changes-planned.ensures.plan; promises = c.plan_changes-planned.ensures.promises; exact = c.plan_changes-planned.ensures.exact };
       sentences = string_bytes c.in_ok-sentences.sentences;
-      told = c.in_ok-sentences.ensures;
+      told = c.in_ok-sentences.ensures are;
       trials = c.in_ok-trials.trials.items;
-      tried = c.in_ok-trials.ensures.tried;
+      tried = c.in_ok-trials.ensures.tried are;
       text = c.in_ok-text.ensures
           ∙ ap (λ (t : List ℕ). t ++ trials_text c.as_slice.result.now ++ codes "\n" ++ c.as_slice-2.result.now) c.as_str.ensures.value
           ∙ ap (λ (ts : List Trial). string_bytes c.in_ok-sentences.sentences ++ trials_text ts ++ codes "\n" ++ c.as_slice-2.result.now) c.as_slice.ensures.value
