@@ -1,1 +1,6 @@
+pub mod CertificateFirsts
+pub mod EditsLeft
+pub mod Firsts
+pub mod PlainSteps
 pub mod RecordLemmas
+pub mod ScriptFirsts

@@ -1,7 +1,7 @@
 -- What is said of a fault of a record.
 use Rattle.std.specs.Prelude.{◌≡◌, ◌≤◌, ℕ, List, [], ◌++◌, codes, decimal, length, string_bytes, MatchOption}
 use Rattle.clr_records.specs.Records.{records_in}
-use Rattle.clr_fault_lines.specs.declared.remarks.Remark.{Remark}
+use Rattle.clr_text_positions.specs.declared.remarks.Remark.{Remark}
 
 abbrev pub record_place : ℕ → List ℕ
 record_place number = codes ", record " ++ decimal number

@@ -3,16 +3,16 @@ ghost use Rattle.std.specs.Prelude.{◌≡◌, ◌≤◌, length, string_bytes, 
 ghost use Rattle.clr_cert.specs.Certificates.{certificate_in};
 ghost use Rattle.csv.specs.Records.{fields_of};
 ghost use Rattle.clr_records.specs.Records.{records_in};
-ghost use Rattle.clr_record_faults.specs.FirstFaults.{record_in};
-ghost use Rattle.clr_record_faults.specs.CertificateFaults.{IsFaultOfCertificate};
+ghost use Rattle.clr_record_explanations.specs.FirstFaults.{record_in};
+ghost use Rattle.clr_record_explanations.specs.CertificateFaults.{IsFaultOfCertificate};
 ghost use Rattle.clr_record_explanations.specs.RecordRemarks.{IsRecordPlace, IsRecordRemark};
 
+use crate::certificate_faults::{CertificateFault, find_certificate_fault};
 use crate::entries::explain_entry;
 use crate::records::{remark_on_encoding, remark_on_record};
 use clr_cert::CertFault;
-use clr_fault_lines::Remark;
-use clr_record_faults::{CertificateFault as FoundFault, find_certificate_fault};
 use clr_rows::Schema;
+use clr_text_positions::Remark;
 use std::alloc::{AllocError, Global};
 
 /// The fault of a certificate, the number of its record, counted from 1 without blank lines, and what is said of it.
@@ -29,7 +29,7 @@ fn remark_on(
     alloc: Global,
     schema: &Schema,
     text: &[u8],
-    found: &FoundFault,
+    found: &CertificateFault,
 ) -> Result<Remark, AllocError>
     requires fields { option_map fields_of found.now.fields ≡ record_in text.now found.now.record }
     requires at { IsFaultOfCertificate schema.now (records_in text.now) found.now.is_rooted found.now.record found.now.fault }

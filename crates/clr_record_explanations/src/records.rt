@@ -3,9 +3,8 @@ ghost use Rattle.std.specs.Prelude.{◌≡◌, ◌≤◌, [], length, string_byt
 ghost use Rattle.clr_record_explanations.specs.RecordRemarks.{record_place};
 
 use crate::record_slips::RecordSlip;
-use clr_fault_lines::Remark;
 use clr_hints::{blank_lines_hint, encoding_fault};
-use clr_text_positions::field_at;
+use clr_text_positions::{Remark, field_at};
 use std::alloc::{AllocError, Global};
 
 /// Returns where a field of a record begins, or else the record, or else the text.

@@ -3,18 +3,19 @@ ghost use Rattle.std.specs.Prelude.{◌≡◌, ◌≤◌, length, string_bytes, 
 ghost use Rattle.clr_scripts.specs.Scripts.{script_in_text};
 ghost use Rattle.csv.specs.Records.{fields_of};
 ghost use Rattle.clr_records.specs.Records.{records_in};
-ghost use Rattle.clr_record_faults.specs.FirstFaults.{record_in};
-ghost use Rattle.clr_record_faults.specs.ScriptFaults.{IsFaultOfScript};
+ghost use Rattle.clr_record_explanations.specs.FirstFaults.{record_in};
+ghost use Rattle.clr_record_explanations.specs.ScriptFaults.{IsFaultOfScript};
 ghost use Rattle.clr_record_explanations.specs.RecordRemarks.{IsRecordPlace, IsRecordRemark};
 
 use crate::edits::explain_edit;
 use crate::record_slips::RecordSlip;
 use crate::records::{remark_on_encoding, remark_on_record};
+use crate::roles::Role;
+use crate::script_faults::{ScriptFault, find_script_fault};
 use crate::steps::{explain_short_apply, explain_step};
-use clr_fault_lines::Remark;
-use clr_record_faults::{Role, ScriptFault as FoundFault, find_script_fault};
 use clr_rows::Schema;
 use clr_scripts::RecordFault;
+use clr_text_positions::Remark;
 use csv::StringRecord;
 use std::alloc::{AllocError, Global};
 
@@ -47,7 +48,7 @@ fn remark_on(
     alloc: Global,
     schema: &Schema,
     text: &[u8],
-    found: &FoundFault,
+    found: &ScriptFault,
 ) -> Result<Remark, AllocError>
     requires fields { option_map fields_of found.now.fields ≡ record_in text.now found.now.record }
     requires at { IsFaultOfScript schema.now (records_in text.now) found.now.role found.now.record found.now.fault }

@@ -11,8 +11,8 @@ use Rattle.clr_engine.specs.Drafts.{unheld_in}
 use Rattle.clr_office_texts.specs.Drafts.{draft_in}
 use Rattle.clr_office_reading.specs.Offices.{office_in}
 use Rattle.clr_rule_text.specs.declared.faults.TextFault.{TextFault}
-use Rattle.clr_fault_lines.specs.FaultLines.{AreFaultLines}
-use Rattle.clr_fault_lines.specs.declared.remarks.Remark.{Remark}
+use Rattle.clr_text_positions.specs.FaultLines.{AreFaultLines}
+use Rattle.clr_text_positions.specs.declared.remarks.Remark.{Remark}
 use Rattle.clr_explanations.specs.FaultWords.{office_fault_words}
 use Rattle.clr_explanations.specs.Remarks.{IsOfficeRemark}
 use Rattle.clr_explanations.specs.Standing.{IsStandingRemark}

@@ -8,9 +8,9 @@ ghost use Rattle.clr_text_diagnosis.specs.Whys.{IsRemarkedOfficeFault};
 
 use crate::offices::draft_or_fault;
 use clr_explanations::OfficeFault;
-use clr_fault_lines::short_line;
 use clr_record_explanations::{ExplainedCertificateFault, explain_certificate};
 use clr_rows::Schema;
+use clr_text_positions::short_line;
 use std::alloc::{AllocError, Global};
 
 /// Returns the line of the fault of an office text.

@@ -9,12 +9,12 @@ ghost use Rattle.clr_text_diagnosis.specs.Whys.{AreCertificateLines, AreScriptLi
 use crate::offices::{draft_or_fault, office_lines};
 use crate::whys::Why;
 use clr_engine::Draft;
-use clr_fault_lines::fault_lines;
 use clr_record_explanations::{
     ExplainedCertificateFault, ExplainedScriptFault, certificate_fault_words, explain_certificate,
     explain_script, script_fault_words,
 };
 use clr_rows::Schema;
+use clr_text_positions::fault_lines;
 use std::alloc::{AllocError, Global};
 
 /// Returns the lines of the fault of a script.
