@@ -4,3 +4,4 @@ pub mod Firsts
 pub mod PlainSteps
 pub mod RecordLemmas
 pub mod ScriptFirsts
+pub mod SlipLemmas

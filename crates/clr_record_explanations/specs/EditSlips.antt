@@ -21,14 +21,23 @@ table_of tables fields = option_and_then (slice_get tables) (table_named tables 
 
 -- counts of fields ---------------------------------------------------------------------------
 
--- the count of fields of an insertion, an update or a deletion isn't one that its table asks for
+-- the names of the columns of a table, with commas between them
+abbrev pub listed_columns : TableDef → List ℕ
+listed_columns table = join_by (λ name. name) (codes ", ") (names_of table.columns)
+
+abbrev pub delete_count : List ℕ → ℕ → List ℕ
+delete_count name count = codes "delete," ++ name ++ codes ",KEY has 3 fields, and here are " ++ decimal count
+
+abbrev pub row_count : List ℕ → TableDef → ℕ → List ℕ
+row_count word table count =
+    codes "behind " ++ word ++ codes "," ++ table.name ++ codes ",KEY stand the values of " ++ listed_columns table
+    ++ codes " and then the coordinates; here are " ++ decimal count ++ codes " fields in all"
+
+-- an edit of a table hasn't as many fields as it must have
 abbrev pub count_sentence_of : RecordFields → TableDef → List ℕ
 count_sentence_of fields table =
-    if bytes_eq (field_of fields 0) (codes "delete")
-    then codes "delete," ++ table.name ++ codes ",KEY has 3 fields, and here are " ++ decimal (length fields)
-    else codes "behind " ++ field_of fields 0 ++ codes "," ++ table.name ++ codes ",KEY stand the values of "
-        ++ join_by (λ name. name) (codes ", ") (names_of table.columns) ++ codes " and then the coordinates; here are " ++ decimal (length fields)
-        ++ codes " fields in all"
+    if bytes_eq (field_of fields 0) (codes "delete") then delete_count table.name (length fields)
+    else row_count (field_of fields 0) table (length fields)
 
 abbrev pub count_sentence : RecordFields → Option TableDef → List ℕ
 count_sentence fields None = codes "an edit has at least 3 fields, and here are " ++ decimal (length fields)
@@ -58,12 +67,15 @@ abbrev pub is_number_field : Option TableDef → ℕ → Bool
 is_number_field table at = if nat_lt at 3 then at == 2 else is_number_behind_key table (at - 3)
 
 -- a field must be a number and is none
-abbrev pub lacks_number : List TableDef → RecordFields → ℕ → Bool
-lacks_number tables fields at = is_number_field (table_of tables fields) at && is_none (number_of (field_of fields at))
+abbrev pub lacks_number : Option TableDef → RecordFields → ℕ → Bool
+lacks_number table fields at = is_number_field table at && is_none (number_of (field_of fields at))
 
 -- the first such field, from the key on
+abbrev pub find_number_place : Option TableDef → RecordFields → Option ℕ
+find_number_place table fields = find (λ at. lacks_number table fields at) (range_with_len 2 (length fields - 2))
+
 abbrev pub number_place : List TableDef → RecordFields → ℕ
-number_place tables fields = unwrap_or (find (lacks_number tables fields) (range_with_len 2 (length fields - 2))) 2
+number_place tables fields = unwrap_or (find_number_place (table_of tables fields) fields) 2
 
 -- words --------------------------------------------------------------------------------------
 

@@ -18,8 +18,11 @@ use Rattle.clr_record_explanations.specs.RecordSlips.{Said}
 
 -- counts and kinds ---------------------------------------------------------------------------
 
+abbrev pub entry_count_sentence : ℕ → List ℕ
+entry_count_sentence count = codes "a record has 6 fields, and here are " ++ decimal count
+
 abbrev pub wrong_entry_count : RecordFields → Said
-wrong_entry_count fields = (0, codes "a record has 6 fields, and here are " ++ decimal (length fields))
+wrong_entry_count fields = (0, entry_count_sentence (length fields))
 
 abbrev pub wrong_kind : RecordFields → Said
 wrong_kind fields = (0, codes "'" ++ field_of fields 0 ++ codes "' is none of root, member and need")
@@ -91,10 +94,16 @@ abbrev pub wrong_version : RecordFields → Option ℕ → Said
 wrong_version fields (Some at) = (at, codes "'" ++ field_of fields at ++ codes "' is no version of a row, which is TABLE/KEY/old or TABLE/KEY/new")
 wrong_version fields None = (2, codes "a key or a part is out of range")
 
+-- the first field behind the rule of a need that has no form that it can have
+abbrev pub version_place : List TableDef → RecordFields → Option ℕ
+version_place tables fields = find (λ at. is_no_version tables fields at) (range_with_len 2 4)
+
+abbrev pub no_rule : RecordFields → Said
+no_rule fields = (1, codes "'" ++ field_of fields 1 ++ codes "' is no number of a rule, which is 0 to 65535")
+
 abbrev pub wrong_need : List TableDef → RecordFields → Said
 wrong_need tables fields =
-    if is_rule_number (number_of (field_of fields 1)) then wrong_version fields (find (is_no_version tables fields) (range_with_len 2 4))
-    else (1, codes "'" ++ field_of fields 1 ++ codes "' is no number of a rule, which is 0 to 65535")
+    if is_rule_number (number_of (field_of fields 1)) then wrong_version fields (version_place tables fields) else no_rule fields
 
 -- what is said of a record of a certificate, by its fault
 abbrev pub wrong_reference : List TableDef → RecordFields → Said

@@ -2,7 +2,7 @@
 ghost use Rattle.std.specs.Prelude.{◌≡◌, Err, IfOk, Ok};
 ghost use Rattle.clr_cert.specs.Certificates.{certificate_in};
 ghost use Rattle.clr_office_texts.specs.Drafts.{draft_in};
-ghost use Rattle.clr_record_explanations.specs.RecordRemarks.{IsRecordRemark};
+ghost use Rattle.clr_record_explanations.specs.RecordRemarks.{IsCertificateRemark, IsScriptRemark};
 ghost use Rattle.clr_scripts.specs.Scripts.{script_in_text};
 ghost use Rattle.clr_text_diagnosis.specs.Whys.{AreCertificateLines, AreScriptLines, IsCertificateWhy, IsScriptWhy};
 
@@ -25,7 +25,7 @@ fn script_lines(
     found: &ExplainedScriptFault,
 ) -> Result<Vec<u8>, AllocError>
     requires told { script_in_text schema.now text.now ≡ Err (found.now.number, found.now.fault) }
-    requires at { IsRecordRemark text.now found.now.number found.now.remark }
+    requires at { IsScriptRemark schema.now text.now found.now.number found.now.fault found.now.remark }
     ensures { IfOk result (λ lines. AreScriptLines schema.now text.now lines.items) }
 {
     let _schema = schema;
@@ -41,7 +41,7 @@ fn certificate_lines(
     found: &ExplainedCertificateFault,
 ) -> Result<Vec<u8>, AllocError>
     requires told { certificate_in schema.now text.now ≡ Err (found.now.number, found.now.fault) }
-    requires at { IsRecordRemark text.now found.now.number found.now.remark }
+    requires at { IsCertificateRemark schema.now text.now found.now.number found.now.fault found.now.remark }
     ensures { IfOk result (λ lines. AreCertificateLines schema.now text.now lines.items) }
 {
     let _schema = schema;
