@@ -12,7 +12,7 @@ use Rattle.clr_record_explanations.specs.EditSlips.{find_number_place, number_pl
 use Rattle.clr_record_explanations.specs.FirstFaults.{RecordFields, record_in}
 use Rattle.clr_record_explanations.specs.RecordRemarks.{sentence_on}
 use Rattle.clr_record_explanations.specs.RecordSlips.{Said}
-use Rattle.clr_record_explanations.specs.StepSlips.{pattern_of, step_patterns, word_of}
+use Rattle.clr_record_explanations.specs.StepSlips.{word_of}
 
 -- names that are lent, with commas between them
 pub joined_names : (names : List (Bor (List ℕ))) (wanted : List (List ℕ)) → map (λ (name : Bor (List ℕ)). name.now) names ≡ wanted →
@@ -41,22 +41,15 @@ abbrev begins : List ℕ → List ℕ → Bool
 begins word pattern = bytes_eq (word_of pattern) word
 
 -- the first pattern of those that are lent is the first of the patterns
-first_lent : (word : List ℕ) (patterns : List (Bor (List ℕ))) →
+pub first_lent : (word : List ℕ) (patterns : List (Bor (List ℕ))) →
     option_copied (find (λ (pattern : Bor (List ℕ)). begins word pattern.now) patterns)
-    ≡ find (begins word) (map (λ (pattern : Bor (List ℕ)). pattern.now) patterns)
+    ≡ find (λ pattern. begins word pattern) (map (λ (pattern : Bor (List ℕ)). pattern.now) patterns)
 first_lent word [] = refl
-first_lent word (pattern ∷ patterns) = by (begins word pattern.now) (first_lent word patterns)
+first_lent word (pattern ∷ patterns) =
+    by (begins word pattern.now) (find (λ (other : Bor (List ℕ)). begins word other.now) patterns)
+    (find (λ other. begins word other) (map (λ (other : Bor (List ℕ)). other.now) patterns)) (first_lent word patterns)
   where
-    by : (test : Bool) {rest : Option (Bor (List ℕ))} {found : Option (List ℕ)} → option_copied rest ≡ found
+    by : (test : Bool) (rest : Option (Bor (List ℕ))) (found : Option (List ℕ)) → option_copied rest ≡ found
         → option_copied (cond test (Some pattern) rest) ≡ cond test (Some pattern.now) found
-    by true is = refl
-    by false is = is
-
--- the first of the patterns, as they are lent
-pub first_pattern : (word : List ℕ) (patterns : List (Bor (List ℕ))) (found : Option (Bor (List ℕ))) →
-    map (λ (pattern : Bor (List ℕ)). pattern.now) patterns ≡ step_patterns →
-    option_copied found ≡ option_copied (find (λ (pattern : Bor (List ℕ)). bytes_eq (word_of pattern.now) word) patterns) →
-    unwrap_or (option_copied found) [] ≡ pattern_of word
-first_pattern word patterns found same is =
-    ap (λ (o : Option (List ℕ)). unwrap_or o []) (is ∙ first_lent word patterns)
-    ∙ ap (λ (listed : List (List ℕ)). unwrap_or (find (λ pattern. bytes_eq (word_of pattern) word) listed) []) same
+    by true rest found is = refl
+    by false rest found is = is

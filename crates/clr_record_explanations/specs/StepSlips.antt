@@ -41,11 +41,9 @@ pattern_of word = unwrap_or (find (λ pattern. bytes_eq (word_of pattern) word) 
 -- faults -------------------------------------------------------------------------------------
 
 -- the count of fields isn't that of the pattern
-abbrev pub step_counts : ℕ → ℕ → List ℕ
-step_counts wanted count = decimal wanted ++ codes " fields, and here are " ++ decimal count
-
 abbrev pub step_count_sentence : List ℕ → ℕ → ℕ → List ℕ → List ℕ
-step_count_sentence word wanted count pattern = word ++ codes " has " ++ step_counts wanted count ++ codes ": " ++ pattern
+step_count_sentence word wanted count pattern =
+    word ++ codes " has " ++ decimal wanted ++ codes " fields, and here are " ++ decimal count ++ codes ": " ++ pattern
 
 abbrev pub wrong_step_count : RecordFields → Said
 wrong_step_count fields =

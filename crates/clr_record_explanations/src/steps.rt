@@ -1,12 +1,12 @@
 //! Records of a script that are steps of their own.
-ghost use Rattle.std.specs.Prelude.{◌≡◌, ◌≤◌, count_by, length, option_map, string_bytes, IfOk};
+ghost use Rattle.std.specs.Prelude.{◌≡◌, ◌≤◌, count_by, decimal, length, map, option_map, string_bytes, IfOk};
 ghost use Rattle.std.specs.List.{find};
 ghost use Rattle.std.specs.Option.{option_copied};
 ghost use Rattle.std.specs.Str.{bytes_eq};
 ghost use Rattle.csv.specs.Records.{fields_of};
 ghost use Rattle.clr_record_explanations.specs.RecordSlips.{said};
 ghost use Rattle.clr_record_explanations.specs.StepSlips.{comma_cut_of, count_of, is_comma, number_place, pattern_of, short_apply_slip, step_slip, word_of};
-ghost use Rattle.clr_record_explanations.specs.StepSlips.{step_count_sentence, step_counts, unknown_word, wrong_step_count, wrong_step_word};
+ghost use Rattle.clr_record_explanations.specs.StepSlips.{step_count_sentence, unknown_word, wrong_step_count, wrong_step_word};
 
 use crate::numbers::no_number;
 use crate::record_slips::RecordSlip;
@@ -65,14 +65,21 @@ fn word_of(pattern: &'static str) -> &'static str
     }
 }
 
-/// Returns the first of some patterns that begins with a word, if any.
-fn find_pattern(patterns: &[&'static str], word: &str) -> Option<&'static str>
+/// Returns the first of some patterns that begins with a word, as it stands among them, if any.
+fn find_lent(patterns: &[&'static str], word: &str) -> Option<&'static str>
     ensures { option_copied result ≡ option_copied (find (λ pattern. bytes_eq (word_of pattern.now) word.now) patterns.now) }
 {
     patterns
         .iter()
         .find(|pattern| word_of(**pattern) == word)
         .copied()
+}
+
+/// Returns the first of some patterns that begins with a word, if any.
+fn find_pattern(patterns: &[&'static str], word: &str) -> Option<&'static str>
+    ensures { option_copied result ≡ find (λ pattern. bytes_eq (word_of pattern) word.now) (map (λ pattern. pattern.now) patterns.now) }
+{
+    find_lent(patterns, word)
 }
 
 /// Returns the pattern of the steps that begin with a word, or no text.
@@ -148,12 +155,12 @@ fn count_of(pattern: &str) -> usize
     count_commas(pattern) + 1
 }
 
-/// Returns how many fields a step must have, and how many it has.
-fn counts(alloc: Global, wanted: usize, count: usize) -> Result<String, AllocError>
-    ensures { IfOk result (λ counts. string_bytes counts ≡ step_counts wanted count) }
+/// Returns the digits of a number.
+fn digits(alloc: Global, number: usize) -> Result<String, AllocError>
+    ensures { IfOk result (λ digits. string_bytes digits ≡ decimal number) }
 {
-    let counts = format!(in alloc; "{wanted} fields, and here are {count}")?;
-    Ok(counts)
+    let digits = format!(in alloc; "{number}")?;
+    Ok(digits)
 }
 
 /// Returns what is said of a step of a pattern, which must have so many fields and has another count.
@@ -166,10 +173,13 @@ fn count_sentence(
 ) -> Result<String, AllocError>
     ensures { IfOk result (λ sentence. string_bytes sentence ≡ step_count_sentence word.now wanted count pattern.now) }
 {
-    let counts = counts(alloc, wanted, count)?;
+    let wanted = digits(alloc, wanted)?;
+    let count = digits(alloc, count)?;
     let mut sentence = String::from_str(alloc, word)?;
     sentence.push_str(" has ")?;
-    sentence.push_str(counts.as_str())?;
+    sentence.push_str(wanted.as_str())?;
+    sentence.push_str(" fields, and here are ")?;
+    sentence.push_str(count.as_str())?;
     sentence.push_str(": ")?;
     sentence.push_str(pattern)?;
     Ok(sentence)
