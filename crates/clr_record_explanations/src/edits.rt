@@ -2,10 +2,9 @@
 ghost use Rattle.std.specs.Prelude.{◌≡◌, ◌&&◌, slice_get, string_bytes, IfOk};
 ghost use Rattle.std.specs.Option.{is_none, option_copied};
 ghost use Rattle.csv.specs.Records.{fields_of};
-ghost use Rattle.clr_records.specs.Decimals.{number_of};
-ghost use Rattle.clr_records.specs.Records.{field_of};
-ghost use Rattle.clr_record_explanations.specs.EditSlips.{count_sentence_of, delete_count, edit_slip, find_number_place, is_number_column, is_number_field, lacks_number, listed_columns};
-ghost use Rattle.clr_record_explanations.specs.EditSlips.{number_place, row_count, wrong_edit_count, wrong_edit_word};
+ghost use Rattle.clr_record_explanations.specs.EditSlips.{count_sentence_of, delete_count, edit_slip, find_number_place, is_number_column};
+ghost use Rattle.clr_record_explanations.specs.EditSlips.{is_number_field, lacks_number, listed_columns, number_place, row_count, wrong_edit_count};
+ghost use Rattle.clr_record_explanations.specs.EditSlips.{wrong_edit_word};
 ghost use Rattle.clr_record_explanations.specs.RecordSlips.{said};
 
 use crate::numbers::no_number;

@@ -1,8 +1,8 @@
 //! Records of a certificate.
 ghost use Rattle.std.specs.Prelude.{◌≡◌, string_bytes, IfOk};
 ghost use Rattle.csv.specs.Records.{fields_of};
-ghost use Rattle.clr_record_explanations.specs.EntrySlips.{entry_count_sentence, entry_slip, is_root_live, place_behind_name, wrong_entry_count, wrong_kind, wrong_name};
-ghost use Rattle.clr_record_explanations.specs.EntrySlips.{wrong_named_record, wrong_reference};
+ghost use Rattle.clr_record_explanations.specs.EntrySlips.{entry_count_sentence, entry_slip, is_root_live, place_behind_name, wrong_entry_count};
+ghost use Rattle.clr_record_explanations.specs.EntrySlips.{wrong_kind, wrong_name, wrong_named_record, wrong_reference};
 ghost use Rattle.clr_record_explanations.specs.RecordSlips.{said};
 
 use crate::record_slips::RecordSlip;

@@ -2,7 +2,6 @@
 ghost use Rattle.std.specs.Prelude.{◌≡◌, option_map, IfOk};
 ghost use Rattle.csv.specs.Records.{fields_of};
 ghost use Rattle.clr_cert.specs.Versions.{slash_cut_of};
-ghost use Rattle.clr_records.specs.Decimals.{number_of};
 ghost use Rattle.clr_record_explanations.specs.EntrySlips.{is_key_and_rest, is_no_version, is_rule_number, is_version, is_version_word, is_word_and_part};
 ghost use Rattle.clr_record_explanations.specs.EntrySlips.{may_be_missing, no_rule, version_place, wrong_need, wrong_version};
 ghost use Rattle.clr_record_explanations.specs.RecordSlips.{said};

@@ -1,4 +1,4 @@
-use Rattle.std.proofs.Common.{◌≡◌, ◌∙◌, List, ℕ, [], Bor, Option, sym, ap}
+use Rattle.std.proofs.Common.{◌∙◌, List, ℕ, [], Bor, Option, sym, ap}
 use Rattle.std.specs.Prelude.{unwrap_or}
 use Rattle.std.specs.Option.{option_copied}
 use Rattle.clr_record_explanations.specs.StepSlips.{step_patterns}
