@@ -1,6 +1,6 @@
 //! Records of a script that are edits.
-ghost use Rattle.std.specs.Prelude.{◌≡◌, ◌&&◌, slice_get, string_bytes, IfOk};
-ghost use Rattle.std.specs.Option.{is_none, option_copied};
+ghost use Rattle.std.specs.Prelude.{◌≡◌, slice_get, string_bytes, IfOk};
+ghost use Rattle.std.specs.Option.{option_copied};
 ghost use Rattle.csv.specs.Records.{fields_of};
 ghost use Rattle.clr_record_explanations.specs.EditSlips.{count_sentence_of, delete_count, edit_slip, find_number_place, is_number_column};
 ghost use Rattle.clr_record_explanations.specs.EditSlips.{is_number_field, lacks_number, listed_columns, number_place, row_count, wrong_edit_count};
