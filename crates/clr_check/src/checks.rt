@@ -63,13 +63,14 @@ fn judge_changes(
 /// `OutOfMemory` may come in its place where no test of names fails, and only where a growth was
 /// refused.
 ///
-/// Where the verdict is `Clear`, every rule holds in the root with the changes of any of the
-/// members over it, and no other member is in conflict with those rows. In every list of quiet
-/// commands no merge or refresh of a member is answered by a conflict or a broken rule, and every
-/// rule holds in the root after each command. After any two such lists that merge the same members,
-/// and so after any two that merge all, the root has the same rows. What `Office::perform_all`
-/// answers to quiet commands is then a cleared run. Nothing that the certificate says is taken to
-/// be true.
+/// Where the verdict is `Clear`, the root with the changes of more members over it breaks no need but
+/// those that it breaks with fewer, and no other member is in conflict with those rows. In every list
+/// of quiet commands no merge or refresh of a member is answered by a conflict or a broken rule, and
+/// after each command the root breaks no need but those that it broke at first. So where every rule
+/// holds in the root, it holds with the changes of any of the members over it, and in the root after
+/// each command. After any two such lists that merge the same members, and so after any two that merge
+/// all, the root has the same rows. What `Office::perform_all` answers to quiet commands is then a
+/// cleared run. Nothing that the certificate says is taken to be true.
 ///
 /// For example, mains 1 and 2 may cross only at a node, and the member `W1` deletes node 9, at which they do, and
 /// inserts node 10 there. The verdict is `Clear` where an entry names the old node 9 and the new node 10 as witnesses

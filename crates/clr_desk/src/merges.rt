@@ -35,7 +35,6 @@ fn merge_members(
 ) -> Result<Print, AllocError>
     ensures { IfOk result (λ p. IsMergePrintout names.now office.old certificate.now (printed p)) }
 {
-    let _rules = office.book();
     let commands = merge_commands(alloc, names)?;
     match perform_cleared(alloc, office, certificate, commands.as_slice()) {
         Ok(run) => run_print(alloc, office, &run),

@@ -19,6 +19,15 @@ pub fn plan_members(alloc: Global, office: &Office, root: &str, members: &[&str]
     plan(alloc, office, root, members)
 }
 
+/// Returns the plan of members whose changes were read, with what it promises.
+fn plan_read(alloc: Global, office: &Office, members: &MemberChanges<'_>) -> Plan
+    requires { AreMembers office.now (set_of members.now) members.now }
+    ensures { IsPlanned office.now (set_of members.now) result }
+{
+    let (root, names) = (members.root, members.names);
+    plan_changes(alloc, office, root, names, members.changes.as_slice())
+}
+
 /// Returns the plan of members whose changes were read, with what it promises. Where the plan finds no memory, this call fails.
 pub(crate) fn found_plan(
     alloc: Global,
@@ -28,8 +37,7 @@ pub(crate) fn found_plan(
     requires { AreMembers office.now (set_of members.now) members.now }
     ensures { IfOk result (IsFoundPlan office.now (set_of members.now)) }
 {
-    let (root, names) = (members.root, members.names);
-    let plan = plan_changes(alloc, office, root, names, members.changes.as_slice());
+    let plan = plan_read(alloc, office, members);
     if plan.is_out_of_memory() {
         return Err(AllocError);
     }

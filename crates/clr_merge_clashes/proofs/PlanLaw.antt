@@ -103,12 +103,12 @@ module _ (o : Office) (t : MergeSet) where
   none_left_cleared fits apart none plan.OutOfMemory h found = absurd (true≢false found)
 
 pub plans_decided : ListedClashesDecideSubsets → ClashesDecidePlans
-plans_decided law o s listed positions p fits apart root smallest ascending below planned found =
+plans_decided law o s listed positions p fits apart smallest ascending below planned found =
     let sets = change_sets o s in
     let within : ((k : ℕ) → Contains positions k → k < length sets) =
     (λ k h. let less = below k h in let count = length-map s.members (changes_in o) in omega (arith, less, count)) in
     let same = setting_same o s positions in
-    let decided = law o.book (root_content o s) sets listed positions apart root smallest ascending within in
+    let decided = law o.book (root_content o s) sets listed positions apart smallest ascending within in
     let part = part_mergeable o s positions fits apart ascending below in
     let fits_too = no_member_fault o (merge_set_of_part s positions) part in
     let apart_too = apart_sets o (merge_set_of_part s positions) part in (

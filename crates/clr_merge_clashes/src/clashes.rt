@@ -16,7 +16,7 @@ use crate::places::{names_at, sets_at};
 use clr_change::ChangeSet;
 use clr_clearance::Verdict;
 use clr_engine::Office;
-use clr_merge_sets::{fault_without_memory, name_fault, read_changes};
+use clr_merge_sets::{name_fault, read_changes};
 use std::alloc::{AllocError, Global};
 
 /// Returns the sets where no test of names fails.
@@ -62,7 +62,6 @@ pub fn merge_clashes_of(
     ensures found { AreFound office.now (merge_set root.now (map (λ name. name.now) members.now)) result }
     ensures exact { IfOk result (AreSmallestSets office.now (merge_set root.now (map (λ name. name.now) members.now))) }
 {
-    let _rules = office.book();
     sets_decide_plans();
     if let Some(fault) = name_fault(alloc, office, root, &members) {
         return Err(fault);
@@ -90,6 +89,9 @@ pub fn merge_clashes(
 {
     match read_changes(alloc, office, &members) {
         Ok(changes) => merge_clashes_of(alloc, office, root, members, changes.as_slice()),
-        Err(_) => Err(fault_without_memory(alloc, office, root, &members)),
+        Err(_) => match name_fault(alloc, office, root, &members) {
+            Some(fault) => Err(fault),
+            None => Err(Verdict::OutOfMemory),
+        },
     }
 }

@@ -172,11 +172,6 @@ module _ (o : Office) (admitted : IsAdmitted o) where
     pub merge_set_fits : FitsSetting (setting_by_position o s)
     merge_set_fits = record { tables = o.schema; book = admitted.fit.book; each = version_fits }
 
-    -- every rule holds in a root that is kept
-    pub root_holds : is_kept o s.root ≡ true → RootHolds o s
-    unfolding root_content
-    root_holds kept = admitted.holds s.root kept
-
 -- where no test of names fails ---------------------------------------------------------------------------
 
 module _ (o : Office) (s : MergeSet) (free : None ≡ names_fault o s) where

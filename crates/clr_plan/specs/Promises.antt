@@ -12,7 +12,7 @@ use Rattle.clr_clearance.specs.Headline.{Headline, NamesTheSame}
 use Rattle.clr_clearance.specs.Plans.{IsUnfit, is_order_refused, members_at, standing}
 use Rattle.clr_clearance.specs.Runs.{AreQuiet}
 use Rattle.clr_clearance.specs.Safety.{Safe}
-use Rattle.clr_clearance.specs.MergeSets.{Covers, RootHolds}
+use Rattle.clr_clearance.specs.MergeSets.{Covers}
 use Rattle.clr_clearance.specs.Verdicts.{IsVerdict, names_fault, repeated_member}
 use Rattle.clr_merge_sets.specs.Certificates.{entries_in, merge_set_of}
 use Rattle.clr_merge_sets.specs.Plans.{is_cleared, is_out_of_memory}
@@ -50,7 +50,6 @@ IsUnfitWhere o s p = (v : Verdict) → IsUnfit o s v → p ≡ plan.Unfit v
 abbrev pub StaysCleared : Office → MergeSet → Plan → Type 0
 StaysCleared o s p = (first : Office) (merge_set : MergeSet) (entries : List Entry) (commands : List Command) (lost : ℕ → Bool)
     → Covers first merge_set entries
-    → RootHolds first merge_set
     → AreQuiet first merge_set commands lost
     → o ≡ (run first commands lost).office
     → NamesTheSame (standing o merge_set) s

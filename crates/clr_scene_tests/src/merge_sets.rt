@@ -1,9 +1,8 @@
 //! Scenes of members of LIVE or of a kept workspace.
 
 ghost use Rattle.std.specs.Prelude.{◌≡◌, ◌<◌, IfOk, length, map};
-ghost use Rattle.clr_rows.specs.Contents.{row_at};
-ghost use Rattle.clr_rules.specs.Needs.{Holds};
-ghost use Rattle.clr_foot.specs.Scenes.{IsReady, model_of};
+ghost use Rattle.clr_needs.specs.Settings.{DoChange};
+ghost use Rattle.clr_foot.specs.Scenes.{IsReady, model_of, setting_of};
 ghost use Rattle.clr_steps.specs.Quiet.{MergeSet};
 ghost use Rattle.clr_merge_sets.specs.MergeSetNames.{merge_set};
 ghost use Rattle.clr_merge_sets.specs.MergeSets.{AreOfMergeSet, AreParts, IsSceneOf};
@@ -156,7 +155,7 @@ fn first_broken_of_scene<V: RowView, F: RowFinder>(
 ) -> Result<Option<Broken>, AllocError>
     requires ready { IsReady F.settled (model_of V.content scene.now) }
     requires one { length (model_of V.content scene.now).sets ≡ 1 }
-    requires holds { Holds (model_of V.content scene.now).rules (row_at (model_of V.content scene.now).root) }
+    requires changes { DoChange (setting_of (model_of V.content scene.now)) }
 {
     memory.answer(|| scene.first_broken())
 }
@@ -173,7 +172,6 @@ fn first_broken_of_parts(
     requires parts { AreParts office.now (merge_set root.now (map (λ name. name.now) members.now)) parts.now }
     requires one { length members.now ≡ 1 }
 {
-    let _book = office.book();
     let _root = root;
     let _members = members;
     match scene_of(alloc, office, parts, memory) {

@@ -64,11 +64,11 @@ module _ (o : Office) (s : MergeSet) where
   part_blocked part plan.OutOfMemory within promised e = absurd (false≢true e)
 
   -- no plan is cleared where an order is refused
-  pub told_refused : HoldsWhereKept o → HasRefusedOrder o s → TellsIfCleared o s false
-  told_refused holds (order, is) = record { told = not_cleared; reason = inr (order, is) }
+  pub told_refused : HasRefusedOrder o s → TellsIfCleared o s false
+  told_refused (order, is) = record { told = not_cleared; reason = inr (order, is) }
     where
       not_cleared : (p : Plan) → IsPlan o s p → is_out_of_memory p ≡ false → false ≡ is_cleared p
-      not_cleared (plan.Cleared c) h found = absurd (is.unsafe (promise_law o s (plan.Cleared c) holds h).safe)
+      not_cleared (plan.Cleared c) h found = absurd (is.unsafe (promise_law o s (plan.Cleared c) h).safe)
       not_cleared (plan.Blocked others cause) h found = refl
       not_cleared (plan.Unfit v) h found = refl
       not_cleared plan.OutOfMemory h found = refl

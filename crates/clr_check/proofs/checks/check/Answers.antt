@@ -7,22 +7,22 @@ use Rattle.clr_check.proofs.checks.check.Goals as goal
 
 pub returns-in-Ok-clause-free : goal.returns-in-Ok-clause-free
 returns-in-Ok-clause-free c e =
-    (clear_promises c.args.office.now (merge_set_of c.args.certificate.now) (entries_in c.args.certificate.now.entries) c.book-rules.ensures.admitted
+    (clear_promises c.args.office.now (merge_set_of c.args.certificate.now) (entries_in c.args.certificate.now.entries)
     c.judge_changes.result c.judge_changes.ensures e).0
 
 pub returns-in-Ok-clause-safe : goal.returns-in-Ok-clause-safe
 returns-in-Ok-clause-safe c e =
-    (clear_promises c.args.office.now (merge_set_of c.args.certificate.now) (entries_in c.args.certificate.now.entries) c.book-rules.ensures.admitted
+    (clear_promises c.args.office.now (merge_set_of c.args.certificate.now) (entries_in c.args.certificate.now.entries)
     c.judge_changes.result c.judge_changes.ensures e).1
 
 pub returns-in-Ok-clause-headline : goal.returns-in-Ok-clause-headline
 returns-in-Ok-clause-headline c e =
-    (clear_promises c.args.office.now (merge_set_of c.args.certificate.now) (entries_in c.args.certificate.now.entries) c.book-rules.ensures.admitted
+    (clear_promises c.args.office.now (merge_set_of c.args.certificate.now) (entries_in c.args.certificate.now.entries)
     c.judge_changes.result c.judge_changes.ensures e).2
 
 pub returns-in-Ok-clause-runs : goal.returns-in-Ok-clause-runs
 returns-in-Ok-clause-runs c e =
-    (clear_promises c.args.office.now (merge_set_of c.args.certificate.now) (entries_in c.args.certificate.now.entries) c.book-rules.ensures.admitted
+    (clear_promises c.args.office.now (merge_set_of c.args.certificate.now) (entries_in c.args.certificate.now.entries)
     c.judge_changes.result c.judge_changes.ensures e).3
 
 pub returns-in-Err-clause-answer : goal.returns-in-Err-clause-answer
@@ -40,7 +40,7 @@ returns-in-Err-clause-free c e =
     let v = c.fault_without_memory.result in
     let fault = subst (λ root. IsMergeSetFault o (merge_set root certificate.members) v) c.as_str.ensures c.fault_without_memory.ensures.fault in
     let answer = fault_answers o (merge_set_of certificate) (entries_in certificate.entries) v fault in
-    (clear_promises o (merge_set_of certificate) (entries_in certificate.entries) c.book-rules.ensures.admitted v answer e).0
+    (clear_promises o (merge_set_of certificate) (entries_in certificate.entries) v answer e).0
 
 pub returns-in-Err-clause-safe : goal.returns-in-Err-clause-safe
 returns-in-Err-clause-safe c e =
@@ -49,7 +49,7 @@ returns-in-Err-clause-safe c e =
     let v = c.fault_without_memory.result in
     let fault = subst (λ root. IsMergeSetFault o (merge_set root certificate.members) v) c.as_str.ensures c.fault_without_memory.ensures.fault in
     let answer = fault_answers o (merge_set_of certificate) (entries_in certificate.entries) v fault in
-    (clear_promises o (merge_set_of certificate) (entries_in certificate.entries) c.book-rules.ensures.admitted v answer e).1
+    (clear_promises o (merge_set_of certificate) (entries_in certificate.entries) v answer e).1
 
 pub returns-in-Err-clause-headline : goal.returns-in-Err-clause-headline
 returns-in-Err-clause-headline c e =
@@ -58,7 +58,7 @@ returns-in-Err-clause-headline c e =
     let v = c.fault_without_memory.result in
     let fault = subst (λ root. IsMergeSetFault o (merge_set root certificate.members) v) c.as_str.ensures c.fault_without_memory.ensures.fault in
     let answer = fault_answers o (merge_set_of certificate) (entries_in certificate.entries) v fault in
-    (clear_promises o (merge_set_of certificate) (entries_in certificate.entries) c.book-rules.ensures.admitted v answer e).2
+    (clear_promises o (merge_set_of certificate) (entries_in certificate.entries) v answer e).2
 
 pub returns-in-Err-clause-runs : goal.returns-in-Err-clause-runs
 returns-in-Err-clause-runs c e =
@@ -67,4 +67,4 @@ returns-in-Err-clause-runs c e =
     let v = c.fault_without_memory.result in
     let fault = subst (λ root. IsMergeSetFault o (merge_set root certificate.members) v) c.as_str.ensures c.fault_without_memory.ensures.fault in
     let answer = fault_answers o (merge_set_of certificate) (entries_in certificate.entries) v fault in
-    (clear_promises o (merge_set_of certificate) (entries_in certificate.entries) c.book-rules.ensures.admitted v answer e).3
+    (clear_promises o (merge_set_of certificate) (entries_in certificate.entries) v answer e).3

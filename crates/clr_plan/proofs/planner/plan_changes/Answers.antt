@@ -13,10 +13,9 @@ returns-in-Ok c =
     let s = merge_set c.args.root.now (map (λ name. name.now) c.args.members.now) in
     let p = c.plan_parts.result in
     let h = c.plan_parts.ensures in
-    let holds = c.book-rules.ensures.admitted.holds in
     let tables = subst (λ (tables : List TableDef). schema_fault tables ≡ None) c.schema.ensures.value c.tables-tables.ensures.sound in
     let whole : IsWhole o = record { tables = tables; admitted = c.book-rules.ensures.admitted; tree = c.len-tree.ensures.sound } in
-    record { plan = h; unfit = unfit_law o s p h; promises = promise_law o s p holds h; exact = exact_law o s p holds h; lasts = lasting_law o s p h; readable = readable o s p whole h }
+    record { plan = h; unfit = unfit_law o s p h; promises = promise_law o s p h; exact = exact_law o s p h; lasts = lasting_law o s p h; readable = readable o s p whole h }
 
 pub returns-in-Err : goal.returns-in-Err
 returns-in-Err c =
@@ -24,7 +23,6 @@ returns-in-Err c =
     let s = merge_set c.args.root.now (map (λ name. name.now) c.args.members.now) in
     let p = c.plan_fault.result in
     let h = c.plan_fault.ensures o s c.in-Err.ensures.fault in
-    let holds = c.book-rules.ensures.admitted.holds in
     let tables = subst (λ (tables : List TableDef). schema_fault tables ≡ None) c.schema.ensures.value c.tables-tables.ensures.sound in
     let whole : IsWhole o = record { tables = tables; admitted = c.book-rules.ensures.admitted; tree = c.len-tree.ensures.sound } in
-    record { plan = h; unfit = unfit_law o s p h; promises = promise_law o s p holds h; exact = exact_law o s p holds h; lasts = lasting_law o s p h; readable = readable o s p whole h }
+    record { plan = h; unfit = unfit_law o s p h; promises = promise_law o s p h; exact = exact_law o s p h; lasts = lasting_law o s p h; readable = readable o s p whole h }

@@ -1,8 +1,7 @@
 use Rattle.clr_rows.proofs.BeginningLaws.{begun_before_item}
-use Rattle.clr_records.specs.Values.{IsText}
+use Rattle.clr_records.specs.Values.{IsText, value_field}
 use Rattle.clr_records.proofs.Turns.{each_more, seen_more}
-use Rattle.clr_lines.specs.Rows.{value_field}
-use Rattle.clr_lines.proofs.row_fields.add_values.Goals as goal
+use Rattle.clr_records.proofs.fields.add_values.Goals as goal
 
 pub loop-value-preserved : goal.loop-value-preserved
 loop-value-preserved c =
