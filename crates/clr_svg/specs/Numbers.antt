@@ -6,7 +6,6 @@ use Rattle.clr_svg.specs.declared.colours.Colour.{Colour}
 use Rattle.clr_svg.specs.declared.elements.PagePoint.{PagePoint}
 use Rattle.clr_svg.specs.declared.pixels.Pixels.{Pixels}
 
--- a `-` where a number is below 0
 abbrev pub sign_text : ℤ → List ℕ
 sign_text n = if is_negative n then codes "-" else []
 
