@@ -1,2 +1,0 @@
-pub mod ServerLemmas
-pub mod VersionLemmas
