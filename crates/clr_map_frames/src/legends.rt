@@ -2,7 +2,8 @@
 
 use clr_drawing::{ALARM, Area, HALO, INK, PAPER, PLAIN, SIGN, SOFT, Sketch, add_cross, add_sign};
 use clr_map_marks::sign_of_table;
-use clr_map_scenes::{BESIDE, Counts, EDGE, MapScene, Mark, TOP};
+use clr_map_scenes::{BESIDE, EDGE, MapScene, Mark, TOP};
+use clr_member_changes::Counts;
 use clr_rows::Form;
 use clr_svg::{Anchor, Colour, Ink, Layer, PagePoint, Pixels, Weight};
 use std::alloc::AllocError;

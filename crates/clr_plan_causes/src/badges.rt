@@ -1,12 +1,13 @@
 //! The few words beside the place of a cause.
 
 ghost use Rattle.std.specs.Prelude.{◌≡◌, ◌++◌, IfOk, OnOk, codes, string_bytes};
+ghost use Rattle.std.specs.Fmt.{signed_decimal};
 ghost use Rattle.std.specs.List.{flat_map};
-ghost use Rattle.clr_plan_causes.specs.Badges.{badge_words, column_name, is_between, same_words, server_words};
+ghost use Rattle.clr_plan_causes.specs.Badges.{badge_words, column_name, conflict_words, is_between, same_words, server_words, shared_words};
 
-use crate::causes::Mark;
+use clr_map_scenes::Mark;
 use clr_phrases::Metres;
-use clr_rows::Schema;
+use clr_rows::{CellId, Schema};
 use clr_rules::{Col, Rule};
 use std::alloc::{AllocError, Global};
 
