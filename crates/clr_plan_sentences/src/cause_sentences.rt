@@ -1,7 +1,8 @@
 //! The cause of a no in words: its rows, and where they stand.
 
 ghost use Rattle.std.specs.Prelude.{◌≡◌, ◌++◌, IfOk, OnOk, string_bytes};
-ghost use Rattle.clr_plan_sentences.specs.Causes.{IsCause, conflict_cause, conflict_reason, counted_text, need_reason, others_text, reason_text, shared_cause, shared_reason};
+ghost use Rattle.clr_plan_sentences.specs.Causes.{IsCause, conflict_cause, conflict_reason, counted_text, need_reason};
+ghost use Rattle.clr_plan_sentences.specs.Causes.{others_text, reason_text, shared_cause, shared_reason};
 ghost use Rattle.clr_plan_sentences.specs.NeedCauses.{no_cause};
 ghost use Rattle.clr_serving_rows.specs.NeedPlaces.{rule_in};
 ghost use Rattle.clr_merge_sets.specs.MemberChanges.{AreMembers, set_of};

@@ -2,8 +2,10 @@
 
 ghost use Rattle.std.specs.Prelude.{◌≡◌, ◌++◌, IfOk, OnOk, string_bytes, take};
 ghost use Rattle.std.specs.List.{flat_map};
-ghost use Rattle.clr_plan_sentences.specs.Sentences.{AreCauseLines, AreDetails, IsSentences, cause_lines, cleared_details, counts_text, entry_line, entry_lines};
-ghost use Rattle.clr_plan_sentences.specs.Sentences.{member_line, members_text, more_text, need_line, needs_text, row_lines, some_needs_text, told_details, verdict_text};
+ghost use Rattle.clr_plan_sentences.specs.Sentences.{AreCauseLines, AreDetails, IsSentences, cause_lines};
+ghost use Rattle.clr_plan_sentences.specs.Sentences.{cleared_details, counts_text, entry_line, entry_lines};
+ghost use Rattle.clr_plan_sentences.specs.Sentences.{member_line, members_text, more_text, need_line, needs_text};
+ghost use Rattle.clr_plan_sentences.specs.Sentences.{row_lines, some_needs_text, told_details, verdict_text};
 ghost use Rattle.clr_merge_sets.specs.MemberChanges.{AreMembers, set_of};
 
 use crate::answers::answer_words;

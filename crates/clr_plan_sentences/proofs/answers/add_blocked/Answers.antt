@@ -14,5 +14,6 @@ returns c =
       c.in_ok-push_str.ensures.bytes,
       c.in_ok-add_names.ensures,
     )
-    (five_behind (string_bytes c.args.text.now) (names_text (set_of c.args.members.now).members) (codes " can't be merged into ") (set_of c.args.members.now).root
+    (five_behind (string_bytes c.args.text.now)
+    (names_text (set_of c.args.members.now).members) (codes " can't be merged into ") (set_of c.args.members.now).root
     (codes " in every order.\n") (order_sentence (set_of c.args.members.now).members c.args.order.now))
