@@ -34,10 +34,10 @@ use Rattle.clr_office.specs.Outcomes.{IsPlanned}
 use Rattle.clr_office_reports.specs.Printing.{status_of}
 use Rattle.clr_layer_changes.specs.declared.options.GivenLayer.{GivenLayer}
 use Rattle.clr_layer_changes.specs.declared.options.LayerOptions.{LayerOptions}
-use Rattle.clr_desk_answers.specs.Designs as designs
-use Rattle.clr_desk_answers.specs.Designs.{IsPrintOfDesign, IsPrintOfLayers, IsPrintOfLive, IsPrintOfScript, faulty_layer_printout, refusal_print, text_print}
-use Rattle.clr_desk_answers.specs.Members.{members_or_children}
-use Rattle.clr_desk_answers.specs.Printing.{PrintoutOrFault, printout_of}
+use Rattle.clr_desk_layers.specs.Designs as designs
+use Rattle.clr_desk_layers.specs.Designs.{IsPrintOfDesign, IsPrintOfLayers, IsPrintOfLive, IsPrintOfScript, faulty_layer_printout, refusal_print, text_print}
+use Rattle.clr_desk_prints.specs.Members.{members_or_children}
+use Rattle.clr_desk_prints.specs.Printing.{PrintoutOrFault, printout_of}
 use Rattle.clr_desk.specs.Certificates.{IsPlanPrint, plan_print}
 use Rattle.clr_desk.specs.Checks.{IsCheckPrint, check_print}
 use Rattle.clr_desk.specs.Choices as choices

@@ -14,8 +14,8 @@ use Rattle.clr_choices.specs.ChoiceLines.{left_text}
 use Rattle.clr_choices.specs.Clearable.{IsPlanOf}
 use Rattle.clr_choices.specs.Trials.{AreTrials, Trial, is_taken, taken_in}
 use Rattle.clr_desk.specs.Certificates.{plan_print}
-use Rattle.clr_desk_answers.specs.Members.{members_or_children}
-use Rattle.clr_desk_answers.specs.Printing.{PrintoutOrFault, printout_of}
+use Rattle.clr_desk_prints.specs.Members.{members_or_children}
+use Rattle.clr_desk_prints.specs.Printing.{PrintoutOrFault, printout_of}
 
 -- a word, how many names there are, and the names
 abbrev pub names_line : List ℕ → List Name → List ℕ

@@ -20,8 +20,8 @@ use Rattle.clr_merge_clashes.specs.declared.clash_sets.MergeClash.{MergeClash}
 use Rattle.clr_merge_clashes.specs.declared.clash_sets.MergeClashes.{MergeClashes}
 use Rattle.clr_desk.specs.Certificates.{plan_print}
 use Rattle.clr_desk.specs.Choices.{names_line}
-use Rattle.clr_desk_answers.specs.Members.{set_asked}
-use Rattle.clr_desk_answers.specs.Printing.{PrintoutOrFault, printout_of}
+use Rattle.clr_desk_prints.specs.Members.{set_asked}
+use Rattle.clr_desk_prints.specs.Printing.{PrintoutOrFault, printout_of}
 
 -- the members of a set, and why they can't be merged together
 abbrev pub clash_text : List TableDef → MergeSet → MergeClash → List ℕ

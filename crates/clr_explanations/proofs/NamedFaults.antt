@@ -15,7 +15,7 @@ use Rattle.clr_faults.specs.InnerFaults.{book_fault_of, put_fault_of, tables_fau
 use Rattle.clr_item_explanations.specs.FaultNames.{BeginsWithName, rule_fault_name, schema_fault_name}
 use Rattle.clr_explanations.specs.Names.{HasTable, NamesAreKnown, TellsFirstUnknown, TellsUnknownName, TellsUnknownTable, first_unknown, text_at}
 use Rattle.clr_item_explanations.specs.declared.slips.Slip.{Slip}
-use Rattle.clr_fault_lines.specs.declared.remarks.Remark.{Remark}
+use Rattle.clr_text_positions.specs.declared.remarks.Remark.{Remark}
 use Rattle.clr_faults.specs.declared.spots.FaultyItem.{FaultyItem}
 use Rattle.clr_explanations.specs.Items.{item_at_spot}
 use Rattle.clr_explanations.specs.Places.{place_text}

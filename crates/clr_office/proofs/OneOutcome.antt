@@ -34,7 +34,8 @@ use Rattle.clr_office.specs.Outcomes.{IsCommandOutcome, IsOutcome, IsPlanOutcome
 use Rattle.clr_office_reports.specs.Outcomes.{Outcome}
 use Rattle.clr_office.specs.Outcomes.{command_outcome, first_name, followed_by}
 use Rattle.clr_office_reports.proofs.Outcomes.{parts_are}
-use Rattle.clr_office_reports.proofs.OneOutcome.{IsOne, lost_of, one_equal, one_independence}
+use Rattle.clr_independence.proofs.OneIndependence.{one_independence}
+use Rattle.clr_office_reports.proofs.OneOutcome.{IsOne, lost_of, one_equal}
 
 one_command : (o : Office) (c : Command) → IsOne (IsCommandOutcome o c)
 one_command o c all other one two found found_other =

@@ -17,7 +17,8 @@ use Rattle.clr_scripts.specs.declared.steps.Step.TheVariants.{Act, Report}
 use Rattle.clr_scripts.specs.declared.steps.Word.TheVariants as word
 use Rattle.clr_lines.specs.Replies.{reply_text}
 use Rattle.clr_plan.specs.PlanLines.{plan_text}
-use Rattle.clr_office_reports.specs.Outcomes.{IsIndependenceOutcome, Outcome, is_refused, outcome, shown}
+use Rattle.clr_independence.specs.IndependenceOutcomes.{IsIndependenceOutcome}
+use Rattle.clr_office_reports.specs.Outcomes.{Outcome, is_refused, outcome, shown}
 use Rattle.clr_office_reports.specs.Outcomes.{audit_outcome, changes_outcome, conflicts_outcome, dump_outcome, show_outcome, workspaces_outcome}
 
 -- a command: the line of its reply, which is OutOfMemory where it is lost

@@ -16,9 +16,12 @@ use Rattle.clr_plan_sentences.specs.NeedCauses.{IsNeedCause, no_cause, rule_reas
 use Rattle.clr_serving_rows.specs.NeedPlaces.{rule_in}
 use Rattle.clr_plan_sentences.specs.ToldRows.{row_now, row_of_member, row_taken_over}
 
+abbrev pub counted_text : ℕ → List ℕ
+counted_text count = codes ", and so were others: " ++ decimal count ++ codes " rows in all"
+
 -- how many rows are in conflict, if more than one is
 abbrev pub others_text : ℕ → List ℕ
-others_text count = if nat_lt 1 count then codes ", and so were others: " ++ decimal count ++ codes " rows in all" else []
+others_text count = if nat_lt 1 count then counted_text count else []
 
 -- a cell was changed in the root after a member took it over
 abbrev pub conflict_reason : Office → MergeSet → CellId → ℕ → ℕ → List ℕ

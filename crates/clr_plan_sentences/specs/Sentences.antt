@@ -84,11 +84,14 @@ some_needs_text lines count =
 abbrev pub needs_text : List ℕ → ℕ → List ℕ
 needs_text lines count = if count == 0 then codes "\nNo rule is touched.\n" else some_needs_text lines count
 
--- what each member changes, and what serves the needs; nothing where there are no members
+-- what each member changes, and what serves the needs
+abbrev pub told_details : Office → List Name → List Changes → List Entry → List ℕ
+told_details o members sets entries =
+    codes "\n" ++ members_text members sets ++ needs_text (entry_lines o members sets entries) (length entries)
+
+-- the same, and nothing where there are no members
 abbrev pub cleared_details : Office → List Name → List Changes → List Entry → List ℕ
-cleared_details o members sets entries =
-    if length members == 0 then []
-    else codes "\n" ++ members_text members sets ++ needs_text (entry_lines o members sets entries) (length entries)
+cleared_details o members sets entries = if length members == 0 then [] else told_details o members sets entries
 
 -- the whole -------------------------------------------------------------------------------------------
 

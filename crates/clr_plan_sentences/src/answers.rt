@@ -1,7 +1,8 @@
 //! What a plan answers, in sentences.
 
 ghost use Rattle.std.specs.Prelude.{◌≡◌, ◌++◌, IfOk, OnOk, string_bytes};
-ghost use Rattle.clr_plan_sentences.specs.Answers.{answer_text, blocked_text, cleared_text, lasting_text, mergeable_text, order_sentence, order_text, refused_text};
+ghost use Rattle.clr_plan_sentences.specs.Answers.{answer_text, blocked_text, cleared_text, lasting_text};
+ghost use Rattle.clr_plan_sentences.specs.Answers.{mergeable_text, order_sentence, order_text, refused_text};
 ghost use Rattle.clr_merge_sets.specs.MemberChanges.{set_of};
 
 use crate::settings::Setting;

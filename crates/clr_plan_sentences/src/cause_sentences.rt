@@ -1,7 +1,8 @@
 //! The cause of a no in words: its rows, and where they stand.
 
 ghost use Rattle.std.specs.Prelude.{◌≡◌, ◌++◌, IfOk, OnOk, string_bytes};
-ghost use Rattle.clr_plan_sentences.specs.Causes.{IsCause, conflict_cause, conflict_reason, need_reason, others_text, reason_text, shared_cause, shared_reason};
+ghost use Rattle.clr_plan_sentences.specs.Causes.{IsCause, conflict_cause, conflict_reason, counted_text, need_reason};
+ghost use Rattle.clr_plan_sentences.specs.Causes.{others_text, reason_text, shared_cause, shared_reason};
 ghost use Rattle.clr_plan_sentences.specs.NeedCauses.{no_cause};
 ghost use Rattle.clr_serving_rows.specs.NeedPlaces.{rule_in};
 ghost use Rattle.clr_merge_sets.specs.MemberChanges.{AreMembers, set_of};
@@ -27,17 +28,25 @@ pub(crate) fn no_cause(alloc: Global) -> CauseWords
     }
 }
 
+/// Adds how many rows are in conflict.
+fn add_counted(text: &mut String, count: usize) -> Result<(), AllocError>
+    ensures { OnOk result (string_bytes text.new ≡ string_bytes text.old ++ counted_text count) }
+{
+    text.push_str(", and so were others: ")?;
+    write!(text, "{count}")?;
+    text.push_str(" rows in all")?;
+    Ok(())
+}
+
 /// Adds how many rows are in conflict, if more than one is.
 fn add_others(text: &mut String, count: usize) -> Result<(), AllocError>
     ensures { OnOk result (string_bytes text.new ≡ string_bytes text.old ++ others_text count) }
 {
     if count <= 1 {
-        return Ok(());
+        Ok(())
+    } else {
+        add_counted(text, count)
     }
-    text.push_str(", and so were others: ")?;
-    write!(text, "{count}")?;
-    text.push_str(" rows in all")?;
-    Ok(())
 }
 
 impl Setting<'_> {

@@ -2,8 +2,10 @@
 
 ghost use Rattle.std.specs.Prelude.{◌≡◌, ◌++◌, IfOk, OnOk, string_bytes, take};
 ghost use Rattle.std.specs.List.{flat_map};
-ghost use Rattle.clr_plan_sentences.specs.Sentences.{AreCauseLines, AreDetails, IsSentences, cause_lines, cleared_details, counts_text, entry_line, entry_lines};
-ghost use Rattle.clr_plan_sentences.specs.Sentences.{member_line, members_text, more_text, need_line, needs_text, row_lines, some_needs_text, verdict_text};
+ghost use Rattle.clr_plan_sentences.specs.Sentences.{AreCauseLines, AreDetails, IsSentences, cause_lines};
+ghost use Rattle.clr_plan_sentences.specs.Sentences.{cleared_details, counts_text, entry_line, entry_lines};
+ghost use Rattle.clr_plan_sentences.specs.Sentences.{member_line, members_text, more_text, need_line, needs_text};
+ghost use Rattle.clr_plan_sentences.specs.Sentences.{row_lines, some_needs_text, told_details, verdict_text};
 ghost use Rattle.clr_merge_sets.specs.MemberChanges.{AreMembers, set_of};
 
 use crate::answers::answer_words;
@@ -186,9 +188,23 @@ impl Setting<'_> {
             (set_of self.now.members.now).members self.now.members.now.changes.items entries.now) }
     {
         let mut text = String::new(self.alloc);
-        for entry in first_needs(entries) {
+        let told = first_needs(entries);
+        for entry in told {
             self.add_entry(&mut text, entry)?;
         }
+        Ok(text)
+    }
+
+    /// Returns what each member changes, and what serves the needs.
+    fn told_details(&self, entries: &[Entry]) -> Result<String, AllocError>
+        ensures { IfOk result (λ text. string_bytes text ≡ told_details self.now.office.now
+            (set_of self.now.members.now).members self.now.members.now.changes.items entries.now) }
+    {
+        let lines = self.entry_lines(entries)?;
+        let mut text = String::new(self.alloc);
+        text.push_str("\n")?;
+        add_members(&mut text, self.members)?;
+        add_needs(&mut text, lines.as_str(), entries.len())?;
         Ok(text)
     }
 
@@ -197,15 +213,11 @@ impl Setting<'_> {
         ensures { IfOk result (λ text. string_bytes text ≡ cleared_details self.now.office.now
             (set_of self.now.members.now).members self.now.members.now.changes.items entries.now) }
     {
-        let mut text = String::new(self.alloc);
         if self.members.names.is_empty() {
-            return Ok(text);
+            Ok(String::new(self.alloc))
+        } else {
+            self.told_details(entries)
         }
-        let lines = self.entry_lines(entries)?;
-        text.push_str("\n")?;
-        add_members(&mut text, self.members)?;
-        add_needs(&mut text, lines.as_str(), entries.len())?;
-        Ok(text)
     }
 
     /// Returns why members are blocked.

@@ -13,15 +13,10 @@ use Rattle.std.proofs.lemmas.Nat.{mod-mul-add}
 use Rattle.std.proofs.lemmas.Option.{get_or_from_slice_get, slice_get-get_or, slice_get-map, slice_get_within}
 use Rattle.std.proofs.lemmas.List.Quantifiers.{position-Some}
 use Rattle.clr_rows.specs.declared.limits.TheConstants.{GREATEST_KEY}
-use Rattle.std.specs.FinMap as finite
-use Rattle.clr_rows.specs.Contents.{Changes}
 use Rattle.clr_workspaces.specs.Marks.{Name}
 use Rattle.clr_steps.specs.Offices.{Office}
-use Rattle.clr_steps.specs.Readings.{changes_in, name_at}
-use Rattle.clr_member_changes.specs.declared.member_changes.MemberChanges.{MemberChanges}
-use Rattle.clr_merge_sets.specs.MemberChanges.{AreMembers, set_of}
-use Rattle.clr_merge_sets.proofs.MergeSetLemmas.{named_at as changed_at}
-use Rattle.clr_work_orders.specs.Keys.{all_names, greatest_in, greatest_key, greatest_of, key_among, own_key, tip_key, within_keys}
+use Rattle.clr_steps.specs.Readings.{name_at}
+use Rattle.clr_work_orders.specs.Keys.{all_names, greatest_key, key_among, own_key, tip_key, within_keys}
 
 -- an own key leaves the position when it is divided by the count
 own_left : (count at key : ℕ) → at < count → own_key count at key % count ≡ at
@@ -124,21 +119,3 @@ pub found_none : (names : List Name) (name : Name) → ((k : ℕ) → k < length
 found_none names name below =
     let first = position_or_len_is (λ other. bytes_eq other name) names (length names) [] (omega arith) below (λ h. absurd (omega (arith, h))) in
     rw first (let past : nat_lt (length names) (length names) ≡ false = grind (arith, nat_tests) in rw past refl)
-
--- what a member changed --------------------------------------------------------------------------------
-
--- what stands in the place of a name is what that name's workspace changed
-pub changes_named : (o : Office) (m : MemberChanges) (name : Name) (at : ℕ) (set : Changes) → AreMembers o (set_of m) m
-    → position (λ other. bytes_eq other name) (map (λ (n : Bor Name). n.now) m.names.now) ≡ Some at → slice_get m.changes.items at ≡ Some set
-    → set ≡ changes_in o name
-changes_named o m name at set are found read =
-    let names = map (λ (n : Bor Name). n.now) m.names.now in
-    let here = named names name [] at found in
-    let there = changed_at o names m.changes.items at set are.changes read in
-    there.2 ∙ ap (changes_in o) (sym (get_or_from_slice_get names at there.0 [] there.1) ∙ here.1)
-
--- one more workspace
-pub greatest_last : (table key : ℕ) (sets : List Changes) (set : Changes)
-    → greatest_in table key (sets ++ set ∷ []) ≡ greatest_of table (greatest_in table key sets) (finite.entries set)
-greatest_last table key [] set = refl
-greatest_last table key (first ∷ sets) set = greatest_last table (greatest_of table key (finite.entries first)) sets set

@@ -1,7 +1,6 @@
 pub mod ClearingLemmas
 pub mod FreeKeys
 pub mod KeyLemmas
-pub mod MemberLemmas
 pub mod RemedyLemmas
 pub mod Savepoints
 pub mod SuspectLemmas

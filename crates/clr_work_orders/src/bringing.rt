@@ -3,7 +3,7 @@
 ghost use Rattle.std.specs.Prelude.{◌≡◌, ◌++◌, IfOk, OnOk, map, slice_get};
 ghost use Rattle.std.specs.List.{enumerate_from, flat_map};
 ghost use Rattle.std.specs.Option.{option_copied};
-ghost use Rattle.clr_merge_sets.specs.MemberChanges.{AreMembers, set_of};
+ghost use Rattle.clr_merge_sets.specs.MemberChanges.{set_of};
 ghost use Rattle.clr_work_orders.specs.Remedies.{bringing, bringing_by, bringing_edit, bringing_to, empty_value, serving, serving_row, wanted_in, wanted_value};
 
 use crate::actions::Action;
@@ -139,8 +139,8 @@ fn add_bringing_to(
     place: Place,
     members: &[usize],
 ) -> Result<(), AllocError>
-    ensures { OnOk result (AreMembers setting.entry.office.now (set_of setting.entry.members.now) setting.entry.members.now
-        → list.new.items ≡ list.old.items ++ bringing_to setting.entry.office.now (set_of setting.entry.members.now) members.now side.now place
+    ensures { OnOk result (list.new.items ≡ list.old.items
+        ++ bringing_to setting.entry.office.now (set_of setting.entry.members.now) members.now side.now place
         (slice_get setting.entry.office.now.schema side.now.table)) }
 {
     let Some(table) = setting.office.schema().def(side.table) else {
@@ -148,7 +148,12 @@ fn add_bringing_to(
     };
     match table.shape {
         Form::Point => {
-            let keys = Keys::read(setting, side.table)?;
+            let keys = Keys::read(
+                setting.alloc,
+                setting.office,
+                setting.members.root,
+                side.table,
+            )?;
             add_bringing_all(setting, &keys, list, table, side, place, members)
         }
         _ => Ok(()),
@@ -163,8 +168,8 @@ pub(crate) fn add_serving(
     place: Meeting,
     members: &[usize],
 ) -> Result<(), AllocError>
-    ensures { OnOk result (AreMembers setting.entry.office.now (set_of setting.entry.members.now) setting.entry.members.now
-        → list.new.items ≡ list.old.items ++ serving setting.entry.office.now (set_of setting.entry.members.now) members.now (option_copied side.entry) place) }
+    ensures { OnOk result (list.new.items ≡ list.old.items
+        ++ serving setting.entry.office.now (set_of setting.entry.members.now) members.now (option_copied side.entry) place) }
 {
     match (side, place) {
         (Some(side), Meeting::Whole(place)) => add_bringing_to(setting, list, side, place, members),

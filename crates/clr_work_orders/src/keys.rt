@@ -1,19 +1,14 @@
 //! The keys of rows that tips bring.
 
-ghost use Rattle.std.specs.Prelude.{◌≡◌, ◌<◌, ℕ, IfOk, IfSome, map};
+ghost use Rattle.std.specs.Prelude.{◌≡◌, ◌<◌, ℕ, IfOk, map};
 ghost use Rattle.std.specs.FinMap as finite;
 ghost use Rattle.std.specs.List.{position};
 ghost use Rattle.std.specs.Str.{bytes_eq};
-ghost use Rattle.clr_steps.specs.Offices.{Office};
-ghost use Rattle.clr_steps.specs.Readings.{changes_in};
-ghost use Rattle.clr_merge_sets.specs.MemberChanges.{AreMembers, set_of};
 ghost use Rattle.clr_work_orders.specs.Keys.{all_names, greater_key, greatest_in, greatest_key, greatest_of, key_among, own_key, standing_key, within_keys};
 
 use clr_change::ChangeSet;
 use clr_engine::Office;
-use clr_member_changes::MemberChanges;
-use clr_merge_sets::read_changes;
-use clr_plan_sentences::Setting;
+use clr_merge_sets::read_member_changes;
 use clr_rows::{CellId, GREATEST_KEY, Sheet};
 use std::alloc::{AllocError, Global};
 
@@ -92,6 +87,22 @@ fn standing_key(rows: &Option<Sheet>, table: u16) -> u64
     }
 }
 
+/// Returns the greatest key of a table in a root and among the changes of all workspaces.
+fn greatest_key(
+    alloc: Global,
+    office: &Office,
+    root: &str,
+    names: &[&str],
+    table: u16,
+) -> Result<u64, AllocError>
+    ensures { map (λ name. name.now) names.now ≡ all_names office.now → IfOk result (λ key. key ≡ greatest_key office.now root.now table) }
+{
+    let rows = office.rows(root)?;
+    let standing = standing_key(&rows, table);
+    let all = read_member_changes(alloc, office, root, names)?;
+    Ok(greatest_in(standing, all.changes.as_slice(), table))
+}
+
 /// Returns the position of a name among names.
 fn position_of(names: &[&str], name: &str) -> Option<usize>
     ensures { result ≡ position (λ other. bytes_eq other name.now) (map (λ other. other.now) names.now) }
@@ -102,56 +113,6 @@ fn position_of(names: &[&str], name: &str) -> Option<usize>
         }
     }
     None
-}
-
-/// Returns what a member changed, or nothing where it is none.
-fn set_of_name<'a>(members: &'a MemberChanges<'_>, name: &str) -> Option<&'a ChangeSet>
-    ensures { IfSome result (λ set. (o : Office) → AreMembers o (set_of members.entry.now) members.entry.now → set.now ≡ changes_in o name.now) }
-{
-    let at = position_of(members.names, name)?;
-    members.changes.get(at)
-}
-
-/// Returns the greatest of a key and the keys of a table that a workspace changed. What a member changed isn't read again.
-fn greatest_by(setting: Setting<'_>, key: u64, name: &str, table: u16) -> Result<u64, AllocError>
-    ensures { IfOk result (λ greatest. AreMembers setting.entry.office.now (set_of setting.entry.members.now) setting.entry.members.now
-        → greatest ≡ greatest_of table key (finite.entries (changes_in setting.entry.office.now name.now))) }
-{
-    if let Some(set) = set_of_name(setting.members, name) {
-        return Ok(greatest_changed(key, set, table));
-    }
-    let alone = [name];
-    let sets = read_changes(setting.alloc, setting.office, &alone.as_slice())?;
-    Ok(greatest_in(key, sets.as_slice(), table))
-}
-
-/// Returns the greatest of a key and the keys of a table that some workspaces changed.
-fn greatest_among(
-    setting: Setting<'_>,
-    key: u64,
-    names: &[&str],
-    table: u16,
-) -> Result<u64, AllocError>
-    ensures { IfOk result (λ greatest. AreMembers setting.entry.office.now (set_of setting.entry.members.now) setting.entry.members.now
-        → greatest ≡ greatest_in table key (map (changes_in setting.entry.office.now) (map (λ name. name.now) names.now))) }
-{
-    let mut greatest = key;
-    for at in 0..names.len() {
-        greatest = greatest_by(setting, greatest, names[at], table)?;
-    }
-    Ok(greatest)
-}
-
-/// Returns the greatest key of a table in the root and among the changes of all workspaces.
-fn greatest_key(setting: Setting<'_>, names: &[&str], table: u16) -> Result<u64, AllocError>
-    ensures { IfOk result (λ key. AreMembers setting.entry.office.now (set_of setting.entry.members.now) setting.entry.members.now
-        → map (λ name. name.now) names.now ≡ all_names setting.entry.office.now
-        → key ≡ greatest_key setting.entry.office.now setting.entry.members.now.root.now table) }
-{
-    let rows = setting.office.rows(setting.members.root)?;
-    let standing = standing_key(&rows, table);
-    let key = greatest_among(setting, standing, names, table)?;
-    Ok(key)
 }
 
 /// Returns the key of the one at a position among this many that is above a key.
@@ -170,13 +131,17 @@ fn own_key(count: usize, at: usize, key: u64) -> Option<i64>
 
 impl<'a> Keys<'a> {
     /// Reads what the keys of a table's tips are made of.
-    pub(crate) fn read(setting: Setting<'a>, table: u16) -> Result<Keys<'a>, AllocError>
-        ensures names { IfOk result (λ keys. map (λ name. name.now) keys.names.items ≡ all_names setting.entry.office.now) }
-        ensures greatest { IfOk result (λ keys. AreMembers setting.entry.office.now (set_of setting.entry.members.now) setting.entry.members.now
-            → keys.greatest ≡ greatest_key setting.entry.office.now setting.entry.members.now.root.now table) }
+    pub(crate) fn read(
+        alloc: Global,
+        office: &'a Office,
+        root: &str,
+        table: u16,
+    ) -> Result<Keys<'a>, AllocError>
+        ensures names { IfOk result (λ keys. map (λ name. name.now) keys.names.items ≡ all_names office.entry.now) }
+        ensures greatest { IfOk result (λ keys. keys.greatest ≡ greatest_key office.entry.now root.now table) }
     {
-        let names = all_names(setting.alloc, setting.office)?;
-        let greatest = greatest_key(setting, names.as_slice(), table)?;
+        let names = all_names(alloc, office)?;
+        let greatest = greatest_key(alloc, office, root, names.as_slice(), table)?;
         Ok(Keys { names, greatest })
     }
 

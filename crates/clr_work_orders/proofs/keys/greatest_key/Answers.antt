@@ -5,11 +5,11 @@ use Rattle.clr_work_orders.specs.Keys.{greatest_in, standing_key}
 use Rattle.clr_work_orders.proofs.keys.greatest_key.Goals as goal
 
 pub returns : goal.returns
-returns c = λ are e.
-    let o = c.args.setting.office.now in
-    let root = c.args.setting.members.now.root.now in
+returns c = λ e.
+    let o = c.args.office.now in
+    let root = c.args.root.now in
     let table = c.args.table in
-    let names = map (λ name. name.now) c.args.names.now in
-    c.in_ok-key.ensures are
-    ∙ ap (λ (k : ℕ). greatest_in table k (map (changes_in o) names)) (c.standing_key-standing.ensures ∙ ap (standing_key table) c.in_ok-rows.ensures)
-    ∙ ap (greatest_in table (standing_key table (if_stands o root (content_of o root)))) (ap (map (changes_in o)) e)
+    c.greatest_in.ensures
+    ∙ ap (λ (k : ℕ). greatest_in table k c.as_slice.result.now) (c.standing_key-standing.ensures ∙ ap (standing_key table) c.in_ok-rows.ensures)
+    ∙ ap (greatest_in table (standing_key table (if_stands o root (content_of o root))))
+    (c.as_slice.ensures.value ∙ c.in_ok-all.ensures.members.changes ∙ ap (map (changes_in o)) e)

@@ -20,12 +20,13 @@ returns c =
     let place = c.need_place-place.result in
     let old = c.args.list.now.items in
     let first = c.add_serving.new.list.items in
+    let served = c.in_ok-add_serving.ensures
+    ∙ ap (λ (side : Option Side). old ++ serving o s order side place) c.side_of.ensures in
     on_ok_weaker c.add_giving_up_any.result (λ last. λ are. (
       place,
       c.need_place-place.ensures s are,
       behind_four old (serving o s order (server_of o need) place) (flat_map (keeping sets) (server_changes o s need)) (giving_up sets need.first)
-          (giving_up_any sets need.second) first c.add_keeping.new.list.items c.add_giving_up.new.list.items c.add_giving_up_any.new.list.items
-          (c.in_ok-add_serving.ensures are ∙ ap (λ (side : Option Side). old ++ serving o s order side place) c.side_of.ensures)
+          (giving_up_any sets need.second) first c.add_keeping.new.list.items c.add_giving_up.new.list.items c.add_giving_up_any.new.list.items served
           (c.in_ok-add_keeping.ensures ∙ ap (λ (changes : List ServerChange). first ++ flat_map (keeping sets) changes)
           (c.as_slice.ensures.value ∙ c.in_ok-changes.ensures s are)) c.in_ok-add_giving_up.ensures last,
     )) c.add_giving_up_any.ensures

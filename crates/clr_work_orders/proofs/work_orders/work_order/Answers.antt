@@ -7,7 +7,7 @@ use Rattle.clr_work_orders.specs.declared.trials.Trial.{Trial}
 use Rattle.clr_plan_sentences.specs.Sentences.{IsSentences}
 use Rattle.clr_work_orders.specs.Trials.{AreTrialsOf}
 use Rattle.clr_work_orders.specs.WorkOrders.{trials_text}
-use Rattle.clr_work_orders.proofs.MemberLemmas.{of_value}
+use Rattle.clr_merge_sets.proofs.ReadLemmas.{of_value}
 use Rattle.clr_work_orders.proofs.work_orders.work_order.Goals as goal
 
 pub plan_changes-planned-requires : goal.plan_changes-planned-requires

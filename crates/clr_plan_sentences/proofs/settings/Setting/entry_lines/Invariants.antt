@@ -8,4 +8,4 @@ use Rattle.clr_plan_sentences.proofs.settings.Setting.entry_lines.Given as goal
 abbrev pub invariant-loop-entry : goal.invariant-loop-entry
 invariant-loop-entry l =
     string_bytes l.text ≡ flat_map (entry_line l.self.office.now (set_of l.self.members.now).members l.self.members.now.changes.items)
-    (take l.entry-index l.entries)
+    (take l.entry-index l.told)

@@ -24,7 +24,7 @@ returns c = λ are.
       c.need_place-place.ensures s are,
       c.in_ok-cause.ensures
           ∙ ap (λ (row : Option Row). told_cause o s sets need rule place row (option_copied c.second_row-second.result) c.as_slice.result.now)
-          (c.row_of-first.ensures s are)
+          (c.row_of_version-first.ensures s are)
           ∙ ap (λ (row : Option Row). told_cause o s sets need rule place first row c.as_slice.result.now) (c.second_row-second.ensures s are)
           ∙ ap (λ (changes : List ServerChange). told_cause o s sets need rule place first second changes)
           (c.as_slice.ensures.value ∙ c.in_ok-changes.ensures s are),
