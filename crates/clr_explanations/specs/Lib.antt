@@ -1,6 +1,5 @@
 pub mod FaultWords
 pub mod Items
-pub mod Keys
 pub mod Names
 pub mod Places
 pub mod Remarks

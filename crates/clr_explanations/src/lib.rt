@@ -15,7 +15,6 @@ mod fault_words;
 mod field_slips;
 mod inner_slips;
 mod items;
-mod keys;
 mod laws;
 mod lists;
 mod offices;

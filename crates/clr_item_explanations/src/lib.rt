@@ -17,9 +17,9 @@ mod tables;
 mod workspaces;
 
 pub use fields::{Wanted, explain_field, explain_fields, items_at, text_at};
-pub use row_faults::{explain_row_fault, explain_unknown_table};
+pub use row_faults::explain_row_fault;
 pub use rows::{Within, explain_row};
-pub use rule_faults::{explain_rule_fault, explain_unknown_name};
+pub use rule_faults::explain_rule_fault;
 pub use rules::explain_rule;
 pub use schemas::explain_schema;
 pub use slips::Slip;
