@@ -1,2 +1,4 @@
 pub mod ListLemmas
+pub mod RowLemmas
 pub mod TellingLemmas
+pub mod ValueLemmas

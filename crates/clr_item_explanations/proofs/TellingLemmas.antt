@@ -9,7 +9,9 @@ use Rattle.clr_text_positions.specs.declared.paths.PathStep.{PathStep}
 use Rattle.clr_text_positions.specs.declared.paths.PathStep.TheVariants as step
 use Rattle.clr_item_explanations.specs.declared.slips.Slip.{Slip}
 use Rattle.clr_item_explanations.specs.Slips.{Said, said}
-use Rattle.clr_item_explanations.specs.Tellings.{IsShown, IsTold, OfCoordinate, OfName, OfValue, OfWord, Plain, Telling, Tells, TellsFound, TellsIfAny, TellsNamed, Wrong, below, coordinate_hint}
+use Rattle.clr_item_explanations.specs.Fields.{unknown_word}
+use Rattle.clr_item_explanations.specs.Values.{stands_among}
+use Rattle.clr_item_explanations.specs.Tellings.{IsShown, IsTold, OfCoordinate, OfName, OfValue, OfWord, Plain, Telling, Tells, TellsFound, TellsIfAny, TellsNamed, Wrong, below, coordinate_hint, itself}
 
 -- one value ----------------------------------------------------------------------------------
 
@@ -154,3 +156,32 @@ found_told wrong otherwise slip t = let so = t.told in rw so.is so.told
 
 pub else_told : (wrong : Option Wrong) (otherwise : Wrong) (slip : Slip) → TellsIfAny wrong None → Tells otherwise (said slip) → Tells (unwrap_or wrong otherwise) (said slip)
 else_told wrong otherwise slip t told = let is : wrong ≡ None = t.told in rw is told
+
+-- words --------------------------------------------------------------------------------------
+
+pub known_word : (words : List (List ℕ)) (word : List ℕ) (found : Option (List ℕ)) (no_text : Option Wrong) → Some word ≡ found
+    → stands_among words word ≡ true → TellsIfAny (unknown_word words found no_text) None
+known_word words word found no_text is stands = rw (← is, stands) (nothing None refl)
+
+pub unknown_told : (words : List (List ℕ)) (word : List ℕ) (found : Option (List ℕ)) (no_text : Option Wrong) (slip : Slip) → Some word ≡ found
+    → stands_among words word ≡ false → Tells (itself (OfWord word words)) (said slip) → TellsIfAny (unknown_word words found no_text) (Some slip)
+unknown_told words word found no_text slip is stands told = rw (← is, stands) (something (Some (itself (OfWord word words))) (itself (OfWord word words)) slip refl told)
+
+pub no_text_told : (words : List (List ℕ)) (found : Option (List ℕ)) (no_text : Option Wrong) (slip : Option Slip) → None ≡ found → TellsIfAny no_text slip
+    → TellsIfAny (unknown_word words found no_text) slip
+no_text_told words found no_text slip is told = rw (← is) told
+
+-- a value as it is written, with words around it
+pub around_told : (steps : List PathStep) (before behind : List ℕ) (d : Data) (slip : Slip) (sentence : List ℕ)
+    → (shown : List ℕ) × IsShown d shown × (sentence ≡ before ++ shown ++ behind) → slip.steps.items ≡ steps → string_bytes slip.sentence ≡ sentence
+    → slip.hint ≡ None → Tells (record { steps = steps; telling = OfValue before d behind }) (said slip)
+around_told steps before behind d slip sentence is at told none = record { at = at; told = (is.0, is.1, told ∙ is.2, ap (option_map string_bytes) none) }
+
+pub words_told : (steps : List PathStep) (behind : List ℕ) (d : Data) (slip : Slip) (sentence : List ℕ)
+    → (shown : List ℕ) × IsShown d shown × (sentence ≡ shown ++ behind) → slip.steps.items ≡ steps → string_bytes slip.sentence ≡ sentence
+    → slip.hint ≡ None → Tells (record { steps = steps; telling = OfValue [] d behind }) (said slip)
+words_told steps behind d slip sentence is at told none = around_told steps [] behind d slip sentence is at told none
+
+pub else_plain : (wrong : Option Wrong) (steps : List PathStep) (words : List ℕ) (slip : Slip) → slip.steps.items ≡ steps → string_bytes slip.sentence ≡ words
+    → slip.hint ≡ None → TellsIfAny wrong None → Tells (unwrap_or wrong (record { steps = steps; telling = Plain words })) (said slip)
+else_plain wrong steps words slip at told none t = else_told wrong (record { steps = steps; telling = Plain words }) slip t (plain_told steps words slip at told none)

@@ -1,8 +1,6 @@
 -- What is wrong with the fields of an object.
 use Rattle.std.specs.Prelude.{ℕ, List, [], ◌∷◌, ◌++◌, codes, Bool, true, false, ◌||◌, Option, Some, None, is_some, option_and_then, if◌then◌else◌}
 use Rattle.std.specs.Option.{option_map_or}
-use Rattle.std.specs.List.{list_any}
-use Rattle.std.specs.Str.{bytes_eq}
 use Rattle.serde_json.specs.Data.{Data}
 use Rattle.serde_json.specs.Find.{as_array, as_bool, as_object, as_str}
 use Rattle.clr_text_positions.specs.Keys.{key_text}
@@ -11,7 +9,7 @@ use Rattle.clr_text_positions.specs.declared.paths.PathStep.TheVariants as step
 use Rattle.clr_item_explanations.specs.declared.fields.Wanted.{Wanted}
 use Rattle.clr_item_explanations.specs.declared.fields.Wanted.TheVariants as wanted
 use Rattle.clr_item_explanations.specs.Tellings.{OfCoordinate, OfValue, OfWord, Plain, Wrong, below, first_wrong, itself}
-use Rattle.clr_item_explanations.specs.Values.{value_at, whole_number}
+use Rattle.clr_item_explanations.specs.Values.{stands_among, value_at, whole_number}
 
 -- whether a value may stand there
 abbrev pub admits : Wanted → Data → Bool
@@ -71,7 +69,7 @@ wrong_fields fields d = first_wrong (λ field. wrong_field field.0 field.1 d) fi
 -- a text is none of these words, and what is no text isn't one
 abbrev pub unknown_word : List (List ℕ) → Option (List ℕ) → Option Wrong → Option Wrong
 unknown_word words None no_text = no_text
-unknown_word words (Some word) no_text = if list_any (bytes_eq word) words then None else Some (itself (OfWord word words))
+unknown_word words (Some word) no_text = if stands_among words word then None else Some (itself (OfWord word words))
 
 unfoldable pub wrong_word : List (List ℕ) → Data → Option Wrong
 wrong_word words d = unknown_word words (as_str d) (wrong_value wanted.Text d)

@@ -1,8 +1,8 @@
 -- Why a row can't stand at its cell: which value or coordinate it is, and what is told of it.
-use Rattle.std.specs.Prelude.{ℕ, ℤ, pos, List, [], ◌∷◌, ◌++◌, codes, decimal, length, map, nat_le, Bool, not, Option, Some, None, is_some, option_and_then, unwrap_or, if◌then◌else◌}
+use Rattle.std.specs.Prelude.{ℕ, ℤ, pos, List, [], ◌∷◌, ◌++◌, codes, decimal, length, map, nat_le, Bool, not, Option, Some, None, is_some, option_and_then, slice_get, unwrap_or, if◌then◌else◌}
 use Rattle.std.specs.Fmt.{signed_decimal}
 use Rattle.std.specs.Option.{option_map_or}
-use Rattle.std.specs.List.{enumerate_from, find, join_by, zip}
+use Rattle.std.specs.List.{enumerate_from, join_by}
 use Rattle.serde_json.specs.Data.{Data}
 use Rattle.serde_json.specs.Find.{as_str}
 use Rattle.clr_hints.specs.Values.{kind_in_words}
@@ -17,7 +17,7 @@ use Rattle.clr_text_positions.specs.declared.paths.Key.{Key}
 use Rattle.clr_text_positions.specs.declared.paths.Key.TheVariants as key
 use Rattle.clr_text_positions.specs.declared.paths.PathStep.TheVariants as step
 use Rattle.clr_item_explanations.specs.Rows.{coordinates_text}
-use Rattle.clr_item_explanations.specs.Tellings.{OfName, OfValue, Plain, Telling, Wrong, at_key, itself}
+use Rattle.clr_item_explanations.specs.Tellings.{OfName, OfValue, Plain, Telling, Wrong, at_key, first_wrong, itself}
 use Rattle.clr_item_explanations.specs.Values.{items_at, table_called, text_at, value_at, whole_number}
 
 -- an item of the list at a key
@@ -45,71 +45,75 @@ abbrev pub is_of_other_kind : Kind → Data → Bool
 is_of_other_kind kind.Int d = is_some (as_str d)
 is_of_other_kind kind.Words d = not (is_some (as_str d))
 
--- a column, and the value that stands in it, by its place in the row
-abbrev pub InColumn : Type 0
-InColumn = ℕ × ((List ℕ × Kind) × Data)
+unfoldable pub column_text : List ℕ → Kind → List ℕ
+column_text name k = codes "column " ++ name ++ codes " is " ++ kind_text k ++ codes ", and "
 
 -- of a value that stands in a column: the column's name and its kind, the value, and of which kind that is
-abbrev pub of_column : InColumn → Wrong
-of_column found = at_item key.V found.0
-    (OfValue (codes "column " ++ found.1.0.0 ++ codes " is " ++ kind_text found.1.0.1 ++ codes ", and ") found.1.1 (codes " is " ++ kind_in_words found.1.1))
+abbrev pub of_column : List ℕ × Kind → ℕ × Data → Wrong
+of_column column value = at_item key.V value.0 (OfValue (column_text column.0 column.1) value.1 (codes " is " ++ kind_in_words value.1))
 
--- the values of a row in their columns, in order
-unfoldable pub in_columns : ℕ → List (List ℕ × Kind) → List Data → List InColumn
-in_columns at columns values = enumerate_from at (zip columns values)
+abbrev pub of_other_kind : List ℕ × Kind → ℕ × Data → Option Wrong
+of_other_kind column value = if is_of_other_kind column.1 value.1 then Some (of_column column value) else None
 
-abbrev pub stands_in_other : InColumn → Bool
-stands_in_other found = is_of_other_kind found.1.0.1 found.1.1
+-- a value, by its place in the row, is of another kind than the column at that place
+unfoldable pub wrong_in_column : TableDef → ℕ × Data → Option Wrong
+wrong_in_column table value = option_and_then (λ column. of_other_kind column value) (slice_get table.columns value.0)
 
 -- the first value that is of another kind than its column
 unfoldable pub wrong_kind : TableDef → Data → Wrong
 wrong_kind table d =
-    option_map_or of_column (find stands_in_other (in_columns 0 table.columns (items_at key.V d)))
+    unwrap_or (first_wrong (wrong_in_column table) (enumerate_from 0 (items_at key.V d)))
     (at_key key.V (Plain (codes "a value is of another kind than its column")))
 
 -- the bytes of a text; what is no text has none
 abbrev pub byte_count : Data → ℕ
 byte_count d = length (unwrap_or (as_str d) [])
 
-abbrev pub is_too_long : ℕ × Data → Bool
-is_too_long value = not (nat_le (byte_count value.1) MOST_TEXT_BYTES)
+abbrev pub long_text_words : ℕ → List ℕ
+long_text_words bytes = codes "a text of " ++ decimal bytes ++ codes " bytes; at most " ++ decimal MOST_TEXT_BYTES ++ codes " may stand here"
 
 abbrev pub of_long_text : ℕ × Data → Wrong
-of_long_text value = at_item key.V value.0
-    (Plain (codes "a text of " ++ decimal (byte_count value.1) ++ codes " bytes; at most " ++ decimal MOST_TEXT_BYTES ++ codes " may stand here"))
+of_long_text value = at_item key.V value.0 (Plain (long_text_words (byte_count value.1)))
+
+abbrev pub too_long : ℕ × Data → Option Wrong
+too_long value = if nat_le (byte_count value.1) MOST_TEXT_BYTES then None else Some (of_long_text value)
 
 -- the first text that is too long
 unfoldable pub wrong_length : Data → Wrong
-wrong_length d =
-    option_map_or of_long_text (find is_too_long (enumerate_from 0 (items_at key.V d))) (at_key key.V (Plain (codes "a text is too long")))
+wrong_length d = unwrap_or (first_wrong too_long (enumerate_from 0 (items_at key.V d))) (at_key key.V (Plain (codes "a text is too long")))
 
 -- the place of a row -------------------------------------------------------------------------
 
+abbrev pub shape_words : ℕ → TableDef → List ℕ
+shape_words count table = decimal count ++ codes " coordinates in table " ++ table.name ++ codes "; " ++ coordinates_text (Some table.shape)
+
 -- the shape isn't that of the table
 unfoldable pub wrong_shape : TableDef → Data → Wrong
-wrong_shape table d =
-    at_key key.S
-    (Plain (decimal (length (items_at key.S d)) ++ codes " coordinates in table " ++ table.name ++ codes "; " ++ coordinates_text (Some table.shape)))
+wrong_shape table d = at_key key.S (Plain (shape_words (length (items_at key.S d)) table))
 
 -- a number; what is no whole number counts as 0
 abbrev pub number_or_zero : Data → ℤ
 number_or_zero d = unwrap_or (whole_number d) (pos 0)
 
-abbrev pub is_too_far : ℕ × Data → Bool
-is_too_far value = not (is_coordinate (number_or_zero value.1))
+abbrev pub far_words : ℤ → List ℕ
+far_words number = codes "the coordinate " ++ signed_decimal number ++ codes " is beyond " ++ decimal GREATEST_COORDINATE ++ codes " millimetres"
 
 abbrev pub of_far_coordinate : ℕ × Data → Wrong
-of_far_coordinate value = at_item key.S value.0
-    (Plain (codes "the coordinate " ++ signed_decimal (number_or_zero value.1) ++ codes " is beyond " ++ decimal GREATEST_COORDINATE ++ codes " millimetres"))
+of_far_coordinate value = at_item key.S value.0 (Plain (far_words (number_or_zero value.1)))
+
+abbrev pub too_far : ℕ × Data → Option Wrong
+too_far value = if is_coordinate (number_or_zero value.1) then None else Some (of_far_coordinate value)
 
 -- the first coordinate that is beyond its limit
 unfoldable pub far_coordinate : Data → Wrong
 far_coordinate d =
-    option_map_or of_far_coordinate (find is_too_far (enumerate_from 0 (items_at key.S d)))
-    (itself (Plain (codes "the key or a coordinate is out of range")))
+    unwrap_or (first_wrong too_far (enumerate_from 0 (items_at key.S d))) (itself (Plain (codes "the key or a coordinate is out of range")))
+
+abbrev pub far_key_words : ℤ → List ℕ
+far_key_words number = codes "the key " ++ signed_decimal number ++ codes " isn't from 1 to " ++ signed_decimal GREATEST_KEY
 
 abbrev pub of_far_key : ℤ → Wrong
-of_far_key number = at_key key.K (Plain (codes "the key " ++ signed_decimal number ++ codes " isn't from 1 to " ++ signed_decimal GREATEST_KEY))
+of_far_key number = at_key key.K (Plain (far_key_words number))
 
 abbrev pub unless_key : ℤ → Option ℤ
 unless_key number = if is_key number then None else Some number

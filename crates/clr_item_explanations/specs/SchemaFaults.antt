@@ -1,8 +1,7 @@
 -- Why tables make no schema: which table or column it is, and what is told of it.
 use Rattle.std.specs.Prelude.{ℕ, List, [], ◌∷◌, ◌++◌, codes, decimal, length, map, nat_le, take, Bool, not, ◌&&◌, Option, Some, None, unwrap_or, if◌then◌else◌}
 use Rattle.std.specs.Option.{option_map_or}
-use Rattle.std.specs.List.{enumerate_from, list_any}
-use Rattle.std.specs.Str.{bytes_eq}
+use Rattle.std.specs.List.{enumerate_from}
 use Rattle.serde_json.specs.Data.{Data}
 use Rattle.clr_rows.specs.Names.{is_good_name}
 use Rattle.clr_rows.specs.Schemas.{is_column_name}
@@ -12,7 +11,7 @@ use Rattle.clr_rows.specs.declared.limits.TheConstants.{MOST_COLUMNS, MOST_TABLE
 use Rattle.clr_text_positions.specs.declared.paths.Key.TheVariants as key
 use Rattle.clr_text_positions.specs.declared.paths.PathStep.TheVariants as step
 use Rattle.clr_item_explanations.specs.Tellings.{Plain, Telling, Wrong, at_key, first_wrong, wrong_in_list}
-use Rattle.clr_item_explanations.specs.Values.{first_text, items_at, text_at}
+use Rattle.clr_item_explanations.specs.Values.{first_text, items_at, stands_among, text_at}
 
 -- the name of a column of a table
 abbrev pub at_column_name : ℕ → Telling → Wrong
@@ -54,16 +53,16 @@ abbrev pub column_twice : ℕ → List ℕ → Wrong
 column_twice at name = at_column_name at (Plain (codes "column '" ++ name ++ codes "' stands twice in its table"))
 
 abbrev pub if_taken : List (List ℕ) → ℕ → List ℕ → Option Wrong
-if_taken names at name = if list_any (bytes_eq name) (take at names) then Some (column_twice at name) else None
+if_taken earlier at name = if stands_among earlier name then Some (column_twice at name) else None
 
 -- the first column whose name stands before it in its table
 unfoldable pub taken_column : Data → Option Wrong
-taken_column table = wrong_column_name (if_taken (map first_text (items_at key.Columns table))) table
+taken_column table = wrong_column_name (λ at name. if_taken (take at (map first_text (items_at key.Columns table))) at name) table
 
 -- the name of a table that is one of these, and else the first such name of a column
 unfoldable pub taken_name_in : List (List ℕ) → Data → Option Wrong
 taken_name_in earlier table =
-    if list_any (bytes_eq (text_at key.Name table)) earlier then
+    if stands_among earlier (text_at key.Name table) then
       Some (at_key key.Name (Plain (codes "an earlier table is called '" ++ text_at key.Name table ++ codes "'")))
     else taken_column table
 
@@ -77,16 +76,21 @@ taken_name d =
 
 -- too many -----------------------------------------------------------------------------------
 
+abbrev pub column_count_text : ℕ → List ℕ
+column_count_text count = codes "a table of " ++ decimal count ++ codes " columns; at most " ++ decimal MOST_COLUMNS ++ codes " may stand here"
+
+abbrev pub table_count_text : ℕ → List ℕ
+table_count_text count = decimal count ++ codes " tables; at most " ++ decimal MOST_TABLES ++ codes " may stand here"
+
 abbrev pub too_many_columns : Data → Option Wrong
 too_many_columns table = let count = length (items_at key.Columns table) in
-    if nat_le count MOST_COLUMNS then None
-    else Some (at_key key.Columns (Plain (codes "a table of " ++ decimal count ++ codes " columns; at most " ++ decimal MOST_COLUMNS ++ codes " may stand here")))
+    if nat_le count MOST_COLUMNS then None else Some (at_key key.Columns (Plain (column_count_text count)))
 
 -- the first table of too many columns, and else the tables
 unfoldable pub too_many : Data → Wrong
 too_many d =
     unwrap_or (wrong_in_list key.Tables (λ at table. too_many_columns table) d)
-    (at_key key.Tables (Plain (decimal (length (items_at key.Tables d)) ++ codes " tables; at most " ++ decimal MOST_TABLES ++ codes " may stand here")))
+    (at_key key.Tables (Plain (table_count_text (length (items_at key.Tables d)))))
 
 -- by the fault -------------------------------------------------------------------------------
 

@@ -1,6 +1,8 @@
 -- Values within an item, by the keys at which they stand.
-use Rattle.std.specs.Prelude.{ℕ, ℤ, List, [], ◌∷◌, Option, option_and_then, unwrap_or, slice_get}
+use Rattle.std.specs.Prelude.{ℕ, ℤ, Bool, List, [], ◌∷◌, Option, option_and_then, unwrap_or, slice_get}
 use Rattle.std.specs.Option.{option_map_or}
+use Rattle.std.specs.List.{list_any}
+use Rattle.std.specs.Str.{bytes_eq}
 use Rattle.serde_json.specs.Data.{Data, Items, no_items, item}
 use Rattle.serde_json.specs.Find.{as_array, as_i64, as_number, as_str, at, get}
 use Rattle.clr_rows.specs.declared.tables.TableDef.{TableDef}
@@ -32,6 +34,10 @@ first_text d = unwrap_or (option_and_then as_str (at 0 d)) []
 -- a whole number of 64 bits
 abbrev pub whole_number : Data → Option ℤ
 whole_number d = option_and_then as_i64 (as_number d)
+
+-- a text is one of some
+abbrev pub stands_among : List (List ℕ) → List ℕ → Bool
+stands_among texts text = list_any (λ one. bytes_eq one text) texts
 
 -- the table of a name
 abbrev pub table_called : List TableDef → List ℕ → Option TableDef

@@ -1,8 +1,6 @@
 -- What is wrong with workspaces and marks.
 use Rattle.std.specs.Prelude.{ℕ, List, [], ◌∷◌, ◌++◌, codes, map, take, slice_get, Bool, Option, Some, None, is_some, if◌then◌else◌}
 use Rattle.std.specs.Option.{option_map_or, option_or}
-use Rattle.std.specs.List.{list_any}
-use Rattle.std.specs.Str.{bytes_eq}
 use Rattle.serde_json.specs.Data.{Data}
 use Rattle.clr_rows.specs.Names.{live_name}
 use Rattle.clr_text_positions.specs.declared.paths.Key.{Key}
@@ -14,7 +12,7 @@ use Rattle.clr_workspace_parts.specs.declared.parts.PartFault.TheVariants as unf
 use Rattle.clr_item_explanations.specs.declared.fields.Wanted.TheVariants as wanted
 use Rattle.clr_item_explanations.specs.Fields.{wrong_field, wrong_fields}
 use Rattle.clr_item_explanations.specs.Tellings.{OfName, Plain, Wrong, at_key}
-use Rattle.clr_item_explanations.specs.Values.{items_at, text_at, value_at}
+use Rattle.clr_item_explanations.specs.Values.{items_at, stands_among, text_at, value_at}
 
 -- as they are read ---------------------------------------------------------------------------
 
@@ -25,7 +23,7 @@ names_before at workspaces = live_name ∷ map (text_at key.Name) (take at works
 -- the parent is none of these
 unfoldable pub wrong_parent : List (List ℕ) → Data → Option Wrong
 wrong_parent names d = let parent = text_at key.Parent d in
-    if list_any (bytes_eq parent) names then None
+    if stands_among names parent then None
     else Some (at_key key.Parent (OfName (codes "NoParent: '" ++ parent ++ codes "' is neither LIVE nor an earlier workspace") parent names))
 
 -- the head of a workspace behind those of these names, and its lists

@@ -1,13 +1,13 @@
 //! Fields of objects that are missing, or that aren't what must stand there.
-ghost use Rattle.std.specs.Prelude.{◌≡◌, ◌++◌, [], codes, map, option_map, string_bytes, IfOk};
+ghost use Rattle.std.specs.Prelude.{◌≡◌, ℕ, List, ◌++◌, [], codes, length, map, option_map, string_bytes, IfOk};
 ghost use Rattle.serde_json.specs.Data.{string};
 ghost use Rattle.serde_json.specs.View.{view};
 ghost use Rattle.clr_text_positions.specs.Keys.{key_text};
 ghost use Rattle.clr_item_explanations.specs.Fields.{admits, is_optional, missing, wanted_text, wrong_coordinate, wrong_field, wrong_fields};
 ghost use Rattle.clr_item_explanations.specs.Fields.{wrong_value, wrong_word, wrong_word_at};
 ghost use Rattle.clr_item_explanations.specs.Slips.{said};
-ghost use Rattle.clr_item_explanations.specs.Tellings.{OfCoordinate, OfValue, OfWord, Plain, Tells, TellsIfAny, coordinate_hint, itself};
-ghost use Rattle.clr_item_explanations.specs.Values.{items_at, text_at};
+ghost use Rattle.clr_item_explanations.specs.Tellings.{IsShown, OfCoordinate, OfValue, OfWord, Tells, TellsIfAny, coordinate_hint, itself};
+ghost use Rattle.clr_item_explanations.specs.Values.{items_at, stands_among, text_at};
 
 use crate::slips::{Slip, below_any};
 use clr_hints::{metres_hint, name_hint, shorten_value};
@@ -75,6 +75,7 @@ pub fn text_at(json: &Json, key: Key) -> &str
 }
 
 /// Returns the items of the list at a key, or none of them where no list stands there.
+#[tactic(auto, using(crate::proofs::ValueLemmas::listed_items), unfolding(crate::specs::Values::items_at))]
 pub fn items_at(json: &Json, key: Key) -> &[Json]
     ensures { map view result.now ≡ items_at key (view json.now) }
 {
@@ -87,14 +88,40 @@ pub fn items_at(json: &Json, key: Key) -> &[Json]
     }
 }
 
-/// Returns the slip that a value isn't what must stand there.
-#[tactic(auto, using(crate::proofs::TellingLemmas::value_told))]
-fn not_wanted(alloc: Global, json: &Json, wanted: Wanted) -> Result<Slip, AllocError>
-    ensures { IfOk result (λ slip. Tells (itself (OfValue [] (view json.now) (codes " isn't " ++ wanted_text wanted))) (said slip)) }
+/// Returns how many items the list at a key has, and 0 where no list stands there.
+#[tactic(auto, using(crate::proofs::ValueLemmas::as_many))]
+pub(crate) fn count_at(json: &Json, key: Key) -> usize
+    ensures { result ≡ length (items_at key (view json.now)) }
 {
-    let text = shorten_value(alloc, json)?;
-    let name = wanted.name();
-    let sentence = format!(in alloc; "{text} isn't {name}")?;
+    items_at(json, key).len()
+}
+
+/// Returns a value as it is written, with words behind it.
+fn value_words(
+    alloc: Global,
+    json: &Json,
+    words: &str,
+    more: &str,
+) -> Result<String, AllocError>
+    ensures { IfOk result (λ text. (shown : List ℕ) × IsShown (view json.now) shown × (string_bytes text ≡ shown ++ words.now ++ more.now)) }
+{
+    let mut text = shorten_value(alloc, json)?;
+    text.push_str(words)?;
+    text.push_str(more)?;
+    Ok(text)
+}
+
+/// Returns the slip that says of a value what stands behind it in these words.
+#[tactic(auto, using(crate::proofs::TellingLemmas::words_told))]
+pub(crate) fn value_slip(
+    alloc: Global,
+    json: &Json,
+    words: &str,
+    more: &str,
+) -> Result<Slip, AllocError>
+    ensures { IfOk result (λ slip. Tells (itself (OfValue [] (view json.now) (words.now ++ more.now))) (said slip)) }
+{
+    let sentence = value_words(alloc, json, words, more)?;
     Slip::new(alloc, &[], sentence)
 }
 
@@ -110,7 +137,7 @@ pub(crate) fn explain_value(
     if wanted.admits(json) {
         return Ok(None);
     }
-    Ok(Some(not_wanted(alloc, json, wanted)?))
+    Ok(Some(value_slip(alloc, json, " isn't ", wanted.name())?))
 }
 
 /// Returns a hint at the whole millimetres of a number that may be meant in metres.
@@ -209,6 +236,14 @@ pub fn explain_fields(
     Ok(None)
 }
 
+/// Returns whether a text is one of some.
+#[tactic(auto, using(crate::proofs::ValueLemmas::among_lent))]
+pub(crate) fn stands_among(texts: &[&str], text: &str) -> bool
+    ensures { result ≡ stands_among (map (λ one. one.now) texts.now) text.now }
+{
+    texts.contains(&text)
+}
+
 /// Returns the slip that a text is none of the words that may stand there.
 #[tactic(auto, using(crate::proofs::TellingLemmas::word_told))]
 fn no_word(alloc: Global, json: &Json, word: &str, words: &[&str]) -> Result<Slip, AllocError>
@@ -222,7 +257,7 @@ fn no_word(alloc: Global, json: &Json, word: &str, words: &[&str]) -> Result<Sli
 }
 
 /// Returns what is wrong with a word, where it is none of those that may stand there.
-#[tactic(auto, using(crate::proofs::TellingLemmas::right_if, crate::proofs::TellingLemmas::wrong_else), unfolding(crate::specs::Fields::wrong_word))]
+#[tactic(auto, using(crate::proofs::TellingLemmas::known_word, crate::proofs::TellingLemmas::unknown_told, crate::proofs::TellingLemmas::no_text_told), unfolding(crate::specs::Fields::wrong_word))]
 pub(crate) fn explain_word(
     alloc: Global,
     json: &Json,
@@ -233,7 +268,7 @@ pub(crate) fn explain_word(
     let Some(word) = json.as_str() else {
         return explain_value(alloc, json, Wanted::Text);
     };
-    if words.contains(&word) {
+    if stands_among(words, word) {
         return Ok(None);
     }
     Ok(Some(no_word(alloc, json, word, words)?))
@@ -254,14 +289,4 @@ pub(crate) fn explain_word_at(
     };
     let found = explain_word(alloc, value, words)?;
     below_any(alloc, found, &[PathStep::Key(key)])
-}
-
-/// Returns the slip that a value is no pair of what must stand there.
-#[tactic(auto, using(crate::proofs::TellingLemmas::value_told))]
-pub(crate) fn no_pair(alloc: Global, json: &Json, of: &str) -> Result<Slip, AllocError>
-    ensures { IfOk result (λ slip. Tells (itself (OfValue [] (view json.now) (codes " is no pair of " ++ of.now))) (said slip)) }
-{
-    let text = shorten_value(alloc, json)?;
-    let sentence = format!(in alloc; "{text} is no pair of {of}")?;
-    Slip::new(alloc, &[], sentence)
 }

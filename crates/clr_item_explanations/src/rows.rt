@@ -7,7 +7,9 @@ ghost use Rattle.clr_item_explanations.specs.Fields.{wrong_coordinate, wrong_val
 ghost use Rattle.clr_item_explanations.specs.Rows.{coordinates_text, form_in, is_gone, makes_places, wrong_content, wrong_coordinate_count, wrong_if_gone, wrong_row, wrong_unless_gone};
 ghost use Rattle.clr_item_explanations.specs.Tellings.{TellsIfAny, wrong_in_list};
 
-use crate::fields::{Wanted, explain_coordinate, explain_fields, explain_value, items_at, text_at};
+use crate::fields::{
+    Wanted, count_at, explain_coordinate, explain_fields, explain_value, items_at, text_at,
+};
 use crate::slips::Slip;
 use clr_hints::table_of;
 use clr_rows::{Form, Schema};
@@ -45,10 +47,12 @@ fn form_at(schema: &Schema, json: &Json) -> Option<Form>
 }
 
 /// Returns what is wrong with the first value of a row that is neither a text nor a whole number.
+#[tactic(auto, using(crate::proofs::ListLemmas::from_first, crate::proofs::ListLemmas::item_right, crate::proofs::ListLemmas::item_wrong, crate::proofs::ListLemmas::all_right))]
 fn explain_values(alloc: Global, json: &Json) -> Result<Option<Slip>, AllocError>
     ensures { IfOk result (TellsIfAny (wrong_in_list key.V (λ at value. wrong_value wanted.Value value) (view json.now))) }
 {
-    for (at, value) in items_at(json, Key::V).iter().enumerate() {
+    let items = items_at(json, Key::V);
+    for (at, value) in items.iter().enumerate() {
         if let Some(slip) = explain_value(alloc, value, Wanted::Value)? {
             return Ok(Some(slip.below(alloc, &[PathStep::Key(Key::V), PathStep::At(at)])?));
         }
@@ -57,10 +61,12 @@ fn explain_values(alloc: Global, json: &Json) -> Result<Option<Slip>, AllocError
 }
 
 /// Returns what is wrong with the first coordinate of a row that is no whole number.
+#[tactic(auto, using(crate::proofs::ListLemmas::from_first, crate::proofs::ListLemmas::item_right, crate::proofs::ListLemmas::item_wrong, crate::proofs::ListLemmas::all_right))]
 fn explain_coordinates(alloc: Global, json: &Json) -> Result<Option<Slip>, AllocError>
     ensures { IfOk result (TellsIfAny (wrong_in_list key.S (λ at value. wrong_coordinate value) (view json.now))) }
 {
-    for (at, value) in items_at(json, Key::S).iter().enumerate() {
+    let items = items_at(json, Key::S);
+    for (at, value) in items.iter().enumerate() {
         if let Some(slip) = explain_coordinate(alloc, value)? {
             return Ok(Some(slip.below(alloc, &[PathStep::Key(Key::S), PathStep::At(at)])?));
         }
@@ -88,6 +94,14 @@ fn makes_places(form: Option<Form>, count: usize) -> bool
     count % 2 == 0 && (form == Some(Form::Path) || count <= 4)
 }
 
+/// Returns that there are so many coordinates, and how many a row of a form has.
+fn count_words(alloc: Global, count: usize, form: Option<Form>) -> Result<String, AllocError>
+    ensures { IfOk result (λ text. string_bytes text ≡ decimal count ++ codes " coordinates; " ++ coordinates_text form) }
+{
+    let wanted = coordinates_of(form);
+    format!(in alloc; "{count} coordinates; {wanted}")
+}
+
 /// Returns what is wrong with the count of coordinates, which is none that a row of any form has.
 #[tactic(auto, using(crate::proofs::TellingLemmas::right_if, crate::proofs::TellingLemmas::plain_else), unfolding(crate::specs::Rows::wrong_coordinate_count))]
 fn explain_count(
@@ -97,12 +111,11 @@ fn explain_count(
 ) -> Result<Option<Slip>, AllocError>
     ensures { IfOk result (TellsIfAny (wrong_coordinate_count form (view json.now))) }
 {
-    let count = items_at(json, Key::S).len();
+    let count = count_at(json, Key::S);
     if makes_places(form, count) {
         return Ok(None);
     }
-    let wanted = coordinates_of(form);
-    let sentence = format!(in alloc; "{count} coordinates; {wanted}")?;
+    let sentence = count_words(alloc, count, form)?;
     Ok(Some(Slip::new(alloc, &[PathStep::Key(Key::S)], sentence)?))
 }
 

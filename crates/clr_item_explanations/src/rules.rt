@@ -11,7 +11,7 @@ ghost use Rattle.clr_item_explanations.specs.Values.{text_at};
 
 use crate::fields::{
     Wanted, explain_field, explain_fields, explain_value, explain_word_at, items_at, missing,
-    no_pair, text_at,
+    text_at, value_slip,
 };
 use crate::slips::{Slip, below_any};
 use clr_text_positions::{Key, PathStep};
@@ -86,15 +86,17 @@ fn explain_literal(alloc: Global, json: &Json) -> Result<Option<Slip>, AllocErro
     };
     match items.as_slice() {
         [name, value] => explain_literal_pair(alloc, name, value),
-        _ => Ok(Some(no_pair(alloc, json, "a column and a value")?)),
+        _ => Ok(Some(value_slip(alloc, json, " is no pair of ", "a column and a value")?)),
     }
 }
 
 /// Returns what is wrong with the first literal of a side that can't be read.
+#[tactic(auto, using(crate::proofs::ListLemmas::from_first, crate::proofs::ListLemmas::item_right, crate::proofs::ListLemmas::item_wrong, crate::proofs::ListLemmas::all_right))]
 fn explain_literals(alloc: Global, json: &Json) -> Result<Option<Slip>, AllocError>
     ensures { IfOk result (TellsIfAny (wrong_in_list key.Where (λ at literal. wrong_literal literal) (view json.now))) }
 {
-    for (at, literal) in items_at(json, Key::Where).iter().enumerate() {
+    let items = items_at(json, Key::Where);
+    for (at, literal) in items.iter().enumerate() {
         if let Some(slip) = explain_literal(alloc, literal)? {
             return Ok(Some(slip.below(alloc, &[PathStep::Key(Key::Where), PathStep::At(at)])?));
         }
@@ -130,10 +132,12 @@ fn explain_side_at(alloc: Global, json: &Json, key: Key) -> Result<Option<Slip>,
 }
 
 /// Returns what is wrong with the first item of a list that is no text.
+#[tactic(auto, using(crate::proofs::ListLemmas::from_first, crate::proofs::ListLemmas::item_right, crate::proofs::ListLemmas::item_wrong, crate::proofs::ListLemmas::all_right))]
 fn explain_names(alloc: Global, json: &Json, key: Key) -> Result<Option<Slip>, AllocError>
     ensures { IfOk result (TellsIfAny (wrong_in_list key (λ at name. wrong_value wanted.Text name) (view json.now))) }
 {
-    for (at, name) in items_at(json, key).iter().enumerate() {
+    let items = items_at(json, key);
+    for (at, name) in items.iter().enumerate() {
         if let Some(slip) = explain_value(alloc, name, Wanted::Text)? {
             return Ok(Some(slip.below(alloc, &[PathStep::Key(key), PathStep::At(at)])?));
         }
@@ -172,7 +176,8 @@ fn explain_rule_field(
 fn explain_rule_fields(alloc: Global, json: &Json) -> Result<Option<Slip>, AllocError>
     ensures { IfOk result (TellsIfAny (first_wrong (λ one. wrong_rule_field one (view json.now)) (rule_fields (text_at key.Kind (view json.now))))) }
 {
-    for field in rule_fields(json) {
+    let fields = rule_fields(json);
+    for field in fields {
         if let Some(slip) = explain_rule_field(alloc, json, *field)? {
             return Ok(Some(slip));
         }

@@ -1,17 +1,18 @@
 //! Tables that can be read and make no schema.
-ghost use Rattle.std.specs.Prelude.{◌≡◌, ◌++◌, codes, decimal, map, string_bytes, take, unwrap_or, IfOk, Option};
+ghost use Rattle.std.specs.Prelude.{◌≡◌, ◌++◌, codes, map, string_bytes, take, IfOk};
 ghost use Rattle.serde_json.specs.View.{view};
 ghost use Rattle.clr_text_positions.specs.declared.paths.Key.TheVariants as key;
 ghost use Rattle.clr_rows.specs.Schemas.{is_column_name};
 ghost use Rattle.clr_item_explanations.specs.FaultNames.{schema_fault_name};
 ghost use Rattle.clr_item_explanations.specs.SchemaFaults.{at_column_name, bad_column, bad_column_at, bad_name, bad_name_in, bad_name_text, column_twice, table_names, taken_column};
-ghost use Rattle.clr_item_explanations.specs.SchemaFaults.{taken_name, taken_name_in, too_many, too_many_columns, wrong_of_schema};
+ghost use Rattle.clr_item_explanations.specs.SchemaFaults.{column_count_text, if_taken, table_count_text, taken_name, taken_name_in, too_many, too_many_columns};
+ghost use Rattle.clr_item_explanations.specs.SchemaFaults.{unless_column_name, wrong_of_schema};
 ghost use Rattle.clr_item_explanations.specs.Slips.{said};
-ghost use Rattle.clr_item_explanations.specs.Tellings.{Plain, Tells, TellsIfAny, TellsNamed, Wrong, at_key, wrong_in_list};
+ghost use Rattle.clr_item_explanations.specs.Tellings.{Plain, Tells, TellsIfAny, TellsNamed, wrong_in_list};
 ghost use Rattle.clr_item_explanations.specs.Values.{first_text};
 
-use crate::fields::{items_at, text_at};
-use crate::slips::Slip;
+use crate::fields::{count_at, items_at, stands_among, text_at};
+use crate::slips::{Slip, or_words};
 use clr_hints::GOOD_NAME;
 use clr_rows::{KEY, MOST_COLUMNS, MOST_TABLES, SchemaFault, good_name};
 use clr_text_positions::{Key, PathStep};
@@ -71,14 +72,27 @@ fn bad_column_name(alloc: Global, at: usize, name: &str) -> Result<Slip, AllocEr
     column_slip(alloc, at, sentence)
 }
 
+/// Returns what is wrong with the name of a column, where it is a bad one.
+#[tactic(auto, using(crate::proofs::TellingLemmas::right_if, crate::proofs::TellingLemmas::wrong_else))]
+fn explain_column_name(alloc: Global, at: usize, name: &str) -> Result<Option<Slip>, AllocError>
+    ensures { IfOk result (TellsIfAny (unless_column_name at name.now)) }
+{
+    if is_column_name(name) {
+        return Ok(None);
+    }
+    let slip = bad_column_name(alloc, at, name)?;
+    Ok(Some(slip))
+}
+
 /// Returns the first column of a table with a bad name.
+#[tactic(auto, using(crate::proofs::ListLemmas::found_first, crate::proofs::ListLemmas::found_right, crate::proofs::ListLemmas::found_wrong, crate::proofs::ListLemmas::found_none), unfolding(crate::specs::SchemaFaults::bad_column))]
 fn bad_column(alloc: Global, json: &Json) -> Result<Option<Slip>, AllocError>
     ensures { IfOk result (TellsIfAny (bad_column (view json.now))) }
 {
-    for (at, column) in items_at(json, Key::Columns).iter().enumerate() {
-        let name = column_name(column);
-        if !is_column_name(name) {
-            return Ok(Some(bad_column_name(alloc, at, name)?));
+    let items = items_at(json, Key::Columns);
+    for (at, column) in items.iter().enumerate() {
+        if let Some(slip) = explain_column_name(alloc, at, column_name(column))? {
+            return Ok(Some(slip));
         }
     }
     Ok(None)
@@ -98,26 +112,17 @@ fn bad_name_in(alloc: Global, table: &Json) -> Result<Option<Slip>, AllocError>
 }
 
 /// Returns what is wrong with the first table with a bad name, or with a column that has one.
+#[tactic(auto, using(crate::proofs::ListLemmas::from_first, crate::proofs::ListLemmas::item_right, crate::proofs::ListLemmas::item_wrong, crate::proofs::ListLemmas::all_right))]
 fn first_bad_name(alloc: Global, json: &Json) -> Result<Option<Slip>, AllocError>
     ensures { IfOk result (TellsIfAny (wrong_in_list key.Tables (λ at table. bad_name_in table) (view json.now))) }
 {
-    for (at, table) in items_at(json, Key::Tables).iter().enumerate() {
+    let items = items_at(json, Key::Tables);
+    for (at, table) in items.iter().enumerate() {
         if let Some(slip) = bad_name_in(alloc, table)? {
             return Ok(Some(slip.below(alloc, &[PathStep::Key(Key::Tables), PathStep::At(at)])?));
         }
     }
     Ok(None)
-}
-
-/// Returns a slip, or one of these words on the tables where there is none.
-#[tactic(auto, using(crate::proofs::TellingLemmas::found_told, crate::proofs::TellingLemmas::else_told))]
-fn or_on_tables(alloc: Global, slip: Option<Slip>, words: &str) -> Result<Slip, AllocError>
-    ensures { IfOk result (λ told. (wrong : Option Wrong) → TellsIfAny wrong slip → Tells (unwrap_or wrong (at_key key.Tables (Plain words.now))) (said told)) }
-{
-    match slip {
-        Some(slip) => Ok(slip),
-        None => Slip::of_words(alloc, &[PathStep::Key(Key::Tables)], words),
-    }
 }
 
 /// Returns the slip that a table or a column has a bad name: the first that has.
@@ -126,7 +131,13 @@ fn bad_name(alloc: Global, json: &Json) -> Result<Slip, AllocError>
     ensures { IfOk result (λ slip. Tells (bad_name (view json.now)) (said slip)) }
 {
     let found = first_bad_name(alloc, json)?;
-    or_on_tables(alloc, found, "a name of a table or of a column is bad")
+    let slip = or_words(
+        alloc,
+        found,
+        &[PathStep::Key(Key::Tables)],
+        "a name of a table or of a column is bad",
+    )?;
+    Ok(slip)
 }
 
 /// Returns the slip that a column has the name of another before it.
@@ -138,15 +149,34 @@ fn column_twice(alloc: Global, at: usize, name: &str) -> Result<Slip, AllocError
     column_slip(alloc, at, sentence)
 }
 
+/// Returns what is wrong with the name of a column, where it is one of those before it.
+#[tactic(auto, using(crate::proofs::TellingLemmas::wrong_if, crate::proofs::TellingLemmas::right_else))]
+fn explain_taken(
+    alloc: Global,
+    earlier: &[&str],
+    at: usize,
+    name: &str,
+) -> Result<Option<Slip>, AllocError>
+    ensures { IfOk result (TellsIfAny (if_taken (map (λ one. one.now) earlier.now) at name.now)) }
+{
+    if stands_among(earlier, name) {
+        let slip = column_twice(alloc, at, name)?;
+        return Ok(Some(slip));
+    }
+    Ok(None)
+}
+
 /// Returns the first column of a table whose name stands there before.
+#[tactic(auto, using(crate::proofs::ListLemmas::found_first, crate::proofs::ListLemmas::found_right, crate::proofs::ListLemmas::found_wrong, crate::proofs::ListLemmas::found_none), unfolding(crate::specs::SchemaFaults::taken_column))]
 fn column_taken(alloc: Global, json: &Json) -> Result<Option<Slip>, AllocError>
     ensures { IfOk result (TellsIfAny (taken_column (view json.now))) }
 {
     let mut names: Vec<&str> = Vec::new(alloc);
-    for (at, column) in items_at(json, Key::Columns).iter().enumerate() {
+    let items = items_at(json, Key::Columns);
+    for (at, column) in items.iter().enumerate() {
         let name = column_name(column);
-        if names.as_slice().contains(&name) {
-            return Ok(Some(column_twice(alloc, at, name)?));
+        if let Some(slip) = explain_taken(alloc, names.as_slice(), at, name)? {
+            return Ok(Some(slip));
         }
         names.push(name)?;
     }
@@ -159,7 +189,7 @@ fn name_taken_in(alloc: Global, table: &Json, names: &[&str]) -> Result<Option<S
     ensures { IfOk result (TellsIfAny (taken_name_in (map (λ name. name.now) names.now) (view table.now))) }
 {
     let name = text_at(table, Key::Name);
-    if !names.contains(&name) {
+    if !stands_among(names, name) {
         return column_taken(alloc, table);
     }
     let sentence = format!(in alloc; "an earlier table is called '{name}'")?;
@@ -171,7 +201,8 @@ fn first_taken_name(alloc: Global, json: &Json) -> Result<Option<Slip>, AllocErr
     ensures { IfOk result (TellsIfAny (wrong_in_list key.Tables (λ at table. taken_name_in (take at (table_names (view json.now))) table) (view json.now))) }
 {
     let mut names: Vec<&str> = Vec::new(alloc);
-    for (at, table) in items_at(json, Key::Tables).iter().enumerate() {
+    let items = items_at(json, Key::Tables);
+    for (at, table) in items.iter().enumerate() {
         if let Some(slip) = name_taken_in(alloc, table, names.as_slice())? {
             return Ok(Some(slip.below(alloc, &[PathStep::Key(Key::Tables), PathStep::At(at)])?));
         }
@@ -186,25 +217,35 @@ fn name_taken(alloc: Global, json: &Json) -> Result<Slip, AllocError>
     ensures { IfOk result (λ slip. Tells (taken_name (view json.now)) (said slip)) }
 {
     let found = first_taken_name(alloc, json)?;
-    or_on_tables(alloc, found, "a name of a table or of a column stands twice")
+    let slip = or_words(
+        alloc,
+        found,
+        &[PathStep::Key(Key::Tables)],
+        "a name of a table or of a column stands twice",
+    )?;
+    Ok(slip)
 }
 
-/// Returns that there are so many of something, and how many there may be.
-fn count_words(
-    alloc: Global,
-    before: &str,
-    count: usize,
-    of: &str,
-    most: usize,
-) -> Result<String, AllocError>
-    ensures { IfOk result (λ text. string_bytes text
-        ≡ before.now ++ decimal count ++ of.now ++ codes "; at most " ++ decimal most ++ codes " may stand here") }
+/// Returns that a table has so many columns, and how many it may have.
+fn column_count_words(alloc: Global, count: usize) -> Result<String, AllocError>
+    ensures { IfOk result (λ text. string_bytes text ≡ column_count_text count) }
 {
-    let mut text = String::from_str(alloc, before)?;
+    let mut text = String::from_str(alloc, "a table of ")?;
     write!(text, "{count}")?;
-    text.push_str(of)?;
-    text.push_str("; at most ")?;
-    write!(text, "{most}")?;
+    text.push_str(" columns; at most ")?;
+    write!(text, "{MOST_COLUMNS}")?;
+    text.push_str(" may stand here")?;
+    Ok(text)
+}
+
+/// Returns that there are so many tables, and how many there may be.
+fn table_count_words(alloc: Global, count: usize) -> Result<String, AllocError>
+    ensures { IfOk result (λ text. string_bytes text ≡ table_count_text count) }
+{
+    let mut text = String::new(alloc);
+    write!(text, "{count}")?;
+    text.push_str(" tables; at most ")?;
+    write!(text, "{MOST_TABLES}")?;
     text.push_str(" may stand here")?;
     Ok(text)
 }
@@ -214,19 +255,21 @@ fn count_words(
 fn too_many_columns(alloc: Global, table: &Json) -> Result<Option<Slip>, AllocError>
     ensures { IfOk result (TellsIfAny (too_many_columns (view table.now))) }
 {
-    let count = items_at(table, Key::Columns).len();
+    let count = count_at(table, Key::Columns);
     if count <= MOST_COLUMNS {
         return Ok(None);
     }
-    let sentence = count_words(alloc, "a table of ", count, " columns", MOST_COLUMNS)?;
+    let sentence = column_count_words(alloc, count)?;
     Ok(Some(Slip::new(alloc, &[PathStep::Key(Key::Columns)], sentence)?))
 }
 
 /// Returns what is wrong with the first table of too many columns.
+#[tactic(auto, using(crate::proofs::ListLemmas::from_first, crate::proofs::ListLemmas::item_right, crate::proofs::ListLemmas::item_wrong, crate::proofs::ListLemmas::all_right))]
 fn first_too_many(alloc: Global, json: &Json) -> Result<Option<Slip>, AllocError>
     ensures { IfOk result (TellsIfAny (wrong_in_list key.Tables (λ at table. too_many_columns table) (view json.now))) }
 {
-    for (at, table) in items_at(json, Key::Tables).iter().enumerate() {
+    let items = items_at(json, Key::Tables);
+    for (at, table) in items.iter().enumerate() {
         if let Some(slip) = too_many_columns(alloc, table)? {
             return Ok(Some(slip.below(alloc, &[PathStep::Key(Key::Tables), PathStep::At(at)])?));
         }
@@ -240,8 +283,9 @@ fn too_many(alloc: Global, json: &Json) -> Result<Slip, AllocError>
     ensures { IfOk result (λ slip. Tells (too_many (view json.now)) (said slip)) }
 {
     let found = first_too_many(alloc, json)?;
-    let words = count_words(alloc, "", items_at(json, Key::Tables).len(), " tables", MOST_TABLES)?;
-    or_on_tables(alloc, found, words.as_str())
+    let words = table_count_words(alloc, count_at(json, Key::Tables))?;
+    let slip = or_words(alloc, found, &[PathStep::Key(Key::Tables)], words.as_str())?;
+    Ok(slip)
 }
 
 /// Returns the name of a fault of a schema.

@@ -1,7 +1,7 @@
 //! What is wrong within an item.
-ghost use Rattle.std.specs.Prelude.{◌≡◌, ◌++◌, codes, string_bytes, IfOk, None, Option};
+ghost use Rattle.std.specs.Prelude.{◌≡◌, ◌++◌, codes, string_bytes, unwrap_or, IfOk, None, Option};
 ghost use Rattle.clr_item_explanations.specs.Slips.{said};
-ghost use Rattle.clr_item_explanations.specs.Tellings.{TellsIfAny, TellsNamed, Tells, Wrong, below};
+ghost use Rattle.clr_item_explanations.specs.Tellings.{Plain, Tells, TellsIfAny, TellsNamed, Wrong, below};
 
 use clr_text_positions::PathStep;
 use std::alloc::{AllocError, Global};
@@ -93,5 +93,25 @@ pub(crate) fn below_any(
     match slip {
         Some(slip) => Ok(Some(slip.below(alloc, steps)?)),
         None => Ok(None),
+    }
+}
+
+/// Returns a slip, or one of these words on the value at these steps where there is none.
+#[tactic(auto, using(crate::proofs::TellingLemmas::found_told, crate::proofs::TellingLemmas::else_plain))]
+pub(crate) fn or_words(
+    alloc: Global,
+    slip: Option<Slip>,
+    steps: &[PathStep],
+    words: &str,
+) -> Result<Slip, AllocError>
+    ensures { IfOk result (λ told. (wrong : Option Wrong) → TellsIfAny wrong slip
+        → Tells (unwrap_or wrong (record { steps = steps.now; telling = Plain words.now })) (said told)) }
+{
+    match slip {
+        Some(slip) => Ok(slip),
+        None => {
+            let told = Slip::of_words(alloc, steps, words)?;
+            Ok(told)
+        }
     }
 }

@@ -6,7 +6,7 @@ ghost use Rattle.clr_item_explanations.specs.Tables.{wrong_column, wrong_column_
 ghost use Rattle.clr_item_explanations.specs.Tellings.{TellsIfAny, wrong_in_list};
 
 use crate::fields::{
-    Wanted, explain_fields, explain_value, explain_word, explain_word_at, items_at, no_pair,
+    Wanted, explain_fields, explain_value, explain_word, explain_word_at, items_at, value_slip,
 };
 use crate::slips::{Slip, below_any};
 use clr_office_reading::formats::Format;
@@ -45,15 +45,17 @@ fn explain_column(alloc: Global, json: &Json) -> Result<Option<Slip>, AllocError
     };
     match items.as_slice() {
         [name, kind] => explain_column_pair(alloc, name, kind),
-        _ => Ok(Some(no_pair(alloc, json, "a name and a kind")?)),
+        _ => Ok(Some(value_slip(alloc, json, " is no pair of ", "a name and a kind")?)),
     }
 }
 
 /// Returns what is wrong with the first column of a table that can't be read.
+#[tactic(auto, using(crate::proofs::ListLemmas::from_first, crate::proofs::ListLemmas::item_right, crate::proofs::ListLemmas::item_wrong, crate::proofs::ListLemmas::all_right))]
 fn explain_columns(alloc: Global, json: &Json) -> Result<Option<Slip>, AllocError>
     ensures { IfOk result (TellsIfAny (wrong_in_list key.Columns (λ at column. wrong_column column) (view json.now))) }
 {
-    for (at, column) in items_at(json, Key::Columns).iter().enumerate() {
+    let items = items_at(json, Key::Columns);
+    for (at, column) in items.iter().enumerate() {
         if let Some(slip) = explain_column(alloc, column)? {
             return Ok(Some(slip.below(alloc, &[PathStep::Key(Key::Columns), PathStep::At(at)])?));
         }

@@ -1,13 +1,16 @@
 //! Workspaces and marks that can't be read, or that can't stand.
-ghost use Rattle.std.specs.Prelude.{◌≡◌, map, string_bytes, IfOk};
+ghost use Rattle.std.specs.Prelude.{◌≡◌, ◌∷◌, map, string_bytes, IfOk};
 ghost use Rattle.serde_json.specs.View.{view};
 ghost use Rattle.clr_item_explanations.specs.FaultNames.{BeginsWithName, part_fault_name};
 ghost use Rattle.clr_item_explanations.specs.Slips.{said};
 ghost use Rattle.clr_item_explanations.specs.Tellings.{Tells, TellsIfAny, TellsNamed};
-ghost use Rattle.clr_item_explanations.specs.Workspaces.{names_before, part_fault_key, part_fault_text, wrong_mark, wrong_parent, wrong_part, wrong_workspace};
+ghost use Rattle.clr_item_explanations.specs.Workspaces.{part_fault_key, part_fault_text, wrong_mark, wrong_parent, wrong_part, wrong_workspace};
 ghost use Rattle.clr_item_explanations.specs.Workspaces.{wrong_workspace_behind};
+ghost use Rattle.clr_item_explanations.specs.Values.{text_at};
+ghost use Rattle.clr_rows.specs.Names.{live_name};
+ghost use Rattle.clr_text_positions.specs.declared.paths.Key.TheVariants as key;
 
-use crate::fields::{Wanted, explain_field, explain_fields, items_at, text_at};
+use crate::fields::{Wanted, explain_field, explain_fields, items_at, stands_among, text_at};
 use crate::slips::Slip;
 use clr_hints::{GOOD_NAME, name_hint};
 use clr_rows::LIVE;
@@ -16,17 +19,13 @@ use clr_tree::PartFault;
 use serde_json::Value as Json;
 use std::alloc::{AllocError, Global};
 
-/// Returns LIVE and the names of the workspaces before one.
-fn earlier_names<'a>(
-    alloc: Global,
-    items: &'a [Json],
-    at: usize,
-) -> Result<Vec<&'a str>, AllocError>
-    ensures { IfOk result (λ names. map (λ name. name.now) names.items ≡ names_before at (map view items.now)) }
+/// Returns LIVE and the names of these workspaces.
+fn earlier_names<'a>(alloc: Global, earlier: &'a [Json]) -> Result<Vec<&'a str>, AllocError>
+    ensures { IfOk result (λ names. map (λ name. name.now) names.items ≡ live_name ∷ map (text_at key.Name) (map view earlier.now)) }
 {
     let mut names: Vec<&str> = Vec::new(alloc);
     names.push(LIVE)?;
-    for item in items.iter().take(at) {
+    for item in earlier {
         names.push(text_at(item, Key::Name))?;
     }
     Ok(names)
@@ -38,7 +37,7 @@ fn explain_parent(alloc: Global, json: &Json, names: &[&str]) -> Result<Option<S
     ensures { IfOk result (TellsIfAny (wrong_parent (map (λ name. name.now) names.now) (view json.now))) }
 {
     let parent = text_at(json, Key::Parent);
-    if names.contains(&parent) {
+    if stands_among(names, parent) {
         return Ok(None);
     }
     let sentence = format!(in alloc;
@@ -90,7 +89,7 @@ pub fn explain_workspace(
     let Some(json) = items.get(at) else {
         return Ok(None);
     };
-    let names = earlier_names(alloc, items, at)?;
+    let names = earlier_names(alloc, &items[..at])?;
     explain_workspace_behind(alloc, names.as_slice(), json)
 }
 
