@@ -2,6 +2,7 @@ pub mod FaultWords
 pub mod Items
 pub mod Names
 pub mod Places
+pub mod Readings
 pub mod Remarks
-pub mod Slips
 pub mod Standing
+pub mod WrongItems

@@ -143,12 +143,13 @@ fn words_and_kind(alloc: Global, words: &str, value: &Json) -> Result<String, Al
 fn of_column(
     alloc: Global,
     at: usize,
-    column: (&str, Kind),
+    name: &str,
+    kind: Kind,
     value: &Json,
 ) -> Result<Slip, AllocError>
-    ensures { IfOk result (λ slip. Tells (of_column (column.0.now, column.1) (at, view value.now)) (said slip)) }
+    ensures { IfOk result (λ slip. Tells (of_column (name.now, kind) (at, view value.now)) (said slip)) }
 {
-    let words = column_words(alloc, column.0, column.1)?;
+    let words = column_words(alloc, name, kind)?;
     let sentence = words_and_kind(alloc, words.as_str(), value)?;
     Slip::new(alloc, &[PathStep::Key(Key::V), PathStep::At(at)], sentence)
 }
@@ -158,13 +159,14 @@ fn of_column(
 fn explain_kind(
     alloc: Global,
     at: usize,
-    column: (&str, Kind),
+    name: &str,
+    kind: Kind,
     value: &Json,
 ) -> Result<Option<Slip>, AllocError>
-    ensures { IfOk result (TellsIfAny (of_other_kind (column.0.now, column.1) (at, view value.now))) }
+    ensures { IfOk result (TellsIfAny (of_other_kind (name.now, kind) (at, view value.now))) }
 {
-    if is_of_other_kind(column.1, value) {
-        let slip = of_column(alloc, at, column, value)?;
+    if is_of_other_kind(kind, value) {
+        let slip = of_column(alloc, at, name, kind, value)?;
         return Ok(Some(slip));
     }
     Ok(None)
@@ -182,7 +184,7 @@ fn explain_in_column(
 {
     match column_at(table, at) {
         Some(column) => {
-            let found = explain_kind(alloc, at, column, value)?;
+            let found = explain_kind(alloc, at, column.0, column.1, value)?;
             Ok(found)
         }
         None => Ok(None),

@@ -98,8 +98,11 @@ fn makes_places(form: Option<Form>, count: usize) -> bool
 fn count_words(alloc: Global, count: usize, form: Option<Form>) -> Result<String, AllocError>
     ensures { IfOk result (λ text. string_bytes text ≡ decimal count ++ codes " coordinates; " ++ coordinates_text form) }
 {
-    let wanted = coordinates_of(form);
-    format!(in alloc; "{count} coordinates; {wanted}")
+    let mut text = String::new(alloc);
+    write!(text, "{count}")?;
+    text.push_str(" coordinates; ")?;
+    text.push_str(coordinates_of(form))?;
+    Ok(text)
 }
 
 /// Returns what is wrong with the count of coordinates, which is none that a row of any form has.

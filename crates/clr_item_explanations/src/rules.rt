@@ -77,7 +77,7 @@ fn explain_literal_pair(
 }
 
 /// Returns what is wrong with a literal, which is the name of a column and a value.
-#[tactic(auto, unfolding(crate::specs::Rules::wrong_literal))]
+#[tactic(auto, using(crate::proofs::ItemLemmas::literal_no_pair), unfolding(crate::specs::Rules::wrong_literal))]
 fn explain_literal(alloc: Global, json: &Json) -> Result<Option<Slip>, AllocError>
     ensures { IfOk result (TellsIfAny (wrong_literal (view json.now))) }
 {
@@ -86,7 +86,10 @@ fn explain_literal(alloc: Global, json: &Json) -> Result<Option<Slip>, AllocErro
     };
     match items.as_slice() {
         [name, value] => explain_literal_pair(alloc, name, value),
-        _ => Ok(Some(value_slip(alloc, json, " is no pair of ", "a column and a value")?)),
+        _ => {
+            let slip = value_slip(alloc, json, " is no pair of ", "a column and a value")?;
+            Ok(Some(slip))
+        }
     }
 }
 

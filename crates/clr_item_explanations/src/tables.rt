@@ -36,7 +36,7 @@ fn explain_column_pair(
 }
 
 /// Returns what is wrong with a column, which is a name and a kind.
-#[tactic(auto, unfolding(crate::specs::Tables::wrong_column))]
+#[tactic(auto, using(crate::proofs::ItemLemmas::column_no_pair), unfolding(crate::specs::Tables::wrong_column))]
 fn explain_column(alloc: Global, json: &Json) -> Result<Option<Slip>, AllocError>
     ensures { IfOk result (TellsIfAny (wrong_column (view json.now))) }
 {
@@ -45,7 +45,10 @@ fn explain_column(alloc: Global, json: &Json) -> Result<Option<Slip>, AllocError
     };
     match items.as_slice() {
         [name, kind] => explain_column_pair(alloc, name, kind),
-        _ => Ok(Some(value_slip(alloc, json, " is no pair of ", "a name and a kind")?)),
+        _ => {
+            let slip = value_slip(alloc, json, " is no pair of ", "a name and a kind")?;
+            Ok(Some(slip))
+        }
     }
 }
 

@@ -77,7 +77,7 @@ fn explain_workspace_behind(
 
 /// Returns what is wrong with the workspace at a place of an office text, its cells and marks aside, or none where nothing is
 /// found.
-#[tactic(auto, unfolding(crate::specs::Workspaces::wrong_workspace))]
+#[tactic(auto, using(crate::proofs::ItemLemmas::workspace_told, crate::proofs::ItemLemmas::no_workspace))]
 pub fn explain_workspace(
     alloc: Global,
     text: &Json,
@@ -90,7 +90,8 @@ pub fn explain_workspace(
         return Ok(None);
     };
     let names = earlier_names(alloc, &items[..at])?;
-    explain_workspace_behind(alloc, names.as_slice(), json)
+    let found = explain_workspace_behind(alloc, names.as_slice(), json)?;
+    Ok(found)
 }
 
 /// Returns what is wrong with a mark, its cells aside, or none where nothing is found.
