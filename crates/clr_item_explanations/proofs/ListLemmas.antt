@@ -105,7 +105,7 @@ names_more f items ds names more new i v within is are pushed named so =
     let one : i < length (map view items) = subst (λ n. i < n) (sym (length-map items view)) within in
     let two : i < length texts = subst (λ n. i < n) (sym (length-map (map view items) f)) one in
     let here : get_or texts i (f (view v)) ≡ f (view v) =
-        get_or-map f (map view items) i (view v) (f (view v)) one ∙ ap f (get_or-map view items i v (view v) within ∙ ap view (sym is)) in
+    get_or-map f (map view items) i (view v) (f (view v)) one ∙ ap f (get_or-map view items i v (view v) within ∙ ap view (sym is)) in
     let before : map (λ (name : Bor (List ℕ)). name.now) names ≡ take i texts = so ∙ ap (λ xs. take i (map f xs)) (sym are) in
     ap (map (λ (name : Bor (List ℕ)). name.now)) pushed
     ∙ map-append (λ (name : Bor (List ℕ)). name.now) names (new ∷ [])

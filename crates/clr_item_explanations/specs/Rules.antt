@@ -49,7 +49,7 @@ abbrev pub rule_fields : List ℕ → List RuleField
 rule_fields kind =
     if bytes_eq kind (codes "UNIQUE") then field.Side key.Subject ∷ field.Columns key.Columns ∷ []
     else (if bytes_eq kind (codes "PARTNER") then
-      field.Side key.Subject ∷ field.Columns key.Columns ∷ field.Side key.Server ∷ field.Columns key.ServerColumns ∷ []
+    field.Side key.Subject ∷ field.Columns key.Columns ∷ field.Side key.Server ∷ field.Columns key.ServerColumns ∷ []
     else (if bytes_eq kind (codes "ENDNODE") then field.Side key.Subject ∷ field.Tip ∷ field.Side key.Server ∷ []
     else (if bytes_eq kind (codes "CROSSING") then field.Side key.A ∷ field.Side key.B ∷ field.Side key.Server ∷ []
     else (if bytes_eq kind (codes "NEAR") then field.Side key.A ∷ field.Side key.B ∷ field.Distance ∷ []

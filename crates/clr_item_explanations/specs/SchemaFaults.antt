@@ -63,7 +63,7 @@ taken_column table = wrong_column_name (λ at name. if_taken (take at (map first
 unfoldable pub taken_name_in : List (List ℕ) → Data → Option Wrong
 taken_name_in earlier table =
     if stands_among earlier (text_at key.Name table) then
-      Some (at_key key.Name (Plain (codes "an earlier table is called '" ++ text_at key.Name table ++ codes "'")))
+    Some (at_key key.Name (Plain (codes "an earlier table is called '" ++ text_at key.Name table ++ codes "'")))
     else taken_column table
 
 abbrev pub table_names : Data → List (List ℕ)

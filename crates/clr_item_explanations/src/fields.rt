@@ -97,12 +97,7 @@ pub(crate) fn count_at(json: &Json, key: Key) -> usize
 }
 
 /// Returns a value as it is written, with words behind it.
-fn value_words(
-    alloc: Global,
-    json: &Json,
-    words: &str,
-    more: &str,
-) -> Result<String, AllocError>
+fn value_words(alloc: Global, json: &Json, words: &str, more: &str) -> Result<String, AllocError>
     ensures { IfOk result (λ text. (shown : List ℕ) × IsShown (view json.now) shown × (string_bytes text ≡ shown ++ words.now ++ more.now)) }
 {
     let mut text = shorten_value(alloc, json)?;

@@ -468,12 +468,7 @@ fn of_fault(
 
 /// Returns what is wrong with a row that has a fault, without the fault's name.
 #[tactic(auto, using(crate::proofs::RowLemmas::told_of_table, crate::proofs::RowLemmas::told_of_no_table), unfolding(crate::specs::RowFaults::wrong_of_row))]
-fn of_row(
-    alloc: Global,
-    json: &Json,
-    schema: &Schema,
-    fault: RowFault,
-) -> Result<Slip, AllocError>
+fn of_row(alloc: Global, json: &Json, schema: &Schema, fault: RowFault) -> Result<Slip, AllocError>
     ensures { IfOk result (λ slip. Tells (wrong_of_row schema.now fault (view json.now)) (said slip)) }
 {
     match table_of(schema, text_at(json, Key::T)) {

@@ -107,11 +107,7 @@ fn count_words(alloc: Global, count: usize, form: Option<Form>) -> Result<String
 
 /// Returns what is wrong with the count of coordinates, which is none that a row of any form has.
 #[tactic(auto, using(crate::proofs::TellingLemmas::right_if, crate::proofs::TellingLemmas::plain_else), unfolding(crate::specs::Rows::wrong_coordinate_count))]
-fn explain_count(
-    alloc: Global,
-    json: &Json,
-    form: Option<Form>,
-) -> Result<Option<Slip>, AllocError>
+fn explain_count(alloc: Global, json: &Json, form: Option<Form>) -> Result<Option<Slip>, AllocError>
     ensures { IfOk result (TellsIfAny (wrong_coordinate_count form (view json.now))) }
 {
     let count = count_at(json, Key::S);
@@ -124,11 +120,7 @@ fn explain_count(
 
 /// Returns what is wrong with the values and the shape of a row.
 #[tactic(auto, using(crate::proofs::TellingLemmas::first_told, crate::proofs::TellingLemmas::behind_told), unfolding(crate::specs::Rows::wrong_content))]
-fn explain_content(
-    alloc: Global,
-    json: &Json,
-    schema: &Schema,
-) -> Result<Option<Slip>, AllocError>
+fn explain_content(alloc: Global, json: &Json, schema: &Schema) -> Result<Option<Slip>, AllocError>
     ensures { IfOk result (TellsIfAny (wrong_content schema.now (view json.now))) }
 {
     if let Some(slip) = explain_fields(alloc, json, &[(Key::V, Wanted::List)])? {

@@ -48,13 +48,21 @@ fn rule_fields(json: &Json) -> &'static [RuleField]
             RuleField::Side(Key::Server),
             RuleField::Columns(Key::ServerColumns),
         ],
-        "ENDNODE" => &[RuleField::Side(Key::Subject), RuleField::Tip, RuleField::Side(Key::Server)],
+        "ENDNODE" => &[
+            RuleField::Side(Key::Subject),
+            RuleField::Tip,
+            RuleField::Side(Key::Server),
+        ],
         "CROSSING" => &[
             RuleField::Side(Key::A),
             RuleField::Side(Key::B),
             RuleField::Side(Key::Server),
         ],
-        "NEAR" => &[RuleField::Side(Key::A), RuleField::Side(Key::B), RuleField::Distance],
+        "NEAR" => &[
+            RuleField::Side(Key::A),
+            RuleField::Side(Key::B),
+            RuleField::Distance,
+        ],
         _ => &[],
     }
 }
@@ -77,20 +85,21 @@ fn explain_literal_pair(
 }
 
 /// Returns what is wrong with a literal, which is the name of a column and a value.
-#[tactic(auto, using(crate::proofs::ItemLemmas::literal_no_pair), unfolding(crate::specs::Rules::wrong_literal))]
+#[tactic(auto, using(crate::proofs::ItemLemmas::literal_no_pair, crate::proofs::ItemLemmas::literal_pair, crate::proofs::ItemLemmas::literal_no_list))]
 fn explain_literal(alloc: Global, json: &Json) -> Result<Option<Slip>, AllocError>
     ensures { IfOk result (TellsIfAny (wrong_literal (view json.now))) }
 {
-    let Some(items) = json.as_array() else {
-        return explain_value(alloc, json, Wanted::List);
+    let Some(list) = json.as_array() else {
+        let found = explain_value(alloc, json, Wanted::List)?;
+        return Ok(found);
     };
-    match items.as_slice() {
-        [name, value] => explain_literal_pair(alloc, name, value),
-        _ => {
-            let slip = value_slip(alloc, json, " is no pair of ", "a column and a value")?;
-            Ok(Some(slip))
-        }
+    let items = list.as_slice();
+    if items.len() != 2 {
+        let slip = value_slip(alloc, json, " is no pair of ", "a column and a value")?;
+        return Ok(Some(slip));
     }
+    let found = explain_literal_pair(alloc, &items[0], &items[1])?;
+    Ok(found)
 }
 
 /// Returns what is wrong with the first literal of a side that can't be read.

@@ -20,11 +20,7 @@ const SHAPES: &[&str] = &["NONE", "POINT", "SEGMENT", "PATH"];
 
 /// Returns what is wrong with the name and the kind of a column.
 #[tactic(auto, using(crate::proofs::TellingLemmas::first_told, crate::proofs::TellingLemmas::behind_told))]
-fn explain_column_pair(
-    alloc: Global,
-    name: &Json,
-    kind: &Json,
-) -> Result<Option<Slip>, AllocError>
+fn explain_column_pair(alloc: Global, name: &Json, kind: &Json) -> Result<Option<Slip>, AllocError>
     ensures { IfOk result (TellsIfAny (wrong_column_pair (view name.now) (view kind.now))) }
 {
     let of_kind = explain_word(alloc, kind, KINDS)?;
@@ -36,20 +32,21 @@ fn explain_column_pair(
 }
 
 /// Returns what is wrong with a column, which is a name and a kind.
-#[tactic(auto, using(crate::proofs::ItemLemmas::column_no_pair), unfolding(crate::specs::Tables::wrong_column))]
+#[tactic(auto, using(crate::proofs::ItemLemmas::column_no_pair, crate::proofs::ItemLemmas::column_pair, crate::proofs::ItemLemmas::column_no_list))]
 fn explain_column(alloc: Global, json: &Json) -> Result<Option<Slip>, AllocError>
     ensures { IfOk result (TellsIfAny (wrong_column (view json.now))) }
 {
-    let Some(items) = json.as_array() else {
-        return explain_value(alloc, json, Wanted::List);
+    let Some(list) = json.as_array() else {
+        let found = explain_value(alloc, json, Wanted::List)?;
+        return Ok(found);
     };
-    match items.as_slice() {
-        [name, kind] => explain_column_pair(alloc, name, kind),
-        _ => {
-            let slip = value_slip(alloc, json, " is no pair of ", "a name and a kind")?;
-            Ok(Some(slip))
-        }
+    let items = list.as_slice();
+    if items.len() != 2 {
+        let slip = value_slip(alloc, json, " is no pair of ", "a name and a kind")?;
+        return Ok(Some(slip));
     }
+    let found = explain_column_pair(alloc, &items[0], &items[1])?;
+    Ok(found)
 }
 
 /// Returns what is wrong with the first column of a table that can't be read.
@@ -82,11 +79,7 @@ fn explain_paths(alloc: Global, format: Format) -> Result<Option<Slip>, AllocErr
 
 /// Returns what is wrong with a table that can't be read, or none where nothing is found.
 #[tactic(auto, using(crate::proofs::TellingLemmas::first_told, crate::proofs::TellingLemmas::behind_told), unfolding(crate::specs::Tables::wrong_table))]
-pub fn explain_table(
-    alloc: Global,
-    json: &Json,
-    format: Format,
-) -> Result<Option<Slip>, AllocError>
+pub fn explain_table(alloc: Global, json: &Json, format: Format) -> Result<Option<Slip>, AllocError>
     ensures { IfOk result (TellsIfAny (wrong_table format (view json.now))) }
 {
     let head = [(Key::Name, Wanted::Text), (Key::Columns, Wanted::List)];

@@ -78,11 +78,7 @@ fn explain_workspace_behind(
 /// Returns what is wrong with the workspace at a place of an office text, its cells and marks aside, or none where nothing is
 /// found.
 #[tactic(auto, using(crate::proofs::ItemLemmas::workspace_told, crate::proofs::ItemLemmas::no_workspace))]
-pub fn explain_workspace(
-    alloc: Global,
-    text: &Json,
-    at: usize,
-) -> Result<Option<Slip>, AllocError>
+pub fn explain_workspace(alloc: Global, text: &Json, at: usize) -> Result<Option<Slip>, AllocError>
     ensures { IfOk result (TellsIfAny (wrong_workspace at (view text.now))) }
 {
     let items = items_at(text, Key::Workspaces);
