@@ -17,7 +17,7 @@ use Rattle.clr_item_explanations.specs.Rules.{wrong_literal, wrong_literal_items
 use Rattle.clr_item_explanations.specs.Slips.{said}
 use Rattle.clr_item_explanations.specs.Tables.{wrong_column, wrong_column_items, wrong_column_pair}
 use Rattle.clr_item_explanations.specs.Tellings.{OfValue, Tells, TellsIfAny, Wrong, itself}
-use Rattle.clr_item_explanations.specs.Values.{items_at, listed, text_at}
+use Rattle.clr_item_explanations.specs.Values.{items_at, text_at}
 use Rattle.clr_item_explanations.specs.Workspaces.{names_before, wrong_workspace, wrong_workspace_behind}
 use Rattle.clr_item_explanations.proofs.TellingLemmas.{nothing, something}
 use Rattle.clr_item_explanations.proofs.ValueLemmas.{listed_items}

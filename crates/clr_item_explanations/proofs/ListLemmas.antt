@@ -1,5 +1,5 @@
 -- The first item of a list that is wrong, as a loop finds it.
-use Rattle.std.proofs.Common.{◌≡◌, ◌∙◌, ℕ, suc, ◌+◌, ◌≤◌, ◌<◌, List, [], ◌∷◌, ◌++◌, Bor, length, get_or, drop, take, map, Option, Some, None, refl, sym, subst, ap, add-one}
+use Rattle.std.proofs.Common.{◌≡◌, ◌∙◌, ℕ, ◌+◌, ◌≤◌, ◌<◌, List, [], ◌∷◌, ◌++◌, Bor, length, get_or, drop, take, map, Option, Some, None, refl, sym, subst, ap, add-one}
 use Rattle.std.proofs.Math.Seq.{drop-cons}
 use Rattle.std.proofs.lemmas.List.{drop_all, get_or-map, length-map, map-append, take_more}
 use Rattle.std.specs.List.{enumerate_from}

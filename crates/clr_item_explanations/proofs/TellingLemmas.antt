@@ -1,7 +1,7 @@
 -- What is told of what is wrong.
 use Rattle.std.proofs.Common.{◌≡◌, ◌∙◌, ℕ, List, [], ◌∷◌, ◌++◌, codes, string_bytes, Bool, true, false, Option, Some, None, refl, sym, subst, ap}
 use Rattle.std.specs.Prelude.{option_map, unwrap_or, if◌then◌else◌}
-use Rattle.std.specs.Option.{option_or, option_map_or}
+use Rattle.std.specs.Option.{option_or}
 use Rattle.serde_json.specs.Data.{Data, string}
 use Rattle.clr_hints.specs.Names.{IsHintAtName}
 use Rattle.clr_text_positions.specs.declared.paths.Key.{Key}
@@ -11,7 +11,7 @@ use Rattle.clr_item_explanations.specs.declared.slips.Slip.{Slip}
 use Rattle.clr_item_explanations.specs.Slips.{Said, said}
 use Rattle.clr_item_explanations.specs.Fields.{unknown_word}
 use Rattle.clr_item_explanations.specs.Values.{stands_among}
-use Rattle.clr_item_explanations.specs.Tellings.{IsShown, IsTold, OfCoordinate, OfName, OfValue, OfWord, Plain, Telling, Tells, TellsFound, TellsIfAny, TellsNamed, Wrong, below, coordinate_hint, itself}
+use Rattle.clr_item_explanations.specs.Tellings.{IsShown, IsTold, OfCoordinate, OfName, OfValue, OfWord, Plain, Tells, TellsFound, TellsIfAny, TellsNamed, Wrong, below, coordinate_hint, itself}
 
 -- one value ----------------------------------------------------------------------------------
 

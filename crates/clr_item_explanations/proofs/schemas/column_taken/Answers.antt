@@ -1,4 +1,4 @@
-use Rattle.std.proofs.Common.{◌≡◌, ◌∙◌, ℕ, List, Bor, Some, None, ap, map, subst, take}
+use Rattle.std.proofs.Common.{◌≡◌, ℕ, List, Bor, Some, None, map, subst, take}
 use Rattle.serde_json.specs.View.{view}
 use Rattle.clr_text_positions.specs.declared.paths.Key.TheVariants as key
 use Rattle.clr_item_explanations.specs.SchemaFaults.{if_taken}
