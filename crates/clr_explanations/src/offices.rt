@@ -28,11 +28,7 @@ pub struct OfficeFault {
 
 /// Returns what is wrong with a workspace behind those before it; none of another item.
 #[tactic(auto, using(clr_item_explanations::proofs::TellingLemmas::nothing))]
-fn found_workspace(
-    alloc: Global,
-    json: &Json,
-    spot: FaultyItem,
-) -> Result<Option<Slip>, AllocError>
+fn found_workspace(alloc: Global, json: &Json, spot: FaultyItem) -> Result<Option<Slip>, AllocError>
     ensures { IfOk result (TellsIfAny (wrong_part_at spot (view json.now))) }
 {
     match spot {
