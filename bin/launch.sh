@@ -1,7 +1,8 @@
 # Runs the program that `program` names, clr_office or clr_desk, with the words and streams that are given; `top` is the repository's folder, and `takes`
 # says how long it takes to prove the program.
 # It is proved and built once, into bin/out, and anew where a source has changed since; it is never run for other sources than those
-# that it was built from. To be read by the launchers bin/clr_office and bin/clr_desk.
+# that it was built from. If a release was unpacked at the top of the checkout, its program is run in place of that, but only if it was proved from
+# these very sources. To be read by the launchers bin/clr_office and bin/clr_desk.
 
 say() { echo "$program: $1" >&2; }
 
@@ -25,6 +26,24 @@ clean_up() {
     if [ -n "$proving" ]; then kill "$proving" 2>/dev/null; fi
     rm -rf ${room:+"$room"} ${scratch:+"$scratch"}
     rm -f "$out"/*.new
+}
+
+# The program of a release that lies at the top of the checkout, if its PROOF names these sources and this program. Of others it says that they aren't used.
+program_of_release() {
+    local folder digest=
+    for folder in "$top"/vekpundo-*-linux-x86_64; do
+        [ -f "$folder/PROOF" ] && [ -x "$folder/bin/$program" ] || continue
+        digest=${digest:-$(digest_of_sources)}
+        if ! grep -qxF "sources of $program: ${digest%% *}" "$folder/PROOF"; then
+            say "the release in ${folder##*/} is of other sources and isn't used"
+        elif ! grep -qxF "program $program: $(sha256sum <"$folder/bin/$program" | cut -d ' ' -f 1)" "$folder/PROOF"; then
+            say "the program in ${folder##*/} isn't the one that its PROOF names and isn't used"
+        else
+            say "runs the program of ${folder##*/}, which was proved from these sources; without that folder it is proved here"
+            echo "$folder/bin/$program"
+            return
+        fi
+    done
 }
 
 time_since() { printf '%d:%02d min' $(((SECONDS - $1) / 60)) $(((SECONDS - $1) % 60)); }
@@ -94,6 +113,8 @@ keeps_proofs() {
 # How many crates of a run aren't proved yet, by what it has said in a file.
 count_left() { echo $(($1 - $(grep -cE '^rt: [a-z_]+ (proved$|is kept: )' "$2"))); }
 
+end_jobs() { kill $(jobs -p) 2>/dev/null; }
+
 # Proves the crates by three runs of the toolchain, each of which takes what the others have proved and waits for what they are proving. The first
 # proves the crate on which all stand, with the processors that are free. The second begins at the same time, since it first reads all texts, and
 # proves many crates side by side. The third, of all crates, begins once the second has no more crates left than are proved at once: it proves what
@@ -101,7 +122,8 @@ count_left() { echo $(($1 - $(grep -cE '^rt: [a-z_]+ (proved$|is kept: )' "$2"))
 # Of a toolchain that keeps no proofs there is one run alone, since no run could take what another has proved.
 prove() {
     local at_once temporary=${scratch:-${TMPDIR:-/tmp}} many first second
-    trap 'kill $(jobs -p) 2>/dev/null' EXIT
+    # (a function, since bash can't read a trap's own words if a signal comes while it reads them)
+    trap end_jobs EXIT
     trap 'exit 143' TERM
     if ! keeps_proofs; then
         prove_crates "$room/whole" '' "${TMPDIR:-/tmp}" "${crates[@]}"
@@ -119,19 +141,46 @@ prove() {
     prove_crates "$room/whole" '' "${TMPDIR:-/tmp}" "${crates[@]}"
 }
 
-# Reads what `rt ci` prints, and says a line for each crate that is done, and for each minute in which none is. It fails after a line
-# that names a crate which isn't proved, or else says why nothing is.
+# Reads into `seconds` by how long each crate made an earlier run longer, as bench/times_of_crates has it; of a crate that isn't there, the mean of all.
+read_times() {
+    local crate time total=0
+    seconds=()
+    while read -r crate time; do
+        if [[ $time =~ ^[0-9]+$ ]]; then seconds[$crate]=$time total=$((total + time)); fi
+    done < <(grep -v '^#' "$top/bench/times_of_crates" 2>/dev/null)
+    if [ ${#seconds[@]} = 0 ]; then return; fi
+    for crate in "${crates[@]}"; do seconds[$crate]=${seconds[$crate]-$((total / ${#seconds[@]}))}; done
+}
+
+# How many minutes are left, where times are known: those of the crates that aren't done, as many times as long as those that this run has proved
+# took it, once it has proved for two minutes.
+minutes_left() {
+    local crate left=0 proved=0 taken=$((SECONDS - start))
+    if [ ${#seconds[@]} = 0 ]; then return; fi
+    for crate in "${crates[@]}"; do
+        case ${done[$crate]-} in
+        '') left=$((left + seconds[$crate])) ;;
+        proved) proved=$((proved + seconds[$crate])) ;;
+        esac
+    done
+    if [ "$proved" -ge 120 ] && [ "$taken" -ge 120 ]; then left=$((left * taken / proved)); fi
+    if [ "$left" -gt 0 ]; then echo ", about $(((left + 59) / 60)) min left"; fi
+}
+
+# Reads what `rt ci` prints, and says a line for each crate that is done, and for each minute in which none is, with what is left. It fails after a
+# line that names a crate which isn't proved, or else says why nothing is.
 follow() {
     local line crate at_work why= start=$SECONDS
-    local -A done=()
+    local -A done=() seconds=()
+    read_times
     while true; do
         if IFS= read -r -t "$patience" line; then
             case $line in
             'rt: '*' proved' | 'rt: '*' is kept: '*)
                 line=${line#rt: } crate=${line%% *}
                 if [ -n "${uses[$crate]+known}" ] && [ -z "${done[$crate]+known}" ]; then
-                    done[$crate]=yes
-                    say "${#done[@]} of ${#crates[@]} crates proved after $(time_since "$start"): $crate"
+                    case $line in *' is kept: '*) done[$crate]=kept ;; *) done[$crate]=proved ;; esac
+                    say "${#done[@]} of ${#crates[@]} crates proved after $(time_since "$start")$(minutes_left): $crate"
                 fi
                 ;;
             'rt: '*' NOT PROVED'*)
@@ -148,7 +197,7 @@ follow() {
                 if [ -n "${done[$crate]+known}" ]; then continue; fi
                 if compgen -G "$room/*/crates/$crate/out/rlib" >/dev/null; then at_work+=", $crate"; fi
             done
-            say "${#done[@]} of ${#crates[@]} crates proved after $(time_since "$start")${at_work:+, at work on ${at_work#, }}"
+            say "${#done[@]} of ${#crates[@]} crates proved after $(time_since "$start")$(minutes_left)${at_work:+, at work on ${at_work#, }}"
         else
             break
         fi
@@ -179,7 +228,11 @@ build() {
     write_program "$made" "$digest" "$before" || refuse "the program can't be written into bin/out"
 }
 
-if ! is_current; then
+released=
+if ! is_current; then released=$(program_of_release); fi
+if [ -n "$released" ]; then
+    out=${released%/*}
+elif ! is_current; then
     { mkdir -p "$out" && exec 9>>"$out/lock"; } 2>/dev/null ||
         refuse "the program isn't built from these sources, and bin/out can't be written"
     trap clean_up EXIT

@@ -4,7 +4,8 @@
 # bin/out/NAME.stamp has the name, the size and the time of the last change of each source and of the program, as they
 # were: where they are so still, the program is current. Sources are the code and the definitions that it is proved
 # against. A proof is none: the program was proved by the proofs that it was built with, and is the same by others. bin/out/NAME.digests has a
-# digest of all sources and the program's: where these are as they were, as in a copy of the checkout, it is stamped anew.
+# digest of all sources and the program's: where these are as they were, as in a copy of the checkout, it is stamped anew. bin/out/NAME.kit has
+# the line by which the toolchain that built the program names itself.
 out=$top/bin/out
 
 # The programs by the names of their launchers, and the crate of each.
@@ -63,6 +64,9 @@ digest_of_sources() {
 
 digest_of_program() { sha256sum 2>/dev/null <"$out/$program"; }
 
+# How the toolchain that built the program that stands in bin/out names itself, if that is known.
+kit_of_program() { cat "$out/$program.kit" 2>/dev/null; }
+
 # The program as it is made in a folder with all its crates.
 made_in() { echo "$1/crates/${crate_of[$program]}/out/${crate_of[$program]}"; }
 
@@ -86,7 +90,8 @@ is_current() {
 # Puts a program into bin/out that was built from sources of this digest and this listing.
 write_program() {
     local made=$1 digest=$2 before=$3
-    rm -f "$out/$program.stamp" "$out/$program.digests"
+    rm -f "$out/$program.stamp" "$out/$program.digests" "$out/$program.kit"
+    (rt version >"$out/$program.kit") 2>/dev/null
     cp "$made" "$out/$program.new" && mv -f "$out/$program.new" "$out/$program" &&
         (echo "$digest" && digest_of_program) >"$out/$program.digests" && write_stamp "$before"
 }

@@ -24,7 +24,7 @@ use Rattle.clr_clearance.proofs.ReplyLemmas.{quiet_run}
 use Rattle.clr_clearance.proofs.RunLemmas.{clear_is_safe}
 use Rattle.clr_engine.specs.Fitting.{IsAdmitted}
 use Rattle.clr_merge_sets.specs.Faults.{IsMergeSetFault, of_member, verdict_of, without_memory}
-use Rattle.clr_merge_sets.proofs.MergeSetLemmas.{names_free, root_holds}
+use Rattle.clr_merge_sets.proofs.MergeSetLemmas.{names_free}
 
 -- what an answer says ------------------------------------------------------------------------------
 
@@ -38,13 +38,12 @@ module _ (o : Office) (s : MergeSet) (entries : List Entry) where
   clear_verdict v (of_memory none f) e = absurd (let both : verdict.OutOfMemory ≡ verdict.Clear = sym f ∙ e in cc)
 
   -- all that a clear answer promises
-  pub clear_promises : IsAdmitted o → (v : Verdict) → IsCheckAnswer o s entries v → v ≡ verdict.Clear → StaysFree o s × Safe o s × Headline o s
+  pub clear_promises : (v : Verdict) → IsCheckAnswer o s entries v → v ≡ verdict.Clear → StaysFree o s × Safe o s × Headline o s
       × RunsAreCleared o s
-  clear_promises admitted v answer e =
+  clear_promises v answer e =
       let clear = clear_verdict v answer e in
-      let holds = root_holds o admitted s (clear_covers o s entries clear).mergeable.kept in
-      let (free, safe) = clear_is_safe o s entries clear holds in
-      (free, safe, headline o s entries clear holds, quiet_run o s safe)
+      let (free, safe) = clear_is_safe o s entries clear in
+      (free, safe, headline o s entries clear, quiet_run o s safe)
 
 -- what a scene tells --------------------------------------------------------------------------------
 
@@ -66,9 +65,6 @@ module _ (o : Office) (s : MergeSet) (entries : List Entry) (free : member_fault
         of_verdict (of_need n moved.0 moved.1 free apart moved.2 refl)
 
 module _ (o : Office) (s : MergeSet) (entries : List Entry) (clear : IsCheckAnswer o s entries verdict.Clear) where
-  pub clear_holds : IsAdmitted o → RootHolds o s
-  clear_holds admitted = root_holds o admitted s (clear_covers o s entries (clear_verdict o s entries verdict.Clear clear refl)).mergeable.kept
-
   -- no memory for the replies
   pub clear_refused : IsRefusingVerdict o s entries verdict.OutOfMemory
   clear_refused = record {

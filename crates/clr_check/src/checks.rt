@@ -3,6 +3,7 @@
 ghost use Rattle.std.specs.Prelude.{◌≡◌};
 ghost use Rattle.clr_clearance.specs.Headline.{Headline, RunsAreCleared};
 ghost use Rattle.clr_clearance.specs.Laws.{StaysFree};
+ghost use Rattle.clr_clearance.specs.MergeSets.{change_sets};
 ghost use Rattle.clr_clearance.specs.Safety.{Safe};
 ghost use Rattle.clr_clearance.specs.declared.verdicts.Verdict.TheVariants as verdict;
 ghost use Rattle.clr_steps.specs.Quiet.{MergeSet};
@@ -13,9 +14,12 @@ ghost use Rattle.clr_merge_sets.specs.MergeSets.{AreOfMergeSet, AreParts};
 
 use crate::covers::first_uncovered;
 use clr_cert::{Certificate, Entry};
+use clr_change::ChangeSet;
 use clr_clearance::Verdict;
 use clr_engine::Office;
-use clr_merge_sets::{MergeSetParts, read_merge_set, verdict_of};
+use clr_merge_sets::{
+    MergeSetParts, fault_without_memory, read_changes, read_merge_set, verdict_of,
+};
 use std::alloc::Global;
 
 /// Returns what the tests of cells and needs say of the parts of a merge set.
@@ -33,17 +37,40 @@ fn judge_parts(alloc: Global, office: &Office, parts: &MergeSetParts, entries: &
     }
 }
 
+/// Returns what the tests say of a certificate, over what its members changed.
+fn judge_changes(
+    alloc: Global,
+    office: &Office,
+    certificate: &Certificate,
+    changes: &[ChangeSet],
+) -> Verdict
+    requires { changes.now ≡ change_sets office.now (merge_set_of certificate.now) }
+    ensures { IsCheckAnswer office.now (merge_set_of certificate.now) (entries_in certificate.now.entries) result }
+{
+    match read_merge_set(
+        alloc,
+        office,
+        certificate.root.as_str(),
+        &certificate.members,
+        changes,
+    ) {
+        Ok(parts) => judge_parts(alloc, office, &parts, certificate.entries.as_slice()),
+        Err(verdict) => verdict,
+    }
+}
+
 /// Returns the verdict on a certificate in an office: clear, or the first test that fails.
 /// `OutOfMemory` may come in its place where no test of names fails, and only where a growth was
 /// refused.
 ///
-/// Where the verdict is `Clear`, every rule holds in the root with the changes of any of the
-/// members over it, and no other member is in conflict with those rows. In every list of quiet
-/// commands no merge or refresh of a member is answered by a conflict or a broken rule, and every
-/// rule holds in the root after each command. After any two such lists that merge the same members,
-/// and so after any two that merge all, the root has the same rows. What `Office::perform_all`
-/// answers to quiet commands is then a cleared run. Nothing that the certificate says is taken to
-/// be true.
+/// Where the verdict is `Clear`, the root with the changes of more members over it breaks no need but
+/// those that it breaks with fewer, and no other member is in conflict with those rows. In every list
+/// of quiet commands no merge or refresh of a member is answered by a conflict or a broken rule, and
+/// after each command the root breaks no need but those that it broke at first. So where every rule
+/// holds in the root, it holds with the changes of any of the members over it, and in the root after
+/// each command. After any two such lists that merge the same members, and so after any two that merge
+/// all, the root has the same rows. What `Office::perform_all` answers to quiet commands is then a
+/// cleared run. Nothing that the certificate says is taken to be true.
 ///
 /// For example, mains 1 and 2 may cross only at a node, and the member `W1` deletes node 9, at which they do, and
 /// inserts node 10 there. The verdict is `Clear` where an entry names the old node 9 and the new node 10 as witnesses
@@ -56,13 +83,14 @@ pub fn check(alloc: Global, office: &Office, certificate: &Certificate) -> Verdi
     ensures runs { result ≡ verdict.Clear → RunsAreCleared office.now (merge_set_of certificate.now) }
     ensures admitted { IsAdmitted office.now }
 {
-    match read_merge_set(
-        alloc,
-        office,
-        certificate.root.as_str(),
-        &certificate.members,
-    ) {
-        Ok(parts) => judge_parts(alloc, office, &parts, certificate.entries.as_slice()),
-        Err(verdict) => verdict,
+    let _rules = office.book();
+    match read_changes(alloc, office, &certificate.members) {
+        Ok(changes) => judge_changes(alloc, office, certificate, changes.as_slice()),
+        Err(_) => fault_without_memory(
+            alloc,
+            office,
+            certificate.root.as_str(),
+            &certificate.members,
+        ),
     }
 }

@@ -4,51 +4,49 @@ use Rattle.std.specs.Prelude.{option_map, unwrap_or}
 use Rattle.std.proofs.lemmas.Bool.{false≢true, true≢false}
 use Rattle.clr_rows.specs.declared.cells.CellId.{CellId}
 use Rattle.clr_rows.specs.declared.rows.Row.{Row}
-use Rattle.clr_rules.specs.Needs.{Holds}
+use Rattle.clr_rules.specs.Needs.{BreaksNoMore, View}
 use Rattle.clr_workspaces.specs.Marks.{Name}
 use Rattle.clr_needs.specs.Settings.{AreAmong, view_with}
 use Rattle.clr_steps.specs.Offices.{Office}
 use Rattle.clr_steps.specs.Quiet.{MergeSet, is_member, is_root, root_content}
 use Rattle.clr_clearance.specs.declared.verdicts.Verdict.TheVariants as verdict
 use Rattle.clr_clearance.specs.Safety.{Safe}
-use Rattle.clr_clearance.specs.MergeSets.{AreMergeable, KeepsRules, RootHolds, changed_by, setting_of}
+use Rattle.clr_clearance.specs.MergeSets.{AreMergeable, MembersBreakNoMore, changed_by, rows_with, setting_of}
 use Rattle.clr_clearance.specs.Verdicts.{first_repeated, names_fault}
 use Rattle.clr_clearance.proofs.ClearLemmas.{AllDiffer, all_differ, has_at, no_member_fault, position_of}
 use Rattle.clr_clearance.proofs.NameLemmas.{has_is}
 use Rattle.clr_clearance.proofs.PlanLemmas.{safe_plan}
 use Rattle.clr_clearance.proofs.SafeLemmas.{quiet_list_law, safe_at}
-use Rattle.clr_clearance.proofs.StaticLemmas.{keeps_rules}
+use Rattle.clr_clearance.proofs.StaticLemmas.{held_law, no_more_broken}
 use Rattle.clr_merge_sets.specs.Certificates.{entries_in}
 use Rattle.clr_merge_sets.specs.MergeSetNames.{merge_set}
 use Rattle.clr_merge_sets.proofs.MergeSetLemmas.{names_free}
-use Rattle.clr_plan.specs.declared.plans.Plan.{Plan}
-use Rattle.clr_plan.specs.declared.plans.Plan.TheVariants as plan
+use Rattle.clr_merge_sets.specs.declared.plans.Plan.{Plan}
+use Rattle.clr_merge_sets.specs.declared.plans.Plan.TheVariants as plan
 use Rattle.clr_plan.specs.Plans.{IsPlan}
-use Rattle.clr_plan.specs.Promises.{Promises, is_cleared, is_out_of_memory}
+use Rattle.clr_merge_sets.specs.Plans.{is_cleared, is_out_of_memory}
+use Rattle.clr_plan.specs.Promises.{Promises}
 use Rattle.clr_choices.specs.Clearable.{AreClearable, PartsStayClearable, PlansTellClearable}
 
 module _ (o : Office) (s : MergeSet) where
-  -- every rule holds in the root of members that are safe
-  root_of_safe : Safe o s → RootHolds o s
-  root_of_safe safe = (safe [] (λ at. false) (λ at c e. absurd (cc))).root.holds
-
-  all_cleared : names_fault o s ≡ None → Safe o s → RootHolds o s → (p : Plan) → IsPlan o s p → is_out_of_memory p ≡ false → is_cleared p ≡ true
-  all_cleared named safe holds (plan.Cleared c) h found = refl
-  all_cleared named safe holds (plan.Blocked order cause) h found = absurd (safe_plan o s order.items cause safe holds h)
-  all_cleared named safe holds (plan.Unfit v) h found = (let both : None ≡ Some v = sym named ∙ h in absurd (cc))
-  all_cleared named safe holds plan.OutOfMemory h found = absurd (true≢false found)
+  all_cleared : names_fault o s ≡ None → Safe o s → (p : Plan) → IsPlan o s p → is_out_of_memory p ≡ false → is_cleared p ≡ true
+  all_cleared named safe (plan.Cleared c) h found = refl
+  all_cleared named safe (plan.Blocked order cause) h found = absurd (safe_plan o s order.items cause safe h)
+  all_cleared named safe (plan.Unfit v) h found = (let both : None ≡ Some v = sym named ∙ h in absurd (cc))
+  all_cleared named safe plan.OutOfMemory h found = absurd (true≢false found)
 
   -- the members of a cleared plan are clearable
   pub cleared_clearable : (p : Plan) → IsPlan o s p → Promises o s p → is_cleared p ≡ true → AreClearable o s
   cleared_clearable (plan.Cleared c) h proof e =
-      let holds = root_of_safe proof.safe in
       let named = names_free o s (no_member_fault o s proof.covers.mergeable) in
+      let no_more = no_more_broken o s (entries_in c.entries) proof.covers in
       record {
         named = named;
         mergeable = proof.covers.mergeable;
-        keeps = keeps_rules o s (entries_in c.entries) proof.covers holds;
+        no_more = no_more;
+        keeps = held_law o s no_more;
         safe = proof.safe;
-        cleared = all_cleared named proof.safe holds;
+        cleared = all_cleared named proof.safe;
       }
   cleared_clearable (plan.Blocked order cause) h proof e = absurd (false≢true e)
   cleared_clearable (plan.Unfit v) h proof e = absurd (false≢true e)
@@ -70,9 +68,13 @@ module _ (o : Office) (s : MergeSet) (names : List Name)
   among_all : AreAmong (setting_of o s) names s.members
   among_all name h = has_is s.members name ∙ among name (sym (has_is names name) ∙ h)
 
-  part_keeps : KeepsRules o s → KeepsRules o (merge_set s.root names)
-  part_keeps keeps list within =
-      subst (Holds o.book) (λ i cell. sym (same_rows list cell) i) (keeps list (λ name h. among_all name (within name h)))
+  same_view : (list : List Name) → rows_with o s list ≡ rows_with o (merge_set s.root names) list
+  same_view list = λ i cell. sym (same_rows list cell) i
+
+  part_breaks_no_more : MembersBreakNoMore o s → MembersBreakNoMore o (merge_set s.root names)
+  part_breaks_no_more no_more fewer more part within =
+      subst (λ (view : View). BreaksNoMore o.book view (rows_with o (merge_set s.root names) more)) (same_view fewer)
+      (subst (BreaksNoMore o.book (rows_with o s fewer)) (same_view more) (no_more fewer more part (λ name h. among_all name (within name h))))
 
   part_mergeable : AllDiffer names → AreMergeable o s → AreMergeable o (merge_set s.root names)
   unfolding is_root
@@ -88,15 +90,16 @@ module _ (o : Office) (s : MergeSet) (names : List Name)
   part_clearable differ all =
       let part = merge_set s.root names in
       let mergeable = part_mergeable differ all.mergeable in
-      let keeps = part_keeps all.keeps in
-      let safe : Safe o part = λ commands lost quiet. safe_at o part _ _ mergeable keeps (quiet_list_law o part commands lost mergeable quiet) in
+      let no_more = part_breaks_no_more all.no_more in
+      let safe : Safe o part = λ commands lost quiet. safe_at o part _ _ mergeable no_more (quiet_list_law o part commands lost mergeable quiet) in
       let named = names_free o part (no_member_fault o part mergeable) in
       record {
         named = named;
         mergeable = mergeable;
-        keeps = keeps;
+        no_more = no_more;
+        keeps = held_law o part no_more;
         safe = safe;
-        cleared = all_cleared o part named safe (root_of_safe o part safe);
+        cleared = all_cleared o part named safe;
       }
 
 not_twice : (names : List Name) (r : Option ℕ) → option_map verdict.RepeatedMember r ≡ None → r ≡ None

@@ -10,8 +10,8 @@ use Rattle.clr_workspaces.specs.Marks.{Name}
 use Rattle.clr_steps.specs.Offices.{Office}
 use Rattle.clr_cert.specs.declared.certificates.Certificate.{Certificate}
 use Rattle.clr_merge_sets.specs.MergeSetNames.{merge_set}
-use Rattle.clr_plan.specs.declared.plans.Plan.{Plan}
-use Rattle.clr_plan.specs.declared.plans.Plan.TheVariants as plan
+use Rattle.clr_merge_sets.specs.declared.plans.Plan.{Plan}
+use Rattle.clr_merge_sets.specs.declared.plans.Plan.TheVariants as plan
 use Rattle.clr_choices.specs.ChoiceLines.{left_text, refusal_text}
 use Rattle.clr_choices.specs.Clearable.{AreClearable, IsPlanOf}
 use Rattle.clr_choices.specs.Progress.{IsAdded, IsChosen, IsFollowed, IsProgress, IsTried, taken_so_far}

@@ -4,8 +4,8 @@ use Rattle.clr_workspaces.specs.Marks.{Name}
 use Rattle.clr_steps.specs.Offices.{Office}
 use Rattle.clr_steps.specs.Quiet.{MergeSet}
 use Rattle.clr_merge_sets.specs.MergeSetNames.{merge_set}
-use Rattle.clr_plan.specs.declared.plans.Plan.{Plan}
-use Rattle.clr_plan.specs.Promises.{is_cleared, is_out_of_memory}
+use Rattle.clr_merge_sets.specs.declared.plans.Plan.{Plan}
+use Rattle.clr_merge_sets.specs.Plans.{is_cleared, is_out_of_memory}
 use Rattle.clr_choices.specs.Clearable.{AreClearable, IsPlanOf}
 
 -- a name that is tried, those taken before it, and the plan for which it is left, if it is

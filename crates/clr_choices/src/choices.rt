@@ -2,7 +2,7 @@
 ghost use Rattle.std.specs.Prelude.{◌≡◌, List, [], false, IfOk, IfSome};
 ghost use Rattle.clr_workspaces.specs.Marks.{Name};
 ghost use Rattle.clr_merge_sets.specs.MergeSetNames.{merge_set};
-ghost use Rattle.clr_plan.specs.declared.plans.Plan.TheVariants as plan;
+ghost use Rattle.clr_merge_sets.specs.declared.plans.Plan.TheVariants as plan;
 ghost use Rattle.clr_choices.specs.Clearable.{IsPlanOf};
 ghost use Rattle.clr_choices.specs.Progress.{IsChosen, IsProgress};
 

@@ -4,7 +4,6 @@ use Rattle.std.specs.List.Sorted.{IsStrictlySortedBy}
 use Rattle.std.specs.Ordering.{nat_cmp}
 use Rattle.clr_rows.specs.Contents.{Changes, Content, row_at}
 use Rattle.clr_rules.specs.declared.rules.Rule.{Rule}
-use Rattle.clr_rules.specs.Needs.{Holds}
 use Rattle.clr_rules.proofs.Elements.{among, contained}
 use Rattle.clr_needs.specs.declared.needs.Need.{Need}
 use Rattle.clr_needs.specs.Blocking.{IsBlockerOf}
@@ -59,7 +58,7 @@ module _ (rules : List Rule) (root : Content) (sets : List Changes) where
     ];
   }) within
 
-  module _ (list : List ℕ) (apart : AreApart sets) (holds : Holds rules (row_at root)) (ascending : IsStrictlySortedBy nat_cmp list) (below : (k : ℕ)
+  module _ (list : List ℕ) (apart : AreApart sets) (ascending : IsStrictlySortedBy nat_cmp list) (below : (k : ℕ)
       → Contains list k → k < length sets) where
     abbrev d : Setting ℕ
     d = setting_at rules root sets list
@@ -77,11 +76,14 @@ module _ (rules : List Rule) (root : Content) (sets : List Changes) where
     covered_holds_none covered clash smallest within =
         let (n, broken) = smallest.clash in
         let (a, b, uncovered) = broken.uncovered in
+        let (x, z, possible, touched) = broken.touched in
+        let once = subjects_once c n a x b z uncovered.possible possible in
+        let touched_here = subst (λ k. IsTouchedBy c n k b) once.0 (subst (λ k. IsTouchedBy c n x k) once.1 touched) in
         let inside : ((y : ℕ) → IsBlocker c n a b y → IsInside stands y) =
         (λ y h. stands_of list y (within y (((broken.blockers a b uncovered.possible).exactly y).1 h))) in
         let s = are_shown c d stands part n a b uncovered.possible inside in
         covered n
-        (s.first, s.second, s.possible, touched_down c d stands part n s.first s.second a b s.in_first s.in_second uncovered inside s.possible disjoint holds)
+        (s.first, s.second, s.possible, touched_down c d stands part n s.first s.second a b s.in_first s.in_second uncovered inside s.possible touched_here)
         (s.first, s.second, uncovered_down c d stands part n s.first s.second a b s.in_first s.in_second uncovered inside s.possible)
 
     none_held_covered : HoldNoClash c list → LeavesNoneUncovered d
@@ -102,5 +104,5 @@ module _ (rules : List Rule) (root : Content) (sets : List Changes) where
         (((blocks u.first u.second u.possible).exactly y).0 h) in stands_among list k y is)))
 
 pub clashes_decide : ClashesDecideSubsets
-clashes_decide rules root sets positions apart holds ascending below =
-    (covered_holds_none rules root sets positions apart holds ascending below, none_held_covered rules root sets positions apart holds ascending below)
+clashes_decide rules root sets positions apart ascending below =
+    (covered_holds_none rules root sets positions apart ascending below, none_held_covered rules root sets positions apart ascending below)

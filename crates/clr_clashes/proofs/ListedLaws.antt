@@ -152,8 +152,8 @@ module _ (c : Setting ℕ) (needs read : List Need) (touched : AreTouchedNeeds c
 -- a list of the smallest clashes decides what they do ----------------------------------------
 
 pub listed_clashes_decide : ListedClashesDecideSubsets
-listed_clashes_decide rules root sets ks positions apart holds are ascending below =
-    let decide = clashes_decide rules root sets positions apart holds ascending below in (
+listed_clashes_decide rules root sets ks positions apart are ascending below =
+    let decide = clashes_decide rules root sets positions apart ascending below in (
       λ covered j h. decide.0 covered j.members ((are.lists.exactly j).0 h).smallest,
       λ none. decide.1 (λ list smallest within. (let (j, h, inside) = are.every list smallest.clash in none j h (λ x in_it. within x (inside x in_it)))),
     )

@@ -3,7 +3,6 @@ use Rattle.std.proofs.Common.{◌≡◌, ◌∙◌, [], ◌⊎◌, inl, inr, ref
 use Rattle.std.specs.Prelude.{⊤}
 use Rattle.std.proofs.lemmas.Bool.{cases_Bool, false≢true, or_left, or_right}
 use Rattle.clr_rules.specs.Calls.{calls, serves}
-use Rattle.clr_rules.specs.Needs.{Holds}
 use Rattle.clr_needs.specs.declared.needs.Need.{Need}
 use Rattle.clr_needs.specs.declared.needs.VersionId.{VersionId}
 use Rattle.clr_needs.specs.Covers.{CoversAlone, CoverTogether, IsBlocker, IsLifeOf, IsUncovered, Lasts}
@@ -257,30 +256,22 @@ module _ {A B : Type 0} (c : Setting B) (d : Setting A) (stands : A → B → Ty
       pub uncovered_down : IsUncovered d n p q
       uncovered_down = record { possible = possible; not_alone = none_alone; not_together = neither_together }
 
-      -- a row of the root serves it, which one inside takes away
-      taken_down : HasServer c [] n a b → IsTouchedBy d n p q
-      taken_down s = by s.lived.life refl
+      -- what touches it in the whole touches it inside: a subject is new, or one inside takes a row away that serves it
+      pub touched_down : IsTouchedBy c n a b → IsTouchedBy d n p q
+      touched_down (inl new) = inl new
+      touched_down (inr (v, m, serve, is)) = by m.life refl
         where
           changed : (y : B) (l : Lifetime A) → IsLifeIn stands l (Without y) → IsInside stands y → IsChanged l
           changed y (Without x) h in_it = tt
           changed y Always h in_it = absurd (h in_it)
           changed y (With x) h in_it = absurd h
 
-          by : (m : Lifetime B) → s.lived.life ≡ m → IsTouchedBy d n p q
-          by Always e = absurd (uncovered.not_alone s.id (s.lived, s.serves, inl e))
-          by (With y) e = absurd (false≢true (sym (ap (lives c []) e) ∙ s.lives))
+          by : (o : Lifetime B) → m.life ≡ o → IsTouchedBy d n p q
+          by Always e = absurd (subst IsChanged e is)
+          by (With y) e = absurd (subst IsChanged e is)
           by (Without y) e =
-              let (l, it, same) = down_serves s.id s.lived s.serves (subst (λ k. ¬ (IsHidden stands k)) (sym e) (λ h. h)) in
-              inr (s.id, l, it, changed y l.life (subst (IsLifeIn stands l.life) e same.life) (inside y (inr (inr (s.id, s.lived, s.serves, e)))))
-
-      pub touched_down : AreDisjoint c → Holds c.rules c.root → IsTouchedBy d n p q
-      touched_down apart holds = elim (cases_Bool n.first.fresh) [
-        | inl new ↦ inl (or_left n.first.fresh (is_fresh n.second) new)
-        | inr old ↦ elim (cases_Bool (is_fresh n.second)) [
-          | inl new ↦ inl (or_right n.first.fresh (is_fresh n.second) new)
-          | inr old_too ↦ taken_down (root_server c n a b uncovered.possible apart holds old old_too)
-        ]
-      ]
+              let (l, it, same) = down_serves v m serve (subst (λ k. ¬ (IsHidden stands k)) (sym e) (λ h. h)) in
+              inr (v, l, it, changed y l.life (subst (IsLifeIn stands l.life) e same.life) (inside y (inr (inr (v, m, serve, e)))))
 
   -- ---- subjects in the part
 

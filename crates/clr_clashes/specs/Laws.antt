@@ -2,20 +2,18 @@
 use Rattle.std.specs.Prelude.{◌↔◌, ◌<◌, ℕ, List, Contains, length}
 use Rattle.std.specs.List.Sorted.{IsStrictlySortedBy}
 use Rattle.std.specs.Ordering.{nat_cmp}
-use Rattle.clr_rows.specs.Contents.{Changes, Content, row_at}
+use Rattle.clr_rows.specs.Contents.{Changes, Content}
 use Rattle.clr_rules.specs.declared.rules.Rule.{Rule}
-use Rattle.clr_rules.specs.Needs.{Holds}
 use Rattle.clr_needs.specs.Members.{AreApart, setting}
 use Rattle.clr_needs.specs.Parts.{setting_at}
 use Rattle.clr_clashes.specs.Clashes.{HoldNoClash, LeavesNoneUncovered}
 use Rattle.clr_clashes.specs.ListedClashes.{AreSmallestClashes, HoldNoneOf, ListedClash}
 
--- where every rule holds in the root and no cell is changed by two members, some of the members alone leave no touched need uncovered
+-- where no cell is changed by two members, some of the members alone leave no touched need uncovered
 -- exactly where they hold none of the smallest clashes of all
 abbrev pub ClashesDecideSubsets : Type 0
 ClashesDecideSubsets = (rules : List Rule) (root : Content) (sets : List Changes) (positions : List ℕ)
     → AreApart sets
-    → Holds rules (row_at root)
     → IsStrictlySortedBy nat_cmp positions
     → ((k : ℕ) → Contains positions k → k < length sets)
     → LeavesNoneUncovered (setting_at rules root sets positions) ↔ HoldNoClash (setting rules root sets) positions
@@ -24,7 +22,6 @@ ClashesDecideSubsets = (rules : List Rule) (root : Content) (sets : List Changes
 abbrev pub ListedClashesDecideSubsets : Type 0
 ListedClashesDecideSubsets = (rules : List Rule) (root : Content) (sets : List Changes) (ks : List ListedClash) (positions : List ℕ)
     → AreApart sets
-    → Holds rules (row_at root)
     → AreSmallestClashes (setting rules root sets) ks
     → IsStrictlySortedBy nat_cmp positions
     → ((k : ℕ) → Contains positions k → k < length sets)

@@ -7,8 +7,7 @@
 //!   exactly its members break, in the order of these needs; and each clash holds one that is
 //!   listed. It fails only if memory runs out. The touched needs are gone over once; no subset of
 //!   the members is tried.
-//! - `clashes_decide_subsets`: where every rule holds in the root and no cell is changed by two
-//!   members, each touched need of some of the members, in the scene of these alone, is covered
+//! - `clashes_decide_subsets`: where no cell is changed by two members, each touched need of some of the members, in the scene of these alone, is covered
 //!   exactly where they hold none of the smallest clashes. `listed_clashes_decide_subsets`: each is
 //!   covered exactly where they hold none of a list of the smallest clashes.
 #![tactic(auto)]

@@ -2,12 +2,13 @@
 use Rattle.std.proofs.Common.{◌≡◌, ◌⊎◌, Bool, true, false, not, ◌&&◌, cond, List, [], ◌∷◌, ◌++◌, inl, inr, refl, sym, ap, ◌∙◌, subst, Option, Some, None}
 use Rattle.std.proofs.Common.{is_some}
 use Rattle.std.specs.Option.{option_map, option_map_or}
-use Rattle.std.proofs.lemmas.Bool.{false≢true, true≢false}
+use Rattle.std.proofs.lemmas.Bool.{false≢true, true≢false, or_right}
 use Rattle.std.proofs.lemmas.List.{append-nil}
 use Rattle.clr_rows.specs.declared.cells.CellId.{CellId}
 use Rattle.clr_rows.specs.Contents.{Content, row_at}
 use Rattle.clr_rules.specs.declared.needs.Broken.{Broken}
-use Rattle.clr_rules.specs.Needs.{Holds}
+use Rattle.clr_rules.specs.declared.rules.Rule.{Rule}
+use Rattle.clr_rules.specs.Needs.{BreaksNoMore, View}
 use Rattle.clr_workspaces.specs.Marks.{Name}
 use Rattle.clr_workspaces.specs.Workspaces.{Workspace}
 use Rattle.clr_needs.specs.Settings.{AreAmong}
@@ -18,17 +19,19 @@ use Rattle.clr_steps.specs.declared.commands.Reply.TheVariants.{Done, LiveIsFixe
 use Rattle.clr_steps.specs.Names.{is_live}
 use Rattle.clr_steps.specs.Offices.{Office, content_of, find_name, is_kept, workspace}
 use Rattle.clr_steps.specs.Effects.{after_merge, after_refresh, after_remove, effect, merged_content}
-use Rattle.clr_steps.specs.Quiet.{Member, MergeSet, is_member, member_of}
-use Rattle.clr_steps.specs.Refusals.{breaks, first_broken, first_of, has_child, name_in, refusal, refusal_on, refusals_of, when}
+use Rattle.clr_steps.specs.Quiet.{Member, MergeSet, is_member, is_root, member_of}
+use Rattle.clr_steps.specs.Refusals.{above_or, breaks, broken_where, first_newly_broken, first_of, has_child, name_in, refresh_breaks, refusal, refusal_on, refusals_of, when}
 use Rattle.clr_steps.specs.Steps.{Answer, answer, refused_or_done, step}
-use Rattle.clr_steps.proofs.FindLemmas.{found_name}
-use Rattle.clr_steps.proofs.NeedLemmas.{none_if_holds}
+use Rattle.clr_steps.proofs.FindLemmas.{found_name, same_is}
+use Rattle.clr_steps.proofs.NeedLemmas.{none_if_no_more}
 use Rattle.clr_steps.proofs.SchemaLemmas.{schema_law}
 use Rattle.clr_clearance.specs.Invariants.{Invariant}
 use Rattle.clr_clearance.specs.Laws.{MergeLaw, RefreshLaw}
 use Rattle.clr_clearance.specs.Runs.{merged_by}
 use Rattle.clr_clearance.specs.Safety.{IsMergeOf, IsSafeAnswer, is_clash, is_ready}
-use Rattle.clr_clearance.specs.MergeSets.{AreMergeable, KeepsRules, rows_with, setting_of}
+use Rattle.clr_clearance.specs.MergeSets.{AreMergeable, MembersBreakNoMore, rows_with, setting_of}
+use Rattle.clr_clearance.proofs.MergeSetLemmas.{content_above}
+use Rattle.clr_clearance.proofs.StaticLemmas.{is_merge_of}
 use Rattle.clr_clearance.proofs.EffectLemmas.{member_refreshed, refresh_steps, shown}
 use Rattle.clr_clearance.proofs.MemberLemmas.{it, merge_lasts, merged_rows, no_conflict_now, not_root, part_with, refresh_lasts, remove_lasts}
 
@@ -57,10 +60,9 @@ of_absent o c e = by (is_live (name_in c)) refl
         ap (λ b. cond b (Some LiveIsFixed) (option_map_or (λ v. first_of (refusals_of o v c)) (workspace o (name_in c)) (Some NoWorkspace))) h
         ∙ ap (λ r. option_map_or (λ v. first_of (refusals_of o v c)) r (Some NoWorkspace)) e)
 
-pub broken_or_none : (o : Office) (name : Name) (content : Content) → (breaks o name content ≡ None)
-    ⊎ ((need : Broken) × (breaks o name content ≡ Some (RuleBroken need)))
-unfolding breaks
-broken_or_none o name content = by (is_kept o name) (first_broken o.book content)
+where_or_none : (kept : Bool) (book : List Rule) (before content : Content) → (broken_where kept book before content ≡ None)
+    ⊎ ((need : Broken) × (broken_where kept book before content ≡ Some (RuleBroken need)))
+where_or_none kept book before content = by kept (first_newly_broken book before content)
   where
     by : (b : Bool) (r : Option Broken) → (cond b (option_map RuleBroken r) None ≡ None)
         ⊎ ((need : Broken) × (cond b (option_map RuleBroken r) None ≡ Some (RuleBroken need)))
@@ -68,9 +70,18 @@ broken_or_none o name content = by (is_kept o name) (first_broken o.book content
     by true (Some need) = inr (need, refl)
     by false r = inl refl
 
-none_breaks : (o : Office) (name : Name) (content : Content) → Holds o.book (row_at content) → breaks o name content ≡ None
+pub broken_or_none : (o : Office) (name : Name) (content : Content) → (breaks o name content ≡ None)
+    ⊎ ((need : Broken) × (breaks o name content ≡ Some (RuleBroken need)))
 unfolding breaks
-none_breaks o name content holds = ap (λ r. cond (is_kept o name) (option_map RuleBroken r) None) (none_if_holds o.book content holds) ∙ by (is_kept o name)
+broken_or_none o name content = where_or_none (is_kept o name) o.book (content_of o name) content
+
+refresh_or_none : (o : Office) (w : Workspace) → (refresh_breaks o w ≡ None) ⊎ ((need : Broken) × (refresh_breaks o w ≡ Some (RuleBroken need)))
+unfolding refresh_breaks
+refresh_or_none o w = where_or_none (is_kept o w.name) o.book (above_or o w w.current) (merged_content o w)
+
+none_where : (kept : Bool) (book : List Rule) (before content : Content) → BreaksNoMore book (row_at before) (row_at content)
+    → broken_where kept book before content ≡ None
+none_where kept book before content no_more = ap (λ r. cond kept (option_map RuleBroken r) None) (none_if_no_more book before content no_more) ∙ by kept
   where
     by : (b : Bool) → cond b None None ≡ option_map RuleBroken None
     by true = refl
@@ -128,12 +139,12 @@ module _ (first : Office) (merge_set : MergeSet) (mergeable : AreMergeable first
       ∙ ap (λ r. first_of (when (remove && has_child now w.name) NotLeaf ∷ r ∷ breaks now w.parent (merged_content now w) ∷ []))
       (no_conflict_now first merge_set mergeable names now inv name member w e)
 
-  refresh_refusal : (w : Workspace) → workspace now name ≡ Some w → refusal now (command.Refresh name) ≡ breaks now w.name (merged_content now w)
+  refresh_refusal : (w : Workspace) → workspace now name ≡ Some w → refusal now (command.Refresh name) ≡ refresh_breaks now w
   unfolding refusal refusals_of
   refresh_refusal w e =
       of_standing now (command.Refresh name) w e
-      ∙ ap (λ r. first_of (r ∷ breaks now w.name (merged_content now w) ∷ [])) (no_conflict_now first merge_set mergeable names now inv name member w e)
-      ∙ only (breaks now w.name (merged_content now w))
+      ∙ ap (λ r. first_of (r ∷ refresh_breaks now w ∷ [])) (no_conflict_now first merge_set mergeable names now inv name member w e)
+      ∙ only (refresh_breaks now w)
     where
       only : (r : Option Reply) → first_of (r ∷ []) ≡ r
       only None = refl
@@ -164,7 +175,7 @@ module _ (first : Office) (merge_set : MergeSet) (mergeable : AreMergeable first
     where
       by : (r : Option Workspace) → workspace now name ≡ r → IsAnswered now (command.Refresh name) (after_refresh now)
       by None e = absent_answered now (command.Refresh name) (after_refresh now) refl e
-      by (Some w) e = elim (broken_or_none now w.name (merged_content now w)) [
+      by (Some w) e = elim (refresh_or_none now w) [
         | inl none ↦ performed w e (performed_as now (command.Refresh name) (after_refresh now) w e refl (refresh_refusal w e ∙ none))
         | inr (need, broken) ↦ refused (RuleBroken need) refl (step_as now (command.Refresh name) _ (refresh_refusal w e ∙ broken))
       ]
@@ -215,21 +226,45 @@ module _ (first : Office) (merge_set : MergeSet) (mergeable : AreMergeable first
           subst (λ (a : Answer). Invariant first merge_set names a.office) (sym e)
           (refresh_lasts first merge_set mergeable names now inv w (its_member w is) (its_own w is) (book_as (command.Refresh name) (after_refresh now w) e))
 
-  -- where every rule holds in each merge, no answer is a clash --------------------------------------------------
+  -- where no merge breaks more, no answer is a clash ---------------------------------------------------------
 
-  module _ (keeps : KeepsRules first merge_set) where
+  module _ (keeps : MembersBreakNoMore first merge_set) where
     pub is_merge : (others : List Name) (content : Content) → AreAmong (setting_of first merge_set) others merge_set.members
         → ((cell : CellId) → row_at content cell
         ≡ rows_with first merge_set others cell) → IsMergeOf first merge_set others content
-    is_merge others content part rows = record { rows = rows; holds = subst (Holds first.book) (λ i cell. sym (rows cell) i) (keeps others part) }
+    is_merge = is_merge_of first merge_set keeps
 
     merged_is : (w : Workspace) → workspace now name ≡ Some w → IsMergeOf first merge_set (name ∷ names) (merged_content now w)
     merged_is w e = is_merge (name ∷ names) (merged_content now w) (part_with first merge_set mergeable names now inv name member)
         (merged_rows first merge_set mergeable names now inv name member w e)
 
-    unbroken : (above : Name) (w : Workspace) → workspace now name ≡ Some w → breaks now above (merged_content now w) ≡ None
-    unbroken above w e = none_breaks now above (merged_content now w) (subst (λ b. Holds b (row_at (merged_content now w))) (sym inv.book)
-        (merged_is w e).holds)
+    under_root : (w : Workspace) → workspace now name ≡ Some w → is_root merge_set w.parent ≡ true
+    under_root w e = (it first merge_set mergeable names now inv name member w e).under
+
+    -- the parent's content, taken over by the changes, breaks no more than it does now
+    merged_no_more : (w : Workspace) → workspace now name ≡ Some w → BreaksNoMore now.book (row_at (content_of now w.parent)) (row_at (merged_content now w))
+    merged_no_more w e =
+        let more = keeps names (name ∷ names) (λ n h. or_right _ _ h) (part_with first merge_set mergeable names now inv name member) in
+        let of_parent : (cell : CellId) → rows_with first merge_set names cell ≡ row_at (content_of now w.parent) cell =
+        λ cell. sym (ap (λ content. row_at content cell) (content_above now merge_set w (under_root w e)) ∙ inv.rows cell) in
+        subst (λ (book : List Rule). BreaksNoMore book (row_at (content_of now w.parent)) (row_at (merged_content now w))) (sym inv.book)
+        (subst (λ (view : View). BreaksNoMore first.book view (row_at (merged_content now w))) (λ i cell. of_parent cell i)
+        (subst (λ (view : View). BreaksNoMore first.book (rows_with first merge_set names) view)
+        (λ i cell. sym (merged_rows first merge_set mergeable names now inv name member w e cell) i) more))
+
+    unbroken : (w : Workspace) → workspace now name ≡ Some w → breaks now w.parent (merged_content now w) ≡ None
+    unfolding breaks
+    unbroken w e = none_where (is_kept now w.parent) now.book (content_of now w.parent) (merged_content now w) (merged_no_more w e)
+
+    kept_parent : (w : Workspace) → workspace now name ≡ Some w → is_kept now w.parent ≡ true
+    unfolding is_root
+    kept_parent w e = ap (is_kept now) (same_is w.parent merge_set.root (under_root w e)) ∙ inv.kept
+
+    unbroken_refresh : (w : Workspace) → workspace now name ≡ Some w → refresh_breaks now w ≡ None
+    unfolding refresh_breaks
+    unbroken_refresh w e = none_where (is_kept now w.name) now.book (above_or now w w.current) (merged_content now w)
+        (subst (λ (before : Content). BreaksNoMore now.book (row_at before) (row_at (merged_content now w)))
+        (sym (ap (λ b. cond b (content_of now w.parent) w.current) (kept_parent w e))) (merged_no_more w e))
 
     merge_safe : (remove : Bool) → IsSafeAnswer now (command.Merge name remove)
     unfolding refusal
@@ -250,7 +285,7 @@ module _ (first : Office) (merge_set : MergeSet) (mergeable : AreMergeable first
             (λ ready. absurd (leaf (is_some (workspace now name)) (remove && has_child now name) ready (ap (λ n. remove && has_child now n) (sym (same w e))
             ∙ h)))
         standing w e false h = safe_as now (command.Merge name remove) _ (merge_refusal remove w e
-            ∙ ap (λ b. first_of (when b NotLeaf ∷ breaks now w.parent (merged_content now w) ∷ [])) h ∙ ap (λ r. first_of (r ∷ [])) (unbroken w.parent w e))
+            ∙ ap (λ b. first_of (when b NotLeaf ∷ breaks now w.parent (merged_content now w) ∷ [])) h ∙ ap (λ r. first_of (r ∷ [])) (unbroken w e))
             refl (λ ready. refl)
 
         by : (r : Option Workspace) → workspace now name ≡ r → IsSafeAnswer now (command.Merge name remove)
@@ -269,7 +304,7 @@ module _ (first : Office) (merge_set : MergeSet) (mergeable : AreMergeable first
           | inl r ↦ safe_as now (command.Refresh name) _ r refl (λ h. absurd (false≢true (sym (ap is_some e) ∙ h)))
           | inr r ↦ safe_as now (command.Refresh name) _ r refl (λ h. absurd (false≢true (sym (ap is_some e) ∙ h)))
         ]
-        by (Some w) e = safe_as now (command.Refresh name) _ (refresh_refusal w e ∙ unbroken w.name w e) refl (λ h. refl)
+        by (Some w) e = safe_as now (command.Refresh name) _ (refresh_refusal w e ∙ unbroken_refresh w e) refl (λ h. refl)
 
     -- what a refresh leaves in the member
     refreshed_is : (v : Workspace) → (step now (command.Refresh name)).reply ≡ Done → workspace (step now (command.Refresh name)).office name ≡ Some v

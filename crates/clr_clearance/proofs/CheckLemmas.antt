@@ -2,7 +2,7 @@
 use Rattle.std.proofs.Common.{◌≡◌, ℕ, zero, suc, ◌+◌, ◌<◌, true, List, [], ◌∷◌, ◌++◌, inl, inr, refl, sym, ap, ◌∙◌, subst, arith, Option, Some, None, slice_get}
 use Rattle.std.specs.List.Sorted.{IsStrictlySortedBy}
 use Rattle.std.specs.declared.cmp.Ordering.TheVariants.{Less}
-use Rattle.clr_rules.specs.Needs.{broken_needs, broken_below}
+use Rattle.clr_rules.specs.Needs.{broken_needs, broken_below, newly_broken_needs}
 use Rattle.clr_rules.proofs.Elements.{Among, among, contained, each_of, not_both, not_itself}
 use Rattle.clr_needs.specs.declared.needs.Need.{Need}
 use Rattle.clr_needs.specs.declared.needs.VersionId.{VersionId}
@@ -17,7 +17,7 @@ use Rattle.clr_steps.specs.Names.{same_name, is_live}
 use Rattle.clr_steps.specs.Offices.{Office, content_of, is_kept, stands, workspace}
 use Rattle.clr_steps.specs.Effects.{after_create, effect, set_kept}
 use Rattle.clr_steps.specs.Quiet.{MergeSet, is_quiet, is_root}
-use Rattle.clr_steps.specs.Refusals.{breaks, depth_within, first_broken, refusal, refusals_of}
+use Rattle.clr_steps.specs.Refusals.{depth_within, first_newly_broken, hold_breaks, refusal, refusals_of}
 use Rattle.clr_steps.specs.Steps.{Answer, AreAnswers, is_lost, lost_in, step, step_or_lost}
 use Rattle.clr_rows.specs.Names.{is_good_name}
 use Rattle.clr_steps.proofs.RunLemmas.{lost_later, more_law}
@@ -27,8 +27,8 @@ use Rattle.clr_clearance.specs.Runs.{AreQuiet}
 use Rattle.clr_clearance.specs.Verdicts.{names_fault}
 
 pub fault_example : FaultExample
-unfolding names_fault refusal refusals_of effect step same_name is_live workspace stands is_kept content_of after_create set_kept breaks first_broken
-    broken_needs broken_below depth_within is_good_name is_root
+unfolding names_fault refusal refusals_of effect step same_name is_live workspace stands is_kept content_of after_create set_kept hold_breaks first_newly_broken
+    newly_broken_needs broken_needs broken_below depth_within is_good_name is_root
 fault_example = refl
 
 -- needs ------------------------------------------------------------------------------------------------------

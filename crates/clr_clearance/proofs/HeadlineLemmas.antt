@@ -3,7 +3,8 @@ use Rattle.std.proofs.Common.{◌≡◌, ℕ, Bool, true, false, List, sym, ◌�
 use Rattle.std.proofs.lemmas.Bool.{false≢true}
 use Rattle.clr_rows.specs.declared.cells.CellId.{CellId}
 use Rattle.clr_rows.specs.Contents.{row_at}
-use Rattle.clr_rules.specs.Needs.{Holds}
+use Rattle.clr_rules.specs.declared.rules.Rule.{Rule}
+use Rattle.clr_rules.specs.Needs.{BreaksNoMore, Holds}
 use Rattle.clr_workspaces.specs.Marks.{Name}
 use Rattle.clr_needs.specs.Settings.{AreAmong}
 use Rattle.clr_steps.specs.declared.commands.Command.{Command}
@@ -56,18 +57,24 @@ module _ (o : Office) (merge_set : MergeSet) (mergeable : AreMergeable o merge_s
               ∙ sym (merged_are_members (merged_after o merge_set others lost_of_others)
               (quiet_list_law o merge_set others lost_of_others mergeable quiet_too).part name e)
 
-  holds_before : Safe o merge_set → (commands : List Command) (lost : ℕ → Bool) → AreQuiet o merge_set commands lost → (at : ℕ)
+  no_more_before : Safe o merge_set → (commands : List Command) (lost : ℕ → Bool) → AreQuiet o merge_set commands lost → (at : ℕ)
+      → BreaksNoMore o.book (row_at (root_content o merge_set)) (row_at (root_content (office_before o commands lost at) merge_set))
+  no_more_before safe commands lost quiet at = (safe (take at commands) lost (first_quiet o merge_set commands lost at quiet)).root.no_more
+
+  holds_before : Safe o merge_set → RootHolds o merge_set → (commands : List Command) (lost : ℕ → Bool) → AreQuiet o merge_set commands lost → (at : ℕ)
       → RootHolds (office_before o commands lost at) merge_set
-  holds_before safe commands lost quiet at =
+  holds_before safe holds commands lost quiet at =
       let now = safe (take at commands) lost (first_quiet o merge_set commands lost at quiet) in
-      subst (λ book. Holds book (row_at (root_content (office_before o commands lost at) merge_set))) (sym now.book) now.root.holds
+      subst (λ (book : List Rule). Holds book (row_at (root_content (office_before o commands lost at) merge_set))) (sym now.book)
+      (λ ask s t need. no_more_before safe commands lost quiet at ask s t (λ before. holds ask s t before) need)
 
 pub headline : HeadlineLaw
-headline o merge_set entries clear holds =
+headline o merge_set entries clear =
     let covers = clear_covers o merge_set entries clear in
-    let safe = safe_law o merge_set entries covers holds in
+    let safe = safe_law o merge_set entries covers in
     record {
       no_clash = λ commands lost. quiet_reply o merge_set commands lost safe;
+      no_more = no_more_before o merge_set covers.mergeable safe;
       holds = holds_before o merge_set covers.mergeable safe;
       same_rows = same_rows o merge_set covers.mergeable;
       all_merged = λ commands others lost lost_of_others quiet quiet_too all all_too.

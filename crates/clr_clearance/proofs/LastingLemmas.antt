@@ -7,8 +7,7 @@ use Rattle.std.proofs.lemmas.Bool.{cases_Bool, false≢true, true≢false, or_ca
 use Rattle.std.proofs.lemmas.Option.{slice_get_within}
 use Rattle.clr_rows.specs.declared.cells.CellId.{CellId}
 use Rattle.clr_rows.specs.declared.rows.Row.{Row}
-use Rattle.clr_rows.specs.Contents.{conflicts, row_at}
-use Rattle.clr_rules.specs.Needs.{Holds}
+use Rattle.clr_rows.specs.Contents.{conflicts}
 use Rattle.clr_workspaces.specs.Marks.{Name}
 use Rattle.clr_workspaces.specs.Workspaces.{Workspace}
 use Rattle.clr_workspaces.specs.Operations.{own_changes}
@@ -18,7 +17,6 @@ use Rattle.clr_needs.specs.Settings.{Setting, changer, has as has_by}
 use Rattle.clr_needs.proofs.Merges.{IsChanger, changer_is, standing_row, taken_is, taken_over}
 use Rattle.clr_needs.proofs.PositionLaws.{range_has}
 use Rattle.clr_steps.specs.Names.{same_name, has}
-use Rattle.clr_steps.specs.declared.commands.Command.{Command}
 use Rattle.clr_steps.specs.Offices.{Office, content_of, workspace}
 use Rattle.clr_steps.specs.Quiet.{MergeSet, is_member, is_root, root_content}
 use Rattle.clr_steps.specs.Readings.{conflicts_in}
@@ -29,8 +27,7 @@ use Rattle.clr_steps.proofs.WorkspaceLemmas.{none_listed}
 use Rattle.clr_clearance.specs.Invariants.{Invariant}
 use Rattle.clr_clearance.specs.PlanLaws.{LastingCoverLaw, LastingCoverReorderedLaw, LastingLaw, LastingReorderedLaw, StaysClear}
 use Rattle.clr_clearance.specs.Plans.{standing}
-use Rattle.clr_clearance.specs.Runs.{AreQuiet}
-use Rattle.clr_clearance.specs.MergeSets.{AreMergeable, Covers, KeepsRules, RootHolds, changed_by, is_child, rows_with, setting_of}
+use Rattle.clr_clearance.specs.MergeSets.{AreMergeable, Covers, changed_by, is_child, rows_with, setting_of}
 use Rattle.clr_clearance.proofs.CarryLemmas.{AreIdle, Changes, Fate, IsLater, Gone, Merged, Stays, carried, changes_of, idle_or_changed, on_entry}
 use Rattle.clr_clearance.proofs.ClearLemmas.{AllDiffer, has_at, no_member_fault, position_of}
 use Rattle.clr_clearance.proofs.MemberLemmas.{again, it, no_conflict_now, not_root}
@@ -39,7 +36,7 @@ use Rattle.clr_clearance.proofs.PlanLemmas.{safe_plan}
 use Rattle.clr_clearance.proofs.ReorderedLemmas.{covers_reordered}
 use Rattle.clr_clearance.proofs.SafeLemmas.{quiet_list_law, safe_law}
 use Rattle.clr_clearance.proofs.MergeSetLemmas.{changed_by-standing, order_law, untaken}
-use Rattle.clr_clearance.proofs.StaticLemmas.{apart_by_position, keeps_rules, numbered_is}
+use Rattle.clr_clearance.proofs.StaticLemmas.{apart_by_position, numbered_is}
 
 -- some of a list of names ------------------------------------------------------------------------------------------
 
@@ -174,12 +171,6 @@ module _ (first : Office) (merge_set : MergeSet) (mergeable : AreMergeable first
         mergeable.apart m n cell (has_is merge_set.members m ∙ one.0) (has_is merge_set.members n ∙ two.0) (changed_before m cell one.0 one.1 changes)
         (changed_before n cell two.0 two.1 changes_too));
   }
-
-  standing_holds : KeepsRules first merge_set → RootHolds now (standing now merge_set)
-  unfolding root_content
-  standing_holds keeps =
-      subst (λ b. Holds b (row_at (content_of now merge_set.root))) (sym inv.book) (subst (Holds first.book) (λ i cell. sym (inv.rows cell) i)
-      (keeps names inv.part))
 
   -- what became of each member -----------------------------------------------------------------------------------------
 
@@ -327,13 +318,12 @@ module _ (first : Office) (merge_set : MergeSet) (mergeable : AreMergeable first
         },
       )
 
--- where entries cover a merge set and every rule holds in its root, all is clear
-all_clear : (o : Office) (merge_set : MergeSet) (entries : List Entry) → Covers o merge_set entries → RootHolds o merge_set → StaysClear o merge_set
-all_clear o merge_set entries covers holds = record {
+-- where entries cover a merge set, all is clear
+all_clear : (o : Office) (merge_set : MergeSet) (entries : List Entry) → Covers o merge_set entries → StaysClear o merge_set
+all_clear o merge_set entries covers = record {
   free = no_member_fault o merge_set covers.mergeable;
   mergeable = covers.mergeable;
-  holds = holds;
-  unblocked = λ order cause. safe_plan o merge_set order cause (safe_law o merge_set entries covers holds) holds;
+  unblocked = λ order cause. safe_plan o merge_set order cause (safe_law o merge_set entries covers);
 }
 
 pub lasting_cover : LastingCoverLaw
@@ -341,19 +331,11 @@ lasting_cover o merge_set entries commands lost covers quiet = standing_covered 
     (quiet_list_law o merge_set commands lost covers.mergeable
     quiet) entries covers
 
-pub lasting_holds : (o : Office) (merge_set : MergeSet) (entries : List Entry) (commands : List Command) (lost : ℕ → Bool) → Covers o merge_set entries
-    → RootHolds o merge_set
-    → AreQuiet o merge_set commands lost
-    → let now = (run o commands lost).office in RootHolds now (standing now merge_set)
-lasting_holds o merge_set entries commands lost covers holds quiet =
-    standing_holds o merge_set covers.mergeable _ _ (quiet_list_law o merge_set commands lost covers.mergeable quiet)
-    (keeps_rules o merge_set entries covers holds)
-
 pub lasting : LastingLaw
-lasting o merge_set entries commands lost covers holds quiet =
+lasting o merge_set entries commands lost covers quiet =
     let now = (run o commands lost).office in
     let (others, covers_now) = lasting_cover o merge_set entries commands lost covers quiet in
-    all_clear now (standing now merge_set) others covers_now (lasting_holds o merge_set entries commands lost covers holds quiet)
+    all_clear now (standing now merge_set) others covers_now
 
 -- in whichever order the members that stand are named ------------------------------------------------------------------
 
@@ -364,9 +346,7 @@ lasting_cover_reordered o merge_set entries commands lost covers quiet other sam
     (others, covers_reordered now (standing now merge_set) other others same once covers_now)
 
 pub lasting_reordered : LastingReorderedLaw
-unfolding root_content
-lasting_reordered o merge_set entries commands lost covers holds quiet other same once =
+lasting_reordered o merge_set entries commands lost covers quiet other same once =
     let now = (run o commands lost).office in
     let (others, covers_now) = lasting_cover_reordered o merge_set entries commands lost covers quiet other same once in
-    let holds_now = lasting_holds o merge_set entries commands lost covers holds quiet in
-    all_clear now other others covers_now (subst (λ root. Holds now.book (row_at (content_of now root))) (sym same.root) holds_now)
+    all_clear now other others covers_now

@@ -4,7 +4,6 @@ use Rattle.std.specs.Option.{option_map}
 use Rattle.std.proofs.lemmas.Bool.{false≢true, true≢false, or_cases, or_left, or_right}
 use Rattle.std.proofs.lemmas.Option.{slice_get-map}
 use Rattle.clr_workspaces.specs.Marks.{Name}
-use Rattle.clr_needs.specs.Settings.{AreAmong, has as has_by}
 use Rattle.clr_steps.specs.Names.{same_name, has}
 use Rattle.clr_steps.specs.Offices.{Office}
 use Rattle.clr_steps.specs.Quiet.{MergeSet, is_member, is_quiet}
@@ -14,7 +13,6 @@ use Rattle.clr_clearance.specs.PlanLaws.{BlockedPlanLaw, ClearedIsSafeLaw, Clear
 use Rattle.clr_clearance.specs.Plans.{is_order_refused, merges, members_at, of_conflict, of_shared, of_unpicked}
 use Rattle.clr_clearance.specs.Runs.{AreQuiet, office_before}
 use Rattle.clr_clearance.specs.Safety.{Safe, is_clash}
-use Rattle.clr_clearance.specs.MergeSets.{setting_of}
 use Rattle.clr_clearance.proofs.ClearLemmas.{has_at, mergeable_of}
 use Rattle.clr_clearance.proofs.NameLemmas.{has_is, has_last}
 use Rattle.clr_clearance.proofs.PickLemmas.{picked_cover}
@@ -30,16 +28,16 @@ cleared_plan o merge_set entries cleared = record {
 }
 
 pub cleared_safe : ClearedIsSafeLaw
-cleared_safe o merge_set entries cleared holds = safe_law o merge_set entries (cleared_plan o merge_set entries cleared) holds
+cleared_safe o merge_set entries cleared = safe_law o merge_set entries (cleared_plan o merge_set entries cleared)
 
 pub blocked_plan : BlockedPlanLaw
-blocked_plan o merge_set order cause (of_conflict at cell count none found same e) holds = ap
+blocked_plan o merge_set order cause (of_conflict at cell count none found same e) = ap
     (λ positions. is_order_refused o (members_at merge_set positions)) same
     ∙ conflict_is_refused o merge_set at cell count found
-blocked_plan o merge_set order cause (of_shared cell i j none shared same e) holds = ap (λ positions. is_order_refused o (members_at merge_set positions)) same
+blocked_plan o merge_set order cause (of_shared cell i j none shared same e) = ap (λ positions. is_order_refused o (members_at merge_set positions)) same
     ∙ shared_is_refused o merge_set cell i j none shared
-blocked_plan o merge_set order cause (of_unpicked n none apart first blocks e) holds = unpicked_is_refused o merge_set n order
-    (mergeable_of o merge_set none apart) holds
+blocked_plan o merge_set order cause (of_unpicked n none apart first blocks e) = unpicked_is_refused o merge_set n order
+    (mergeable_of o merge_set none apart)
     first.touched first.none blocks
 
 -- merges of members, one after another -------------------------------------------------------------------------
@@ -95,6 +93,6 @@ safe_order o merge_set names safe part = safe_calm o merge_set names [] safe (λ
     ∙ part k (has_is names k ∙ h))
 
 pub safe_plan : SafePlanLaw
-safe_plan o merge_set order cause safe holds blocked =
-    true≢false (sym (blocked_plan o merge_set order cause blocked holds) ∙ safe_order o merge_set (members_at merge_set order) safe
+safe_plan o merge_set order cause safe blocked =
+    true≢false (sym (blocked_plan o merge_set order cause blocked) ∙ safe_order o merge_set (members_at merge_set order) safe
     (names_part o merge_set order))

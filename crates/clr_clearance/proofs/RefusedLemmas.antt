@@ -1,14 +1,20 @@
 -- Orders of merges in which one is refused.
-use Rattle.std.proofs.Common.{◌≡◌, ◌⊎◌, ℕ, suc, ◌+◌, Bool, true, false, cond, List, [], ◌∷◌, ◌++◌, inl, inr, refl, sym, ap, ◌∙◌, subst, arith, Option, Some}
+use Rattle.std.proofs.Common.{◌≡◌, ◌⊎◌, ℕ, suc, ◌+◌, Bool, true, false, not, cond, List, [], ◌∷◌, ◌++◌, inl, inr, refl, sym, ap, ◌∙◌, subst, arith, Option, Some}
 use Rattle.std.proofs.Common.{None, is_some, slice_get, unwrap_or}
 use Rattle.std.specs.List.{cons_option}
 use Rattle.std.specs.Option.{option_map, option_map_or, option_or}
 use Rattle.std.proofs.lemmas.Bool.{cases_Bool, false≢true, or_cases, or_left, or_parts, or_right}
 use Rattle.std.proofs.lemmas.List.{append_assoc, append-nil}
 use Rattle.clr_rows.specs.declared.cells.CellId.{CellId}
-use Rattle.clr_rows.specs.Contents.{Content, conflicts, least_and_count, row_at}
+use Rattle.clr_rows.specs.Contents.{Content, conflicts, is_changed, least_and_count, row_at}
 use Rattle.clr_rows.specs.Same.{same}
-use Rattle.clr_rules.specs.Needs.{Holds}
+use Rattle.clr_rules.specs.declared.needs.Broken.{Broken}
+use Rattle.clr_rules.specs.declared.rules.Rule.{Rule}
+use Rattle.clr_rules.specs.Needs.{BreaksNoMore, View}
+use Rattle.clr_rows.specs.declared.rows.Row.{Row}
+use Rattle.clr_rows.proofs.SameLemmas.{same_decides}
+use Rattle.clr_needs.specs.Needs.{IsTouchedBy}
+use Rattle.clr_steps.proofs.NeedLemmas.{no_more_if_none}
 use Rattle.clr_workspaces.specs.Marks.{Name}
 use Rattle.clr_workspaces.specs.Workspaces.{Workspace}
 use Rattle.clr_workspaces.specs.Operations.{own_changes}
@@ -16,7 +22,7 @@ use Rattle.clr_needs.specs.Covers.{AreBlockers, IsUncovered}
 use Rattle.clr_needs.proofs.BrokenLaws.{uncovered_breaks}
 use Rattle.clr_steps.specs.Readings.{conflicts_in}
 use Rattle.clr_needs.specs.Positions.{after_member, by_position}
-use Rattle.clr_needs.specs.Settings.{AreAmong, view_with, has as has_by}
+use Rattle.clr_needs.specs.Settings.{AreAmong, DoChange, view_with, has as has_by}
 use Rattle.clr_needs.proofs.Merges.{root_is, taken_over as taken_cons}
 use Rattle.clr_steps.specs.declared.commands.Command.{Command}
 use Rattle.clr_steps.specs.declared.commands.Command.TheVariants as command
@@ -25,11 +31,10 @@ use Rattle.clr_steps.specs.declared.commands.Reply.TheVariants.{Done, RuleBroken
 use Rattle.clr_steps.specs.Names.{same_name}
 use Rattle.clr_steps.specs.Offices.{Office, content_of, is_kept, workspace}
 use Rattle.clr_steps.specs.Effects.{after_merge, after_remove, effect, merged_content}
-use Rattle.clr_steps.specs.Quiet.{Member, MergeSet, is_member, is_root, member_of}
-use Rattle.clr_steps.specs.Refusals.{breaks, conflict, first_of, in_conflict, refusal, refusals_of}
+use Rattle.clr_steps.specs.Quiet.{Member, MergeSet, is_member, is_root, member_of, root_content}
+use Rattle.clr_steps.specs.Refusals.{breaks, conflict, first_newly_broken, first_of, in_conflict, refusal, refusals_of}
 use Rattle.clr_steps.specs.Steps.{Answer, answer, step}
 use Rattle.clr_steps.proofs.FindLemmas.{found_name, same_is as same_name_is, same_itself as same_name_itself}
-use Rattle.clr_steps.proofs.RuleLemmas.{holds_where}
 use Rattle.clr_clearance.specs.Invariants.{Invariant}
 use Rattle.clr_clearance.specs.declared.verdicts.Verdict.TheVariants as verdict
 use Rattle.clr_clearance.specs.PlanLaws.{UnpickedLaw}
@@ -38,13 +43,15 @@ use Rattle.clr_clearance.specs.Verdicts.{first_conflict}
 use Rattle.clr_clearance.proofs.PickLemmas.{blockers_are, unpicked_is_uncovered}
 use Rattle.clr_clearance.specs.Runs.{merged_by}
 use Rattle.clr_clearance.specs.Safety.{is_clash}
-use Rattle.clr_clearance.specs.MergeSets.{AreMergeable, RootHolds, setting_by_position, rows_with, setting_of}
+use Rattle.clr_clearance.specs.MergeSets.{AreMergeable, changed_by, setting_by_position, rows_with, setting_of}
+use Rattle.clr_clearance.proofs.ClearLemmas.{has_at}
+use Rattle.clr_clearance.proofs.MergeSetLemmas.{changed_by-standing, content_above}
 use Rattle.clr_clearance.proofs.AnswerLemmas.{broken_or_none, merge_claim, of_standing, performed_as, step_as}
 use Rattle.clr_clearance.proofs.EffectLemmas.{StepsTo, merge_steps, shown}
 use Rattle.clr_clearance.proofs.MemberLemmas.{it, merged_rows, not_root, rows_last}
 use Rattle.clr_clearance.proofs.SafeLemmas.{at_first}
 use Rattle.clr_clearance.proofs.NameLemmas.{has_is}
-use Rattle.clr_clearance.proofs.StaticLemmas.{apart_by_position, child_under, member_there, numbered_is}
+use Rattle.clr_clearance.proofs.StaticLemmas.{apart_by_position, child_under, member_agrees, member_there, numbered_is, of_root}
 
 -- one merge -----------------------------------------------------------------------------------------------
 
@@ -89,9 +96,17 @@ merge_ends o name w e = elim (conflict_or_none o w) [
       ])
 ]
 
-unbroken_holds : (o : Office) (name : Name) (content : Content) → is_kept o name ≡ true → breaks o name content ≡ None → Holds o.book (row_at content)
+-- where a merge into a workspace that is kept isn't refused, no more is broken
+unbroken_no_more : (o : Office) (name : Name) (content : Content) → is_kept o name ≡ true → breaks o name content ≡ None
+    → BreaksNoMore o.book (row_at (content_of o name)) (row_at content)
 unfolding breaks
-unbroken_holds o name content kept none = holds_where (is_kept o name) o.book content none kept
+unbroken_no_more o name content kept none = no_more_if_none o.book (content_of o name) content
+    (by (first_newly_broken o.book (content_of o name) content) (sym (ap (λ b. cond b (option_map RuleBroken
+    (first_newly_broken o.book (content_of o name) content)) None) kept) ∙ none))
+  where
+    by : (r : Option Broken) → option_map RuleBroken r ≡ None → r ≡ None
+    by None e = refl
+    by (Some b) e = absurd (cc)
 
 -- merges of members one after another -------------------------------------------------------------------------
 
@@ -120,7 +135,7 @@ module _ (first : Office) (merge_set : MergeSet) (mergeable : AreMergeable first
     record IsNext (next : Office) : Type 0 where
       lasts : Invariant first merge_set (names ++ name ∷ []) next
       stand : AllStand now → AllStand next
-      holds : Holds first.book (rows_with first merge_set (names ++ name ∷ []))
+      no_more : BreaksNoMore first.book (rows_with first merge_set names) (rows_with first merge_set (names ++ name ∷ []))
 
     next_is : (w : Workspace) → workspace now name ≡ Some w → is_clash (step now (merge_of name)).reply ≡ false → IsNext (step now (merge_of name)).office
     next_is w e calm = by (merge_ends now name w e)
@@ -139,44 +154,67 @@ module _ (first : Office) (merge_set : MergeSet) (mergeable : AreMergeable first
             let out : is_root merge_set w.name ≡ false = ap (is_root merge_set) named ∙ not_root first merge_set mergeable names now inv name member in
             let steps = merge_steps merge_set now w inv.kept own out under in
             let office : (step now (merge_of name)).office ≡ after_merge now w = ap (λ (a : Answer). a.office) is in
-            let good : Holds now.book (row_at (merged_content now w)) = unbroken_holds now w.parent (merged_content now w) (kept_above w under) none in
+            let good : BreaksNoMore now.book (row_at (content_of now w.parent)) (row_at (merged_content now w)) =
+            unbroken_no_more now w.parent (merged_content now w) (kept_above w under) none in
+            let of_parent : (cell : CellId) → row_at (content_of now w.parent) cell ≡ rows_with first merge_set names cell =
+            λ cell. ap (λ content. row_at content cell) (content_above now merge_set w under) ∙ inv.rows cell in
             record {
               lasts = subst (λ ns. Invariant first merge_set ns (step now (merge_of name)).office) (last is)
                   (merge_claim first merge_set names now name false mergeable
                   inv member).0;
               stand = λ stand other h. ap (λ p. is_some (shown p other)) office ∙ stands_still w _ steps stand other h;
-              holds = subst (Holds first.book) (λ i cell. (merged_rows first merge_set mergeable names now inv name member w e cell
+              no_more = subst (λ (view : View). BreaksNoMore first.book view (rows_with first merge_set (names ++ name ∷ []))) (λ i cell. of_parent cell i)
+                  (subst (λ (view : View). BreaksNoMore first.book (row_at (content_of now w.parent)) view)
+                  (λ i cell. (merged_rows first merge_set mergeable names now inv name member w e cell
                   ∙ rows_last first merge_set mergeable names now inv name member cell) i)
-                  (subst (λ b. Holds b (row_at (merged_content now w))) inv.book good);
+                  (subst (λ (b : List Rule). BreaksNoMore b (row_at (content_of now w.parent)) (row_at (merged_content now w))) inv.book good));
             }
 
-  -- where none clashes, every rule holds with the changes of all of them
+  -- where none clashes, no more is broken with the changes of all of them
   all_done : (ns names : List Name) (now : Office) → Invariant first merge_set names now → AllStand now
       → AreAmong (setting_of first merge_set) ns merge_set.members
       → is_order_refused now ns ≡ false
-      → Holds first.book (rows_with first merge_set names) → Holds first.book (rows_with first merge_set (names ++ ns))
-  all_done [] names now inv stand part calm holds = subst (λ ms. Holds first.book (rows_with first merge_set ms)) (sym (append-nil names)) holds
-  all_done (n ∷ ns) names now inv stand part calm holds =
+      → BreaksNoMore first.book (rows_with first merge_set names) (rows_with first merge_set (names ++ ns))
+  all_done [] names now inv stand part calm =
+      subst (λ ms. BreaksNoMore first.book (rows_with first merge_set names) (rows_with first merge_set ms)) (sym (append-nil names)) (λ ask s t kept. kept)
+  all_done (n ∷ ns) names now inv stand part calm =
       let member : is_member merge_set n ≡ true = sym (has_is merge_set.members n) ∙ part n
       (or_left (same_name n n) (has_by same_name ns n) (same_name_itself n)) in
       let both = or_parts (is_clash (step now (merge_of n)).reply) (is_order_refused (step now (merge_of n)).office ns) calm in
       let (w, e) = stands_as (workspace now n) (stand n member) in
       let next = next_is names now inv n member w e both.0 in
-      subst (λ ms. Holds first.book (rows_with first merge_set ms)) (append_assoc names (n ∷ []) ns)
-      (all_done ns (names ++ n ∷ []) (step now (merge_of n)).office next.lasts (next.stand stand)
-      (λ k h. part k (or_right (same_name n k) (has_by same_name ns k) h)) both.1 next.holds)
+      let rest = all_done ns (names ++ n ∷ []) (step now (merge_of n)).office next.lasts (next.stand stand)
+      (λ k h. part k (or_right (same_name n k) (has_by same_name ns k) h)) both.1 in
+      subst (λ ms. BreaksNoMore first.book (rows_with first merge_set names) (rows_with first merge_set ms)) (append_assoc names (n ∷ []) ns)
+      (λ ask s t kept. rest ask s t (next.no_more ask s t kept))
 
-  -- an order of merges that break a rule is refused
-  pub breaking_is_refused : (names : List Name) → AreAmong (setting_of first merge_set) names merge_set.members → RootHolds first merge_set
-      → ¬ (Holds first.book (rows_with first merge_set names)) → is_order_refused first names ≡ true
-  breaking_is_refused names part holds breaking = elim (cases_Bool (is_order_refused first names)) [
+  -- an order of merges that break more is refused
+  pub breaking_is_refused : (names : List Name) → AreAmong (setting_of first merge_set) names merge_set.members
+      → ¬ (BreaksNoMore first.book (row_at (root_content first merge_set)) (rows_with first merge_set names)) → is_order_refused first names ≡ true
+  breaking_is_refused names part breaking = elim (cases_Bool (is_order_refused first names)) [
     | inl refused ↦ refused
-    | inr calm ↦ absurd (breaking (all_done names [] first (at_first first merge_set mergeable) all_stand part calm
-        (subst (Holds first.book) (λ i cell. sym (root_is (setting_of first merge_set) cell) i) holds)))
+    | inr calm ↦ absurd (breaking (of_root first merge_set (rows_with first merge_set names)
+        (all_done names [] first (at_first first merge_set mergeable) all_stand part calm)))
   ]
     where
       all_stand : AllStand first
       all_stand name h = let child = child_under first merge_set name (mergeable.children name h) in ap (λ r. is_some (option_map member_of r)) child.is
+
+  -- what a member has at a cell that it changes, the root hasn't
+  pub members_change : (name : Name) (cell : CellId) (row : Option Row) → is_member merge_set name ≡ true → changed_by first name cell ≡ Some row
+      → row ≡ row_at (root_content first merge_set) cell → ⊥
+  members_change name cell row member e same =
+      let child = child_under first merge_set name (mergeable.children name member) in
+      by child.at child.is (is_changed child.at.base child.at.current cell) refl (sym (changed_by-standing first name child.at cell child.is) ∙ e)
+    where
+      by : (w : Workspace) → workspace first name ≡ Some w → (b : Bool) → is_changed w.base w.current cell ≡ b
+          → cond b (Some (row_at w.current cell)) None ≡ Some row → ⊥
+      by w is true changed f =
+          let now : row_at w.current cell ≡ row = cc in
+          let root : row_at (root_content first merge_set) cell ≡ row_at w.base cell = member_agrees first merge_set name w mergeable member is cell changed in
+          let alike : row_at w.base cell ≡ row_at w.current cell = sym root ∙ sym same ∙ sym now in
+          false≢true (sym (ap not ((same_decides (row_at w.base cell) (row_at w.current cell)).1 alike)) ∙ changed)
+      by w is false changed f = cc
 
 -- members by position ----------------------------------------------------------------------------------------
 
@@ -208,12 +246,18 @@ module _ (o : Office) (merge_set : MergeSet) where
 
 -- a need that nothing covers ------------------------------------------------------------------------------------
 
-pub unpicked_is_refused : UnpickedLaw
-unpicked_is_refused o merge_set n order mergeable holds needed none blocks = breaking_is_refused o merge_set mergeable (members_at merge_set order)
-    (names_part o merge_set order)
-    holds breaking
+pub positions_change : (o : Office) (merge_set : MergeSet) → AreMergeable o merge_set → DoChange (by_position (setting_of o merge_set))
+positions_change o merge_set mergeable k cell row member e same = by (slice_get merge_set.members k) refl e
   where
-    breaking : Holds o.book (rows_with o merge_set (members_at merge_set order)) → ⊥
+    by : (r : Option Name) → slice_get merge_set.members k ≡ r → after_member (setting_of o merge_set) r cell ≡ Some row → ⊥
+    by None f d = cc
+    by (Some name) f d = members_change o merge_set mergeable name cell row (has_at merge_set.members k name f) d same
+
+pub unpicked_is_refused : UnpickedLaw
+unpicked_is_refused o merge_set n order mergeable needed none blocks = breaking_is_refused o merge_set mergeable (members_at merge_set order)
+    (names_part o merge_set order) breaking
+  where
+    breaking : BreaksNoMore o.book (row_at (root_content o merge_set)) (rows_with o merge_set (members_at merge_set order)) → ⊥
     breaking good =
         let (a, b, possible, touched) = needed in
         let uncovered = unpicked_is_uncovered (setting_by_position o merge_set) n a b possible (none a b possible) in
@@ -222,7 +266,9 @@ unpicked_is_refused o merge_set n order mergeable holds needed none blocks = bre
         (subst (λ c. IsUncovered c n a b) (numbered_is o merge_set) uncovered)
         (subst (λ c. AreBlockers c n a b order) (numbered_is o merge_set) blockers)
         (apart_by_position o merge_set mergeable)
-        (subst (Holds o.book) (λ i cell. sym (rows_at o merge_set order cell) i) good)
+        (positions_change o merge_set mergeable)
+        (subst (λ c. IsTouchedBy c n a b) (numbered_is o merge_set) touched)
+        (subst (λ (view : View). BreaksNoMore o.book (row_at (root_content o merge_set)) view) (λ i cell. sym (rows_at o merge_set order cell) i) good)
 
 -- a member in conflict ---------------------------------------------------------------------------------------------
 

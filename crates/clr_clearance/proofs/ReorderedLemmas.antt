@@ -21,6 +21,7 @@ use Rattle.clr_steps.specs.Quiet.{MergeSet, is_of_member, is_other, is_quiet, is
 use Rattle.clr_steps.specs.Steps.{run}
 use Rattle.clr_clearance.specs.Headline.{CoversReorderedLaw, NamesTheSame, SafeReorderedLaw}
 use Rattle.clr_clearance.specs.Runs.{merged_by, merged_in, office_before}
+use Rattle.clr_rules.specs.Needs.{BreaksNoMore, Holds}
 use Rattle.clr_clearance.specs.Safety.{IsMergeOf, IsSafeAt}
 use Rattle.clr_clearance.specs.MergeSets.{AreMergeable, is_child, rows_with, setting_of}
 use Rattle.clr_clearance.specs.Verdicts.{repeated_member}
@@ -89,7 +90,11 @@ module _ (merge_set other : MergeSet) (same : NamesTheSame merge_set other) wher
       ∙ sym (taken_over (setting_of o merge_set) n ns cell)
 
   merge_alike : (o : Office) (names : List Name) (content : Content) → IsMergeOf o merge_set names content → IsMergeOf o other names content
-  merge_alike o names content merge = record { rows = λ cell. merge.rows cell ∙ sym (rows_alike o names cell); holds = merge.holds }
+  merge_alike o names content merge = record {
+    rows = λ cell. merge.rows cell ∙ sym (rows_alike o names cell);
+    no_more = subst (λ (root : Content). BreaksNoMore o.book (row_at root) (row_at content)) (sym (content_alike o)) merge.no_more;
+    holds = λ holds. merge.holds (subst (λ (root : Content). Holds o.book (row_at root)) (content_alike o) holds);
+  }
 
   safe_alike : (first : Office) (names : List Name) (now : Office) → IsSafeAt first merge_set names now → IsSafeAt first other names now
   safe_alike first names now safe = record {

@@ -4,7 +4,6 @@ use Rattle.std.specs.Option.{option_map}
 use Rattle.std.proofs.lemmas.Bool.{cases_Bool, false≢true}
 use Rattle.std.proofs.lemmas.List.{append-nil, append_assoc}
 use Rattle.clr_rows.specs.Contents.{row_at}
-use Rattle.clr_rules.specs.Needs.{Holds}
 use Rattle.clr_workspaces.specs.Marks.{Name}
 use Rattle.clr_needs.proofs.Merges.{root_is}
 use Rattle.clr_steps.specs.declared.commands.Command.{Command}
@@ -12,7 +11,7 @@ use Rattle.clr_steps.specs.declared.commands.Command.TheVariants as command
 use Rattle.clr_steps.specs.declared.commands.Reply.{Reply}
 use Rattle.clr_steps.specs.declared.commands.Reply.TheVariants.{Done, OutOfMemory}
 use Rattle.clr_steps.specs.Offices.{Office}
-use Rattle.clr_steps.specs.Quiet.{MergeSet, is_of_member, is_quiet, member_of}
+use Rattle.clr_steps.specs.Quiet.{MergeSet, is_of_member, is_quiet, member_of, root_content}
 use Rattle.clr_steps.specs.Steps.{run, step, step_or_lost}
 use Rattle.clr_steps.proofs.FirstLemmas.{some_is}
 use Rattle.clr_steps.proofs.QuietLemmas.{quiet_law}
@@ -21,10 +20,10 @@ use Rattle.clr_clearance.specs.Invariants.{Invariant, IsMemberNow}
 use Rattle.clr_clearance.specs.Laws.{QuietListLaw, SafeLaw}
 use Rattle.clr_clearance.specs.Runs.{AreQuiet, merged_by, merged_in}
 use Rattle.clr_clearance.specs.Safety.{IsSafeAnswer, IsSafeAt}
-use Rattle.clr_clearance.specs.MergeSets.{AreMergeable, KeepsRules, setting_of}
+use Rattle.clr_clearance.specs.MergeSets.{AreMergeable, MembersBreakNoMore, setting_of}
 use Rattle.clr_clearance.proofs.AnswerLemmas.{merge_claim, refresh_claim}
 use Rattle.clr_clearance.proofs.MergeSetLemmas.{changed_by-standing}
-use Rattle.clr_clearance.proofs.StaticLemmas.{child_under, keeps_rules, member_agrees}
+use Rattle.clr_clearance.proofs.StaticLemmas.{child_under, member_agrees, is_merge_of, no_more_broken}
 
 -- the invariant holds before any command
 pub at_first : (first : Office) (merge_set : MergeSet) → AreMergeable first merge_set → Invariant first merge_set [] first
@@ -110,11 +109,11 @@ pub quiet_list_law : QuietListLaw
 quiet_list_law o merge_set commands lost mergeable quiet = list_lasts o merge_set mergeable commands lost [] o (at_first o merge_set mergeable) quiet
 
 -- what an office that keeps the invariant promises
-pub safe_at : (first : Office) (merge_set : MergeSet) (names : List Name) (now : Office) → AreMergeable first merge_set → KeepsRules first merge_set
+pub safe_at : (first : Office) (merge_set : MergeSet) (names : List Name) (now : Office) → AreMergeable first merge_set → MembersBreakNoMore first merge_set
     → Invariant first merge_set names now → IsSafeAt first merge_set names now
 safe_at first merge_set names now mergeable keeps inv = record {
   book = inv.book;
-  root = record { rows = inv.rows; holds = subst (Holds first.book) (λ i cell. sym (inv.rows cell) i) (keeps names inv.part) };
+  root = is_merge_of first merge_set keeps names (root_content now merge_set) inv.part inv.rows;
   answers = answers;
   refreshes = λ name w member. ((refresh_claim first merge_set names now name mergeable inv member).1 keeps).content w;
 }
@@ -125,5 +124,5 @@ safe_at first merge_set names now mergeable keeps inv = record {
     answers _ member = absurd (false≢true member)
 
 pub safe_law : SafeLaw
-safe_law o merge_set entries covers holds commands lost quiet =
-    safe_at o merge_set _ _ covers.mergeable (keeps_rules o merge_set entries covers holds) (quiet_list_law o merge_set commands lost covers.mergeable quiet)
+safe_law o merge_set entries covers commands lost quiet =
+    safe_at o merge_set _ _ covers.mergeable (no_more_broken o merge_set entries covers) (quiet_list_law o merge_set commands lost covers.mergeable quiet)

@@ -7,7 +7,7 @@ use Rattle.std.proofs.lemmas.Bool.Decides.{Decides-eqb}
 use Rattle.std.proofs.lemmas.List.{length-map}
 use Rattle.std.proofs.lemmas.Option.{slice_get-map}
 use Rattle.clr_rows.specs.declared.cells.CellId.{CellId}
-use Rattle.clr_rows.specs.Contents.{conflicts, row_at}
+use Rattle.clr_rows.specs.Contents.{Content, conflicts, row_at}
 use Rattle.clr_workspaces.specs.Marks.{Name}
 use Rattle.clr_workspaces.specs.Workspaces.{Workspace}
 use Rattle.clr_workspaces.specs.Operations.{own_changes}
@@ -15,17 +15,20 @@ use Rattle.clr_needs.specs.Covers.{Entry}
 use Rattle.clr_needs.specs.Laws.{SayTheSame}
 use Rattle.clr_needs.specs.Members.{AreApart, after_at, after_of}
 use Rattle.clr_needs.specs.Positions.{after_member, by_position}
-use Rattle.clr_needs.specs.Settings.{Setting, AreDisjoint, has as has_by}
-use Rattle.clr_needs.proofs.CoverLaws.{covered_holds}
+use Rattle.clr_needs.specs.Settings.{Setting, AreAmong, AreDisjoint, has as has_by}
+use Rattle.clr_rules.specs.Needs.{BreaksNoMore, Holds, View}
+use Rattle.clr_needs.proofs.CoverLaws.{covered_breaks_no_more}
+use Rattle.clr_needs.proofs.Merges.{root_is}
 use Rattle.clr_needs.proofs.PositionLaws.{say_the_same}
 use Rattle.clr_steps.specs.Names.{same_name}
 use Rattle.clr_steps.specs.Offices.{Office, workspace, content_of}
 use Rattle.clr_steps.specs.Quiet.{MergeSet, is_root, is_member, root_content}
 use Rattle.clr_steps.specs.Readings.{changes_in, conflicts_in}
 use Rattle.clr_steps.proofs.FindLemmas.{same_itself}
-use Rattle.clr_clearance.specs.Laws.{NumberLaw, StaticLaw}
-use Rattle.clr_clearance.specs.MergeSets.{AgreesWith, AreMergeable, Covers, KeepsRules, RootHolds, change_sets, changed_by, is_child, setting_by_position}
-use Rattle.clr_clearance.specs.MergeSets.{setting_of}
+use Rattle.clr_clearance.specs.Laws.{RootHeldLaw, NumberLaw, StaticLaw}
+use Rattle.clr_clearance.specs.MergeSets.{AgreesWith, AreMergeable, Covers, MembersBreakNoMore, RootHolds, change_sets, changed_by, is_child, rows_with}
+use Rattle.clr_clearance.specs.MergeSets.{setting_by_position, setting_of}
+use Rattle.clr_clearance.specs.Safety.{IsMergeOf}
 use Rattle.clr_clearance.proofs.MergeSetLemmas.{changed_by-standing, content_above, free_agrees, some_is_changed, untaken}
 
 -- children -------------------------------------------------------------------------------------------
@@ -118,19 +121,41 @@ module _ (o : Office) (merge_set : MergeSet) where
 pub number_law : NumberLaw
 number_law o merge_set = subst (SayTheSame (setting_of o merge_set)) (sym (numbered_is o merge_set)) (say_the_same (setting_of o merge_set))
 
-pub keeps_rules : (o : Office) (merge_set : MergeSet) (entries : List Entry) → Covers o merge_set entries → RootHolds o merge_set → KeepsRules o merge_set
-keeps_rules o merge_set entries covers holds names part =
-    covered_holds (setting_of o merge_set) entries
-    (record {
-      apart = covers.mergeable.apart;
-      covered = ((number_law o merge_set).covered entries).1 covers.covered;
-      holds = holds;
-    })
-    names part
+pub no_more_broken : (o : Office) (merge_set : MergeSet) (entries : List Entry) → Covers o merge_set entries → MembersBreakNoMore o merge_set
+no_more_broken o merge_set entries covers fewer more part members =
+    covered_breaks_no_more (setting_of o merge_set) entries
+    (record { apart = covers.mergeable.apart; covered = ((number_law o merge_set).covered entries).1 covers.covered })
+    fewer more part members
+
+-- the root is what no members give
+pub of_root : (o : Office) (merge_set : MergeSet) (view : View) → BreaksNoMore o.book (rows_with o merge_set []) view
+    → BreaksNoMore o.book (row_at (root_content o merge_set)) view
+of_root o merge_set view h = subst (λ (before : View). BreaksNoMore o.book before view) (λ i cell. root_is (setting_of o merge_set) cell i) h
+
+-- where every rule holds in the root, it holds in rows that break no more than the root
+pub held_after : (o : Office) (merge_set : MergeSet) (view : View) → BreaksNoMore o.book (row_at (root_content o merge_set)) view → RootHolds o merge_set
+    → Holds o.book view
+held_after o merge_set view no_more holds ask s t need = no_more ask s t (λ now. holds ask s t now) need
+
+pub held_law : RootHeldLaw
+held_law o merge_set no_more holds names members =
+    held_after o merge_set (rows_with o merge_set names)
+    (of_root o merge_set (rows_with o merge_set names) (no_more [] names (λ n h. absurd (false≢true h)) members)) holds
+
+-- rows that some members give break no more than the root
+pub is_merge_of : (o : Office) (merge_set : MergeSet) → MembersBreakNoMore o merge_set → (names : List Name) (content : Content)
+    → AreAmong (setting_of o merge_set) names merge_set.members
+    → ((cell : CellId) → row_at content cell ≡ rows_with o merge_set names cell) → IsMergeOf o merge_set names content
+is_merge_of o merge_set keeps names content part rows = record { rows = rows; no_more = no_more; holds = held_after o merge_set (row_at content) no_more }
+  where
+    no_more : BreaksNoMore o.book (row_at (root_content o merge_set)) (row_at content)
+    no_more = subst (λ (view : View). BreaksNoMore o.book (row_at (root_content o merge_set)) view) (λ i cell. sym (rows cell) i)
+        (of_root o merge_set (rows_with o merge_set names) (keeps [] names (λ n h. absurd (false≢true h)) part))
 
 pub static_law : StaticLaw
-static_law o merge_set entries covers holds = record {
-  keeps = keeps_rules o merge_set entries covers holds;
+static_law o merge_set entries covers = record {
+  no_more = no_more_broken o merge_set entries covers;
+  keeps = held_law o merge_set (no_more_broken o merge_set entries covers);
   free = λ names name w part member out e cell changed.
       (let changes : is_some (changed_by o name cell) ≡ true = ap is_some (changed_by-standing o name w cell e) ∙ some_is_changed w.base w.current cell
       ∙ changed in

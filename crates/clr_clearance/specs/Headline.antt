@@ -2,7 +2,7 @@
 use Rattle.std.specs.Prelude.{◌≡◌, ℕ, Bool, true, List, None}
 use Rattle.clr_rows.specs.declared.cells.CellId.{CellId}
 use Rattle.clr_rows.specs.Contents.{row_at}
-use Rattle.clr_rules.specs.Needs.{View}
+use Rattle.clr_rules.specs.Needs.{BreaksNoMore, View}
 use Rattle.clr_workspaces.specs.Marks.{Name}
 use Rattle.clr_needs.specs.Covers.{Entry}
 use Rattle.clr_steps.specs.declared.commands.Command.{Command}
@@ -35,11 +35,13 @@ AreAllMerged o merge_set commands lost = (name : Name) → is_member merge_set n
 -- every list of quiet commands ------------------------------------------------------------------------
 
 -- in every list of commands that are quiet for the members, whichever of them find no memory, no merge or refresh of a member meets a conflict or
--- breaks a rule; every rule holds in the root after each command; after any two such lists that merge the same members the root has the same rows,
--- and so it has once all members are merged
+-- breaks a rule; after each command the root breaks no need but those that it broke at first, and so every rule holds in it if every rule held; after
+-- any two such lists that merge the same members the root has the same rows, and so it has once all members are merged
 pub record Headline (o : Office) (merge_set : MergeSet) : Type 0 where
   pub no_clash : (commands : List Command) (lost : ℕ → Bool) → AreQuiet o merge_set commands lost → NoneClashes merge_set commands (run o commands lost).replies
-  pub holds : (commands : List Command) (lost : ℕ → Bool) → AreQuiet o merge_set commands lost → (at : ℕ)
+  pub no_more : (commands : List Command) (lost : ℕ → Bool) → AreQuiet o merge_set commands lost → (at : ℕ)
+      → BreaksNoMore o.book (row_at (root_content o merge_set)) (row_at (root_content (office_before o commands lost at) merge_set))
+  pub holds : RootHolds o merge_set → (commands : List Command) (lost : ℕ → Bool) → AreQuiet o merge_set commands lost → (at : ℕ)
       → RootHolds (office_before o commands lost at) merge_set
   pub same_rows : (commands others : List Command) (lost lost_of_others : ℕ → Bool) → AreQuiet o merge_set commands lost
       → AreQuiet o merge_set others lost_of_others
@@ -50,9 +52,9 @@ pub record Headline (o : Office) (merge_set : MergeSet) : Type 0 where
       → AreAllMerged o merge_set commands lost → AreAllMerged o merge_set others lost_of_others
       → (cell : CellId) → root_after o merge_set commands lost cell ≡ root_after o merge_set others lost_of_others cell
 
--- the headline holds where the verdict is clear and every rule holds in the root
+-- the headline holds where the verdict is clear
 abbrev pub HeadlineLaw : Type 0
-HeadlineLaw = (o : Office) (merge_set : MergeSet) (entries : List Entry) → IsVerdict o merge_set entries verdict.Clear → RootHolds o merge_set
+HeadlineLaw = (o : Office) (merge_set : MergeSet) (entries : List Entry) → IsVerdict o merge_set entries verdict.Clear
     → Headline o merge_set
 
 -- no reply of a run of quiet commands to a merge or a refresh of a member of a safe merge set is a clash

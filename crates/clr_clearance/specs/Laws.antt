@@ -20,7 +20,7 @@ use Rattle.clr_clearance.specs.ClearedRuns.{IsClearedRun, IsQuietStart}
 use Rattle.clr_clearance.specs.Invariants.{Invariant}
 use Rattle.clr_clearance.specs.Runs.{AreQuiet, merged_by, merged_in}
 use Rattle.clr_clearance.specs.Safety.{IsMergeOf, IsSafeAnswer, Safe}
-use Rattle.clr_clearance.specs.MergeSets.{AgreesWith, AreMergeable, Covers, KeepsRules, RootHolds, setting_by_position, rows_with, setting_of}
+use Rattle.clr_clearance.specs.MergeSets.{AgreesWith, AreMergeable, Covers, KeepsRules, MembersBreakNoMore, RootHolds, setting_by_position, rows_with, setting_of}
 use Rattle.clr_clearance.specs.Verdicts.{IsVerdict}
 
 -- members by name and by position --------------------------------------------------------------------
@@ -38,9 +38,11 @@ OrderLaw = (o : Office) (merge_set : MergeSet) (names others : List Name)
     → ((name : Name) → has names name ≡ has others name)
     → (cell : CellId) → rows_with o merge_set names cell ≡ rows_with o merge_set others cell
 
--- every rule holds in the rows that some members give, and no other member is in conflict with them
+-- the rows that more members give break no need but those that fewer give break; where every rule holds in the root, it holds in the rows that any
+-- members give; and no other member is in conflict with those rows
 pub record StaysFree (o : Office) (merge_set : MergeSet) : Type 0 where
-  pub keeps : KeepsRules o merge_set
+  pub no_more : MembersBreakNoMore o merge_set
+  pub keeps : RootHolds o merge_set → KeepsRules o merge_set
   pub free : (names : List Name) (name : Name) (w : Workspace)
       → AreAmong (setting_of o merge_set) names merge_set.members
       → is_member merge_set name ≡ true
@@ -49,11 +51,15 @@ pub record StaysFree (o : Office) (merge_set : MergeSet) : Type 0 where
       → AgreesWith (rows_with o merge_set names) w.base w.current
 
 abbrev pub StaticLaw : Type 0
-StaticLaw = (o : Office) (merge_set : MergeSet) (entries : List Entry) → Covers o merge_set entries → RootHolds o merge_set → StaysFree o merge_set
+StaticLaw = (o : Office) (merge_set : MergeSet) (entries : List Entry) → Covers o merge_set entries → StaysFree o merge_set
+
+-- where every rule holds in the root, every rule holds in the rows that any members give
+abbrev pub RootHeldLaw : Type 0
+RootHeldLaw = (o : Office) (merge_set : MergeSet) → MembersBreakNoMore o merge_set → RootHolds o merge_set → KeepsRules o merge_set
 
 -- a merge of a member, and a refresh ------------------------------------------------------------------
 
--- a merge of a member keeps the invariant, whatever rules say; where rules hold whichever members are merged, its answer is safe
+-- a merge of a member keeps the invariant, whatever rules say; where no more is broken whichever members are merged, its answer is safe
 abbrev pub MergeLaw : Type 0
 MergeLaw = (first : Office) (merge_set : MergeSet) (names : List Name) (now : Office) (name : Name) (remove : Bool)
     → AreMergeable first merge_set
@@ -61,7 +67,7 @@ MergeLaw = (first : Office) (merge_set : MergeSet) (names : List Name) (now : Of
     → is_member merge_set name ≡ true
     → let c = command.Merge name remove in
     let a = step now c in
-    Invariant first merge_set (names ++ merged_by merge_set c a.reply) a.office × (KeepsRules first merge_set → IsSafeAnswer now c)
+    Invariant first merge_set (names ++ merged_by merge_set c a.reply) a.office × (MembersBreakNoMore first merge_set → IsSafeAnswer now c)
 
 pub record IsSafeRefresh (first : Office) (merge_set : MergeSet) (names : List Name) (now : Office) (name : Name) : Type 0 where
   pub answer : IsSafeAnswer now (command.Refresh name)
@@ -73,7 +79,7 @@ RefreshLaw = (first : Office) (merge_set : MergeSet) (names : List Name) (now : 
     → AreMergeable first merge_set
     → Invariant first merge_set names now
     → is_member merge_set name ≡ true
-    → Invariant first merge_set names (step now (command.Refresh name)).office × (KeepsRules first merge_set → IsSafeRefresh first merge_set names now name)
+    → Invariant first merge_set names (step now (command.Refresh name)).office × (MembersBreakNoMore first merge_set → IsSafeRefresh first merge_set names now name)
 
 -- every quiet list ---------------------------------------------------------------------------------------
 
@@ -85,7 +91,7 @@ QuietListLaw = (o : Office) (merge_set : MergeSet) (commands : List Command) (lo
     Invariant o merge_set (merged_in merge_set commands done.replies) done.office
 
 abbrev pub SafeLaw : Type 0
-SafeLaw = (o : Office) (merge_set : MergeSet) (entries : List Entry) → Covers o merge_set entries → RootHolds o merge_set → Safe o merge_set
+SafeLaw = (o : Office) (merge_set : MergeSet) (entries : List Entry) → Covers o merge_set entries → Safe o merge_set
 
 -- verdicts -------------------------------------------------------------------------------------------------
 
@@ -98,15 +104,14 @@ abbrev pub OneVerdictLaw : Type 0
 OneVerdictLaw = (o : Office) (merge_set : MergeSet) (entries : List Entry) (v w : Verdict) → IsVerdict o merge_set entries v → IsVerdict o merge_set entries w
     → v ≡ w
 
--- where the verdict is clear and every rule holds in the root, each merge keeps every rule, and the merge set is safe
+-- where the verdict is clear, no merge breaks more, and the merge set is safe
 abbrev pub ClearIsSafeLaw : Type 0
-ClearIsSafeLaw = (o : Office) (merge_set : MergeSet) (entries : List Entry) → IsVerdict o merge_set entries verdict.Clear → RootHolds o merge_set
+ClearIsSafeLaw = (o : Office) (merge_set : MergeSet) (entries : List Entry) → IsVerdict o merge_set entries verdict.Clear
     → StaysFree o merge_set × Safe o merge_set
 
 -- the first commands of a list, up to one that isn't quiet, make a cleared run
 abbrev pub ClearedRunLaw : Type 0
 ClearedRunLaw = (o : Office) (merge_set : MergeSet) (entries : List Entry) (commands : List Command) (replies : List Reply) (left : Office) (stopped : Option ℕ)
     → IsVerdict o merge_set entries verdict.Clear
-    → RootHolds o merge_set
     → IsQuietStart o merge_set commands replies left stopped
     → IsClearedRun o merge_set (take (length replies) commands) replies left

@@ -5,7 +5,7 @@ use Rattle.std.specs.Option.{option_map_or}
 use Rattle.clr_rows.specs.declared.cells.CellId.{CellId}
 use Rattle.clr_rows.specs.declared.rows.Row.{Row}
 use Rattle.clr_rows.specs.Contents.{Changes, Content, is_changed, row_at}
-use Rattle.clr_rules.specs.Needs.{Holds, View}
+use Rattle.clr_rules.specs.Needs.{BreaksNoMore, Holds, View}
 use Rattle.clr_workspaces.specs.Marks.{Name}
 use Rattle.clr_needs.specs.Covers.{AreCovered, Entry}
 use Rattle.clr_needs.specs.Members.{after_in, setting}
@@ -67,6 +67,12 @@ pub record Covers (o : Office) (merge_set : MergeSet) (entries : List Entry) : T
 -- every rule holds in the root
 abbrev pub RootHolds : Office → MergeSet → Type 0
 RootHolds o merge_set = Holds o.book (row_at (root_content o merge_set))
+
+-- with the changes of more members over it, the root breaks no need but those that it breaks with fewer
+abbrev pub MembersBreakNoMore : Office → MergeSet → Type 0
+MembersBreakNoMore o merge_set = (fewer more : List Name) → AreAmong (setting_of o merge_set) fewer more
+    → AreAmong (setting_of o merge_set) more merge_set.members
+    → BreaksNoMore o.book (rows_with o merge_set fewer) (rows_with o merge_set more)
 
 -- every rule holds whichever members' changes are over the root
 abbrev pub KeepsRules : Office → MergeSet → Type 0

@@ -2,7 +2,7 @@
 use Rattle.std.specs.Prelude.{◌≡◌, ℕ, Bool, true, false, not, ◌&&◌, List, ◌∷◌, Some, is_some, slice_get}
 use Rattle.clr_rows.specs.declared.cells.CellId.{CellId}
 use Rattle.clr_rows.specs.Contents.{Content, row_at}
-use Rattle.clr_rules.specs.Needs.{Holds}
+use Rattle.clr_rules.specs.Needs.{BreaksNoMore, Holds}
 use Rattle.clr_workspaces.specs.Marks.{Name}
 use Rattle.clr_workspaces.specs.Workspaces.{Workspace}
 use Rattle.clr_steps.specs.declared.commands.Command.{Command}
@@ -14,12 +14,14 @@ use Rattle.clr_steps.specs.Quiet.{MergeSet, is_member, is_of_member, root_conten
 use Rattle.clr_steps.specs.Refusals.{has_child}
 use Rattle.clr_steps.specs.Steps.{run, step}
 use Rattle.clr_clearance.specs.Runs.{AreQuiet, merged_in}
-use Rattle.clr_clearance.specs.MergeSets.{rows_with}
+use Rattle.clr_clearance.specs.MergeSets.{RootHolds, rows_with}
 
--- a content has the root's rows with the changes of some members over them, and every rule holds in it
+-- a content has the root's rows with the changes of some members over them, and breaks no need but those that the root breaks; so every rule holds in it
+-- where every rule holds in the root
 pub record IsMergeOf (o : Office) (merge_set : MergeSet) (names : List Name) (content : Content) : Type 0 where
   pub rows : (cell : CellId) → row_at content cell ≡ rows_with o merge_set names cell
-  pub holds : Holds o.book (row_at content)
+  pub no_more : BreaksNoMore o.book (row_at (root_content o merge_set)) (row_at content)
+  pub holds : RootHolds o merge_set → Holds o.book (row_at content)
 
 -- a reply that names a conflict or a broken rule
 abbrev pub is_clash : Reply → Bool

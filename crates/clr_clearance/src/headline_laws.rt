@@ -2,11 +2,11 @@
 
 ghost use Rattle.clr_clearance.specs.Headline.{CoversReorderedLaw, HeadlineLaw, QuietReplyLaw, QuietRunLaw, SafeReorderedLaw};
 
-/// Let the verdict be clear and every rule hold in the root. In every list of commands that are
-/// quiet for the members, whichever of them find no memory, no merge or refresh of a member is
-/// answered by a conflict or a broken rule, and every rule holds in the root after each command.
-/// After any two such lists that merge the same members, and so after any two that merge all, the
-/// root has the same rows.
+/// Let the verdict be clear. In every list of commands that are quiet for the members, whichever of
+/// them find no memory, no merge or refresh of a member is answered by a conflict or a broken rule,
+/// and after each command the root breaks no need but those that it broke at first. So if every rule
+/// holds in the root, every rule holds there after each command. After any two such lists that merge
+/// the same members, and so after any two that merge all, the root has the same rows.
 pub fn clear_keeps_the_headline()
     ensures { HeadlineLaw }
 {}

@@ -3,13 +3,14 @@
 //!
 //! Beside the laws that the table in docs/PROVED.md names:
 //!
-//! - `covered_members_stay_free`: where entries cover the members and every rule holds in the root,
-//!   every rule holds in the root with the changes of any of them, and no other member is in
-//!   conflict with those rows. `order_gives_the_same_rows`: those rows don't depend on the order of
-//!   the members. `covered_merge_sets_are_safe`: a covered merge set with such a root is safe.
+//! - `covered_members_stay_free`: where entries cover the members, the root with the changes of more
+//!   of them breaks no need but those that it breaks with fewer; where every rule holds in the root,
+//!   it holds with the changes of any of them; and no other member is in conflict with those rows.
+//!   `order_gives_the_same_rows`: those rows don't depend on the order of the members.
+//!   `covered_merge_sets_are_safe`: a covered merge set is safe.
 //! - `quiet_lists_leave_merges`, `merges_and_refreshes_are_safe`: what quiet lists leave of the
 //!   root and of each member; a member that was refreshed has the root's first rows with the
-//!   changes of the merged members and its own over them, in which every rule holds.
+//!   changes of the merged members and its own over them, which break no more than the root.
 //! - `quiet_runs_are_cleared`: what `Office::perform_all` answers to quiet commands of a safe merge set
 //!   is a cleared run.
 //! - `members_stand_in_any_order`: whether a merge set is safe, and whether entries cover it, doesn't

@@ -1,6 +1,6 @@
 -- A parse that succeeds has entered one of the subcommands that something is asked by, of a program of which one is demanded.
 use Rattle.std.proofs.Common.{◌≡◌, ◌∙◌, ◌⊎◌, inl, inr, ℕ, Bool, true, false, not, ◌&&◌, ◌||◌, cond, List, [], ◌∷◌, Option, Some, None, is_some, option_map}
-use Rattle.std.proofs.Common.{Box, codes, refl, sym}
+use Rattle.std.proofs.Common.{Box, codes, map, refl, sym}
 use Rattle.std.specs.Prelude.{⊤, fold, find, if◌then◌else◌, option_and_then}
 use Rattle.std.specs.Box.{box_value}
 use Rattle.std.specs.List.{AllByRecursion, list_any}
@@ -161,6 +161,37 @@ asked_of {A} ask found = option_and_then (λ p. ask p.0 p.1) found
 -- something is asked by a subcommand, or it is `help`
 abbrev pub IsKnown : {A : Type 0} → (Text → List Row → Option A) → Shape → Type 0
 IsKnown {A} ask s = (s.aliases ≡ []) × (((rows : List Row) → is_some (ask s.name rows) ≡ true) ⊎ (s.name ≡ codes "help"))
+
+-- the names of subcommands, `help` behind them, none with another name
+abbrev pub labels : List Text → List (Text × List Text)
+labels [] = (codes "help", []) ∷ []
+labels (name ∷ names) = (name, []) ∷ labels names
+
+-- something is asked by each of these names
+abbrev pub AllAsk : {A : Type 0} → (Text → List Row → Option A) → List Text → Type 0
+AllAsk {A} ask names = AllByRecursion (λ name. (rows : List Row) → is_some (ask name rows) ≡ true) names
+
+-- subcommands with these names are known
+pub known_by_names : {A : Type 0} (ask : Text → List Row → Option A) (names : List Text) (subs : List Shape) → map label_of subs ≡ labels names
+    → AllAsk ask names → AllByRecursion (IsKnown ask) subs
+known_by_names ask [] [] e each = absurd cc
+known_by_names ask [] (s ∷ []) e each =
+    let here : label_of s ≡ (codes "help", []) = cc in
+    (((λ i. (here i).1), inr (λ i. (here i).0)), tt)
+known_by_names ask [] (s ∷ t ∷ subs) e each = absurd cc
+known_by_names ask (name ∷ names) [] e each = absurd cc
+known_by_names ask (name ∷ names) (s ∷ subs) e each =
+    let here : label_of s ≡ (name, []) = cc in
+    let rest : map label_of subs ≡ labels names = cc in
+    (((λ i. (here i).1), inl (λ rows. (λ i. is_some (ask (here i).0 rows)) ∙ each.0 rows)), known_by_names ask names subs rest each.1)
+
+-- a command of which no argument has a rule on another is simple
+pub simple_if_free : (program : App) → is_simple_and_free program ≡ true → is_simple program ≡ true
+simple_if_free program e = first (is_simple program) _ e
+  where
+    first : (a b : Bool) → (a && b) ≡ true → a ≡ true
+    first true b e = refl
+    first false b e = e
 
 -- each subcommand is known, one of them is demanded, and no argument has a rule on another
 pub record IsAsking {A : Type 0} (ask : Text → List Row → Option A) (program : App) : Type 0 where

@@ -9,6 +9,9 @@ use crate::tables::{Argument, DATABASE, ProgramTable, Subcommand};
 use clap::Command;
 use std::alloc::{AllocError, Global};
 
+/// The version of both programs, and of a release of them.
+pub const VERSION: &str = "1.0.0";
+
 const ABOUT: &str =
     "Says which workspaces of a utility network can be merged in every order, and merges them";
 
@@ -65,7 +68,7 @@ const MERGED: Argument<'static> = Argument::Values(
 /// The program with its subcommands.
 const OFFICE: ProgramTable<'static> = ProgramTable {
     name: "clr_office",
-    version: "1.0.0",
+    version: VERSION,
     about: ABOUT,
     statuses: WITHOUT_WORDS,
     subcommands: &[

@@ -16,6 +16,7 @@ mod tables;
 mod values;
 
 pub use asks::{Ask, AskFault};
+pub use command::VERSION;
 pub use described::command_of;
 pub use reading::ask_of;
 pub use tables::{Argument, DATABASE, ProgramTable, Subcommand};

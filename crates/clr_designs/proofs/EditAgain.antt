@@ -15,11 +15,9 @@ use Rattle.clr_rows.specs.declared.places.Shape.{Shape}
 use Rattle.clr_rows.specs.declared.places.Shape.TheVariants.{Bare, At, Line, Chain}
 use Rattle.clr_rows.specs.declared.rows.Row.{Row}
 use Rattle.clr_rows.specs.declared.rows.Value.{Value}
-use Rattle.clr_rows.specs.declared.rows.Value.TheVariants.{Int, Words}
 use Rattle.clr_rows.specs.declared.tables.Form.{Form}
 use Rattle.clr_rows.specs.declared.tables.Form.TheVariants as form
 use Rattle.clr_rows.specs.declared.tables.Kind.{Kind}
-use Rattle.clr_rows.specs.declared.tables.Kind.TheVariants as kind
 use Rattle.clr_rows.specs.declared.tables.TableDef.{TableDef}
 use Rattle.clr_rows.specs.Numbers.{is_i64}
 use Rattle.clr_rows.specs.Schemas.{are_of_kinds, cell_fault, has_coordinates, is_bad_path, is_coordinate, is_number, is_of_form, is_of_kind, is_place}
@@ -28,9 +26,11 @@ use Rattle.clr_rows.proofs.SchemaLemmas as schema
 use Rattle.clr_change.specs.declared.edits.Edit.{Edit}
 use Rattle.clr_change.specs.declared.edits.Edit.TheVariants as edit
 use Rattle.clr_records.specs.Records.{field_of, in_turn}
+use Rattle.clr_records.specs.Values.{value_field}
 use Rattle.clr_records.proofs.Decimals.{number_again}
-use Rattle.clr_lines.specs.Rows.{place_fields, shape_fields, value_field}
-use Rattle.clr_scripts.specs.Edits.{can_have_coordinates, edit_in, edit_of, place_in, place_of, row_can_have_fields, row_of, shape_of, value_of, values_of}
+use Rattle.clr_records.proofs.ValuesAgain.{value_again}
+use Rattle.clr_lines.specs.Rows.{place_fields, shape_fields}
+use Rattle.clr_scripts.specs.Edits.{can_have_coordinates, edit_in, edit_of, place_in, place_of, row_can_have_fields, row_of, shape_of, values_of}
 use Rattle.clr_scripts.specs.Edits.{vertices_of, whole_number}
 use Rattle.clr_designs.specs.Scripts.{edit_fields}
 use Rattle.clr_designs.specs.ReadBack.{Fits}
@@ -52,12 +52,6 @@ at : (front rest : List (List ℕ)) (i k : ℕ) → i ≡ length front + k → f
 at front rest i k is = rw is (field_behind front rest k)
 
 -- values -------------------------------------------------------------------------------------------
-
-value_again : (k : Kind) (value : Value) → is_of_kind k value ≡ true → is_number value ≡ true → value_of k (value_field value) ≡ Ok value
-value_again kind.Int (Int n) of number = rw (whole_again n number) refl
-value_again kind.Int (Words text) of number = absurd cc
-value_again kind.Words (Int n) of number = absurd cc
-value_again kind.Words (Words text) of number = refl
 
 values_again : (fields front : List (List ℕ)) (columns : List (List ℕ × Kind)) (values : List Value) (rest : List (List ℕ))
     → length values ≡ length columns → are_of_kinds columns values ≡ true → list_all is_number values ≡ true → fields ≡ front

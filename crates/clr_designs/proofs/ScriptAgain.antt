@@ -13,12 +13,9 @@ use Rattle.clr_rows.specs.declared.places.Place.{Place}
 use Rattle.clr_rows.specs.declared.places.Shape.{Shape}
 use Rattle.clr_rows.specs.declared.places.Shape.TheVariants.{Bare, At, Line, Chain}
 use Rattle.clr_rows.specs.declared.rows.Row.{Row}
-use Rattle.clr_rows.specs.declared.rows.Value.{Value}
-use Rattle.clr_rows.specs.declared.rows.Value.TheVariants.{Int, Words}
 use Rattle.clr_rows.specs.declared.tables.TableDef.{TableDef}
 use Rattle.clr_rows.specs.Names.{is_good_name}
-use Rattle.clr_rows.specs.Numbers.{is_i64}
-use Rattle.clr_rows.specs.Schemas.{has_coordinates, is_coordinate, is_key, is_number, is_place, name_of_table, row_fault, schema_fault}
+use Rattle.clr_rows.specs.Schemas.{has_coordinates, is_coordinate, is_key, is_place, name_of_table, row_fault, schema_fault}
 use Rattle.clr_rows.proofs.SchemaLemmas as schema
 use Rattle.clr_change.specs.declared.edits.Edit.{Edit}
 use Rattle.clr_change.specs.declared.edits.Edit.TheVariants.{Insert, Update, Delete}
@@ -27,11 +24,12 @@ use Rattle.clr_records.proofs.Decimals.{number_again}
 use Rattle.clr_records.proofs.RecordsAgain.{IsPlain, records_again}
 use Rattle.clr_records.proofs.Turns.{joined}
 use Rattle.clr_records.proofs.Utf8.{name_utf8, number_utf8}
-use Rattle.clr_lines.specs.Rows.{cell_fields, place_fields, row_fields, rows_writer, shape_fields, value_field}
+use Rattle.clr_lines.specs.Rows.{cell_fields, place_fields, row_fields, rows_writer, shape_fields}
 use Rattle.clr_scripts.specs.Edits.{edits_from}
 use Rattle.clr_scripts.specs.Scripts.{apply_of, command_of, plain_step_of, script_in_text, script_of, step_of, steps_from}
 use Rattle.clr_designs.specs.Scripts.{apply_fields, create_fields, design_records, design_script, design_steps, edit_fields, script_text}
-use Rattle.clr_records.specs.Values.{IsText}
+use Rattle.clr_records.specs.Values.{IsText, value_field}
+use Rattle.clr_records.proofs.ValuesAgain.{values_utf8}
 use Rattle.clr_designs.specs.ReadBack.{Fits, HasTexts, ReadBackLaw}
 use Rattle.clr_designs.proofs.EditAgain.{edit_again}
 
@@ -66,12 +64,6 @@ steps_again tables name root edits sound fit few =
     ) refl
 
 -- the fields are in UTF-8 --------------------------------------------------------------------------
-
-values_utf8 : (values : List Value) → list_all is_number values ≡ true → AllByRecursion IsText values → AllByRecursion IsUtf8 (map value_field values)
-values_utf8 [] numbers texts = tt
-values_utf8 (Int n ∷ values) numbers texts = let t = and_parts (is_i64 n) (list_all is_number values) numbers in
-    (number_utf8 n t.0, values_utf8 values t.1 texts.1)
-values_utf8 (Words text ∷ values) numbers texts = (texts.0, values_utf8 values numbers texts.1)
 
 place_utf8 : (p : Place) → is_place p ≡ true → AllByRecursion IsUtf8 (place_fields p)
 place_utf8 p e =

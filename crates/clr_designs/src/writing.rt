@@ -12,7 +12,8 @@ ghost use Rattle.clr_records.specs.Values.{IsText};
 ghost use Rattle.clr_designs.specs.ReadBack.{Fits, HasTexts};
 
 use clr_change::Edit;
-use clr_lines::{add_cell_fields, add_field, add_row_fields};
+use clr_lines::{add_cell_fields, add_row_fields};
+use clr_records::add_field;
 use clr_rows::{CellId, Row, Schema};
 use csv::{ByteRecord, Writer, WriterBuilder};
 use itoa::Buffer;

@@ -23,10 +23,10 @@ use Rattle.clr_merge_sets.specs.Certificates.{entries_in, merge_set_of}
 use Rattle.clr_merge_sets.specs.MergeSetNames.{merge_set}
 use Rattle.clr_lines.specs.Verdicts.{verdict_text}
 use Rattle.clr_office_texts.specs.Drafts.{draft_in}
-use Rattle.clr_plan.specs.declared.plans.Plan.{Plan}
-use Rattle.clr_plan.specs.declared.plans.Plan.TheVariants as plan
+use Rattle.clr_merge_sets.specs.declared.plans.Plan.{Plan}
+use Rattle.clr_merge_sets.specs.declared.plans.Plan.TheVariants as plan
 use Rattle.clr_plan.specs.OnePlan.{AreAlike}
-use Rattle.clr_plan.specs.Promises.{is_cleared, is_out_of_memory}
+use Rattle.clr_merge_sets.specs.Plans.{is_cleared, is_out_of_memory}
 use Rattle.clr_plan.proofs.OnePlanLemmas.{one_plan}
 use Rattle.clr_plan.specs.PlanLines.{blocked_text, cleared_text, plan_text}
 use Rattle.clr_office.specs.Clearances.{is_without_memory}
@@ -34,10 +34,10 @@ use Rattle.clr_office.specs.Outcomes.{IsPlanned}
 use Rattle.clr_office_reports.specs.Printing.{status_of}
 use Rattle.clr_layer_changes.specs.declared.options.GivenLayer.{GivenLayer}
 use Rattle.clr_layer_changes.specs.declared.options.LayerOptions.{LayerOptions}
-use Rattle.clr_desk_answers.specs.Designs as designs
-use Rattle.clr_desk_answers.specs.Designs.{IsPrintOfDesign, IsPrintOfLayers, IsPrintOfLive, IsPrintOfScript, faulty_layer_printout, refusal_print, text_print}
-use Rattle.clr_desk_answers.specs.Members.{members_or_children}
-use Rattle.clr_desk_answers.specs.Printing.{PrintoutOrFault, printout_of}
+use Rattle.clr_desk_layers.specs.Designs as designs
+use Rattle.clr_desk_layers.specs.Designs.{IsPrintOfDesign, IsPrintOfLayers, IsPrintOfLive, IsPrintOfScript, faulty_layer_printout, refusal_print, text_print}
+use Rattle.clr_desk_prints.specs.Members.{members_or_children}
+use Rattle.clr_desk_prints.specs.Printing.{PrintoutOrFault, printout_of}
 use Rattle.clr_desk.specs.Certificates.{IsPlanPrint, plan_print}
 use Rattle.clr_desk.specs.Checks.{IsCheckPrint, check_print}
 use Rattle.clr_desk.specs.Choices as choices

@@ -9,12 +9,12 @@ use Rattle.clr_steps.specs.Offices.{Office}
 use Rattle.clr_cert.specs.declared.certificates.Certificate.{Certificate}
 use Rattle.clr_cert.specs.Texts.{certificate_text}
 use Rattle.clr_merge_sets.specs.MergeSetNames.{merge_set}
-use Rattle.clr_plan.specs.declared.plans.Plan.{Plan}
-use Rattle.clr_plan.specs.declared.plans.Plan.TheVariants as plan
-use Rattle.clr_plan.specs.Promises.{is_cleared, is_out_of_memory}
+use Rattle.clr_merge_sets.specs.declared.plans.Plan.{Plan}
+use Rattle.clr_merge_sets.specs.declared.plans.Plan.TheVariants as plan
+use Rattle.clr_merge_sets.specs.Plans.{is_cleared, is_out_of_memory}
 use Rattle.clr_plan.proofs.OnePlanLemmas.{one_plan}
-use Rattle.clr_desk_answers.specs.Members.{members_or_children}
-use Rattle.clr_desk_answers.specs.Printing.{PrintoutOrFault, printout_of}
+use Rattle.clr_desk_prints.specs.Members.{members_or_children}
+use Rattle.clr_desk_prints.specs.Printing.{PrintoutOrFault, printout_of}
 use Rattle.clr_desk.specs.Certificates.{plan_print}
 use Rattle.clr_choices.specs.ChoiceLines.{left_text, refusal_if_any}
 use Rattle.clr_choices.specs.Clearable.{IsPlanOf}

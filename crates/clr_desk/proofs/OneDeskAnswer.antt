@@ -10,10 +10,10 @@ use Rattle.clr_desk_command_line.specs.declared.asks.DeskAsk.{DeskAsk}
 use Rattle.clr_desk_command_line.specs.declared.asks.DeskAsk.TheVariants as ask
 use Rattle.clr_desk_command_line.specs.declared.asks.GeographicAsk.{GeographicAsk}
 use Rattle.clr_desk_command_line.specs.declared.asks.GeographicAsk.TheVariants as geographic
-use Rattle.clr_desk_answers.specs.Designs.{IsDesignPrint, IsDesignScriptPrint, IsOfficePrint, IsPrintOfDesign, IsPrintOfLive, IsPrintOfScript}
-use Rattle.clr_desk_answers.specs.Members.{set_asked}
-use Rattle.clr_desk_answers.specs.NameHints.{IsHinted}
-use Rattle.clr_desk_answers.specs.Printing.{PrintoutOrFault}
+use Rattle.clr_desk_layers.specs.Designs.{IsDesignPrint, IsDesignScriptPrint, IsOfficePrint, IsPrintOfDesign, IsPrintOfLive, IsPrintOfScript}
+use Rattle.clr_desk_prints.specs.Members.{set_asked}
+use Rattle.clr_desk_prints.specs.NameHints.{IsHinted}
+use Rattle.clr_desk_prints.specs.Printing.{PrintoutOrFault}
 use Rattle.clr_desk.specs.Answers.{IsDeskAnswerIf, IsDeskAnswerTo, IsDeskAnswerWithin, is_too_long_layer}
 use Rattle.clr_desk.specs.Certificates.{IsCertificatePrint}
 use Rattle.clr_desk.specs.Checks.{IsCheckPrint}

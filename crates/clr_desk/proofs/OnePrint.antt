@@ -9,9 +9,9 @@ use Rattle.clr_check.specs.Cases.{Case}
 use Rattle.clr_rule_text.specs.declared.faults.TextFault.{TextFault}
 use Rattle.clr_office.specs.Clearances.{fault_print}
 use Rattle.clr_office_reports.specs.Printing.{IsNoPrint, IsPrintIn, IsPrintWhereHeld, Printed as Lines}
-use Rattle.clr_desk_answers.specs.NameHints.{HintsAt, IsHinted, with_lines}
-use Rattle.clr_desk_answers.specs.Printing.{IsPrintoutIn, IsPrintoutOfCase, PrintoutOrFault, as_notes, of_case, of_fault, of_office, of_why}
-use Rattle.clr_desk_answers.proofs.OneHint.{one_hints}
+use Rattle.clr_desk_prints.specs.NameHints.{HintsAt, IsHinted, with_lines}
+use Rattle.clr_desk_prints.specs.Printing.{IsPrintoutIn, IsPrintoutOfCase, PrintoutOrFault, as_notes, of_case, of_fault, of_office, of_why}
+use Rattle.clr_desk_prints.proofs.OneHint.{one_hints}
 use Rattle.clr_desk.specs.OneAnswer.{FoundMemory, IsOnePrint}
 
 -- why an office isn't looked at has one line alone

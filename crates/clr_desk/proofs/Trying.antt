@@ -6,14 +6,14 @@ use Rattle.clr_steps.specs.Offices.{Office}
 use Rattle.clr_cert.specs.declared.certificates.Certificate.{Certificate}
 use Rattle.clr_cert.specs.Texts.{certificate_text}
 use Rattle.clr_merge_sets.specs.MergeSetNames.{merge_set}
-use Rattle.clr_plan.specs.declared.plans.Plan.TheVariants as plan
+use Rattle.clr_merge_sets.specs.declared.plans.Plan.TheVariants as plan
 use Rattle.clr_choices.specs.Clearable.{IsPlanOf}
 use Rattle.clr_choices.specs.Progress.{IsChosen}
 use Rattle.clr_choices.specs.declared.choices.Choice.{Choice}
 use Rattle.clr_desk.specs.Choices.{IsChoicePrint, names_line, of_trials}
-use Rattle.clr_desk_answers.specs.Members.{members_or_children}
-use Rattle.clr_desk_answers.specs.Printing.{printed, printout_of}
-use Rattle.clr_desk_answers.specs.declared.prints.Print.{Print}
+use Rattle.clr_desk_prints.specs.Members.{members_or_children}
+use Rattle.clr_desk_prints.specs.Printing.{printed, printout_of}
+use Rattle.clr_desk_prints.specs.declared.prints.Print.{Print}
 
 -- what is printed of a choice among the members that names ask for
 pub choice_printed : {E : Type 0} (o : Office) (root : Name) (names : List Name) (nobody : Certificate) (choice : Choice) (result : Result Print E)

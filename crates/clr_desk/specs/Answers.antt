@@ -6,8 +6,8 @@ use Rattle.clr_check.specs.Cases.{case_of}
 use Rattle.clr_office_texts.specs.Drafts.{draft_in}
 use Rattle.clr_layer_changes.specs.declared.options.GivenLayer.{GivenLayer}
 use Rattle.clr_office.specs.Answers.{is_too_long}
-use Rattle.clr_office_reports.specs.declared.faults.RunFault.{RunFault}
-use Rattle.clr_office_reports.specs.declared.faults.RunFault.TheVariants as run_fault
+use Rattle.clr_process_io.specs.declared.faults.RunFault.{RunFault}
+use Rattle.clr_process_io.specs.declared.faults.RunFault.TheVariants as run_fault
 use Rattle.clr_desk_command_line.specs.declared.asks.DeskAsk.{DeskAsk}
 use Rattle.clr_desk_command_line.specs.declared.asks.DeskAsk.TheVariants as ask
 use Rattle.clr_desk.specs.Certificates.{IsCertificatePrint}
@@ -17,12 +17,12 @@ use Rattle.clr_desk.specs.Clashes.{IsClashesPrint}
 use Rattle.clr_desk.specs.Formats.{IsFormatPrint}
 use Rattle.clr_desk.specs.Geographic.{IsGeographicAnswer}
 use Rattle.clr_desk.specs.Merges.{IsHintedMerge}
-use Rattle.clr_desk_answers.specs.NameHints.{IsHinted}
+use Rattle.clr_desk_prints.specs.NameHints.{IsHinted}
 use Rattle.clr_desk.specs.Orders.{IsOrderPrint}
-use Rattle.clr_desk_answers.specs.Printing.{IsPrintoutFault, IsPrintoutIn, IsPrintoutOfCase, Printout, PrintoutOrFault}
+use Rattle.clr_desk_prints.specs.Printing.{IsPrintoutFault, IsPrintoutIn, IsPrintoutOfCase, Printout, PrintoutOrFault}
 use Rattle.clr_desk.specs.Whys.{IsWhyPrint}
-use Rattle.clr_desk_answers.specs.Maps.{IsMapPrint}
-use Rattle.clr_desk_answers.specs.Reports.{IsReportPrint}
+use Rattle.clr_desk_pages.specs.Maps.{IsMapPrint}
+use Rattle.clr_desk_pages.specs.Reports.{IsReportPrint}
 
 -- what is to be printed for what is asked of an office text, a second text and layers
 abbrev pub IsDeskAnswerWithin : DeskAsk → List ℕ → List ℕ → List GivenLayer → PrintoutOrFault → Type 0

@@ -6,7 +6,7 @@ use Rattle.clr_cert.specs.declared.certificates.Certificate.{Certificate}
 use Rattle.clr_check.specs.TextChecks.{IsCheckedVerdict}
 use Rattle.clr_lines.specs.Verdicts.{verdict_text}
 use Rattle.clr_office.specs.Clearances.{is_clear, is_without_memory}
-use Rattle.clr_desk_answers.specs.Printing.{PrintoutOrFault, printout_of}
+use Rattle.clr_desk_prints.specs.Printing.{PrintoutOrFault, printout_of}
 
 abbrev pub names_nobody : Certificate → Bool
 names_nobody c = length c.members == 0

@@ -7,15 +7,15 @@ use Rattle.clr_steps.specs.Offices.{Office}
 use Rattle.clr_cert.specs.declared.certificates.Certificate.{Certificate}
 use Rattle.clr_cert.specs.Texts.{certificate_text}
 use Rattle.clr_merge_sets.specs.MergeSetNames.{merge_set}
-use Rattle.clr_plan.specs.declared.plans.Plan.{Plan}
-use Rattle.clr_plan.specs.declared.plans.Plan.TheVariants as plan
-use Rattle.clr_plan.specs.Promises.{is_cleared}
+use Rattle.clr_merge_sets.specs.declared.plans.Plan.{Plan}
+use Rattle.clr_merge_sets.specs.declared.plans.Plan.TheVariants as plan
+use Rattle.clr_merge_sets.specs.Plans.{is_cleared}
 use Rattle.clr_choices.specs.ChoiceLines.{left_text}
 use Rattle.clr_choices.specs.Clearable.{IsPlanOf}
 use Rattle.clr_choices.specs.Trials.{AreTrials, Trial, is_taken, taken_in}
 use Rattle.clr_desk.specs.Certificates.{plan_print}
-use Rattle.clr_desk_answers.specs.Members.{members_or_children}
-use Rattle.clr_desk_answers.specs.Printing.{PrintoutOrFault, printout_of}
+use Rattle.clr_desk_prints.specs.Members.{members_or_children}
+use Rattle.clr_desk_prints.specs.Printing.{PrintoutOrFault, printout_of}
 
 -- a word, how many names there are, and the names
 abbrev pub names_line : List ℕ → List Name → List ℕ

@@ -10,18 +10,18 @@ use Rattle.clr_clearance.specs.Plans.{members_at}
 use Rattle.clr_clearance.specs.Verdicts.{names_fault}
 use Rattle.clr_lines.specs.Reports.{count_line}
 use Rattle.clr_lines.specs.Verdicts.{verdict_text}
-use Rattle.clr_plan.specs.declared.plans.Plan.{Plan}
-use Rattle.clr_plan.specs.declared.plans.Plan.TheVariants as plan
+use Rattle.clr_merge_sets.specs.declared.plans.Plan.{Plan}
+use Rattle.clr_merge_sets.specs.declared.plans.Plan.TheVariants as plan
 use Rattle.clr_plan.specs.Plans.{IsPlan}
-use Rattle.clr_plan.specs.Promises.{is_cleared, is_out_of_memory}
+use Rattle.clr_merge_sets.specs.Plans.{is_cleared, is_out_of_memory}
 use Rattle.clr_merge_clashes.specs.Laws.{ArePositions, AreSmallestSets, HoldNoSet, merge_set_of_part}
 use Rattle.clr_merge_clashes.specs.MergeClashes.{FindsClashes}
 use Rattle.clr_merge_clashes.specs.declared.clash_sets.MergeClash.{MergeClash}
 use Rattle.clr_merge_clashes.specs.declared.clash_sets.MergeClashes.{MergeClashes}
 use Rattle.clr_desk.specs.Certificates.{plan_print}
 use Rattle.clr_desk.specs.Choices.{names_line}
-use Rattle.clr_desk_answers.specs.Members.{set_asked}
-use Rattle.clr_desk_answers.specs.Printing.{PrintoutOrFault, printout_of}
+use Rattle.clr_desk_prints.specs.Members.{set_asked}
+use Rattle.clr_desk_prints.specs.Printing.{PrintoutOrFault, printout_of}
 
 -- the members of a set, and why they can't be merged together
 abbrev pub clash_text : List TableDef → MergeSet → MergeClash → List ℕ

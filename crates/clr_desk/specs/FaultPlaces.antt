@@ -9,8 +9,8 @@ use Rattle.clr_cert.specs.declared.faults.CertFault.{CertFault}
 use Rattle.clr_office_texts.specs.Drafts.{draft_in}
 use Rattle.clr_rule_text.specs.declared.faults.TextFault.{TextFault}
 use Rattle.clr_text_diagnosis.specs.Shorts.{IsShortCertificateFault, IsShortOfficeFault}
-use Rattle.clr_office_reports.specs.declared.faults.RunFault.{RunFault}
-use Rattle.clr_office_reports.specs.declared.faults.RunFault.TheVariants as run_fault
+use Rattle.clr_process_io.specs.declared.faults.RunFault.{RunFault}
+use Rattle.clr_process_io.specs.declared.faults.RunFault.TheVariants as run_fault
 
 -- the name of the file of a text, or no name
 abbrev pub file_name : List Name → ℕ → Name

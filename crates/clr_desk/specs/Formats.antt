@@ -4,7 +4,7 @@ use Rattle.clr_steps.specs.Offices.{Office}
 use Rattle.clr_office_texts.specs.Drafts.{draft_in}
 use Rattle.clr_office_texts.specs.Writing.{bytes_of, text_of}
 use Rattle.clr_office_writing.specs.OfficeData.{office_data}
-use Rattle.clr_desk_answers.specs.Printing.{PrintoutOrFault, printout_of}
+use Rattle.clr_desk_prints.specs.Printing.{PrintoutOrFault, printout_of}
 use Rattle.clr_desk.specs.LinedTexts.{lined_text}
 
 -- the text of an office in lines, the last of which is ended too

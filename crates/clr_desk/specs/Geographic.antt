@@ -5,11 +5,11 @@ use Rattle.clr_desk_command_line.specs.declared.asks.GeographicAsk.{GeographicAs
 use Rattle.clr_desk_command_line.specs.declared.asks.GeographicAsk.TheVariants as ask
 use Rattle.clr_layer_changes.specs.declared.options.GivenLayer.{GivenLayer}
 use Rattle.clr_layer_changes.specs.declared.options.LayerOptions.{LayerOptions}
-use Rattle.clr_desk_answers.specs.Designs.{IsDesignPrint, IsDesignScriptPrint, IsOfficePrint}
-use Rattle.clr_desk_answers.specs.Features.{IsFeaturesAnswer}
-use Rattle.clr_desk_answers.specs.Layers.{IsLayerPrint}
-use Rattle.clr_desk_answers.specs.NameHints.{IsHinted}
-use Rattle.clr_desk_answers.specs.Printing.{IsPrintoutIn, PrintoutOrFault}
+use Rattle.clr_desk_layers.specs.Designs.{IsDesignPrint, IsDesignScriptPrint, IsOfficePrint}
+use Rattle.clr_desk_pages.specs.Features.{IsFeaturesAnswer}
+use Rattle.clr_desk_layers.specs.Layers.{IsLayerPrint}
+use Rattle.clr_desk_prints.specs.NameHints.{IsHinted}
+use Rattle.clr_desk_prints.specs.Printing.{IsPrintoutIn, PrintoutOrFault}
 
 -- layers are read so: rows without keys get keys from this one on, and coordinates are rounded or not
 abbrev pub options_of : ℕ → Bool → LayerOptions

@@ -13,8 +13,8 @@ use Rattle.clr_lines.specs.Replies.{reply_text}
 use Rattle.clr_lines.specs.Verdicts.{verdict_text}
 use Rattle.clr_office.specs.Clearances.{AreMerged, is_clear, is_without_memory, stop_text}
 use Rattle.clr_office_reports.specs.Outcomes.{dump_text, is_refused}
-use Rattle.clr_desk_answers.specs.NameHints.{IsHinted}
-use Rattle.clr_desk_answers.specs.Printing.{PrintoutOrFault, printout_of}
+use Rattle.clr_desk_prints.specs.NameHints.{IsHinted}
+use Rattle.clr_desk_prints.specs.Printing.{PrintoutOrFault, printout_of}
 
 -- the text of the office that is left, and as notes a line of each reply and that of the stop
 abbrev pub merge_print : List Reply → Option ℕ → Office → PrintoutOrFault

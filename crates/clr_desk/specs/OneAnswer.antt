@@ -5,7 +5,7 @@ use Rattle.clr_desk_command_line.specs.declared.asks.DeskAsk.TheVariants as ask
 use Rattle.clr_desk_command_line.specs.declared.asks.GeographicAsk.{GeographicAsk}
 use Rattle.clr_desk_command_line.specs.declared.asks.GeographicAsk.TheVariants as geographic
 use Rattle.clr_layer_changes.specs.declared.options.GivenLayer.{GivenLayer}
-use Rattle.clr_desk_answers.specs.Printing.{PrintoutOrFault}
+use Rattle.clr_desk_prints.specs.Printing.{PrintoutOrFault}
 use Rattle.clr_desk.specs.Answers.{IsDeskAnswerTo}
 
 -- what is asked has an answer that its definition tells whole; of clashes, faults, sentences, pictures, pages, features and layers it leaves

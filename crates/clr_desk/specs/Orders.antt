@@ -5,8 +5,8 @@ use Rattle.clr_steps.specs.Offices.{Office}
 use Rattle.clr_steps.specs.Quiet.{MergeSet}
 use Rattle.clr_work_orders.specs.declared.work_orders.WorkOrder.{WorkOrder}
 use Rattle.clr_work_orders.specs.WorkOrders.{IsWorkOrder}
-use Rattle.clr_desk_answers.specs.Members.{set_asked}
-use Rattle.clr_desk_answers.specs.Printing.{PrintoutOrFault, printout_of}
+use Rattle.clr_desk_prints.specs.Members.{set_asked}
+use Rattle.clr_desk_prints.specs.Printing.{PrintoutOrFault, printout_of}
 
 -- the text of the work order, which counts as a refusal where the members aren't cleared
 abbrev pub order_print : WorkOrder → PrintoutOrFault

@@ -5,7 +5,7 @@ use Rattle.clr_desk_command_line.specs.declared.asks.TextKind.TheVariants as kin
 use Rattle.clr_text_diagnosis.specs.Whys.{IsCertificateWhy, IsOfficeWhy, IsScriptWhy}
 use Rattle.clr_text_diagnosis.specs.declared.whys.Why.{Why}
 use Rattle.clr_text_diagnosis.specs.declared.whys.Why.TheVariants as why
-use Rattle.clr_desk_answers.specs.Printing.{PrintoutOrFault}
+use Rattle.clr_desk_prints.specs.Printing.{PrintoutOrFault}
 
 -- what is found in the office text, or in the second text over it
 abbrev pub IsWhy : TextKind → List ℕ → List ℕ → Why → Type 0

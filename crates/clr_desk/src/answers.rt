@@ -3,9 +3,9 @@
 ghost use Rattle.std.specs.Prelude.{◌≡◌, ◌≢◌, [], false, IfErr, IfOk};
 ghost use Rattle.std.specs.List.{list_any};
 ghost use Rattle.std.specs.Io.KnownBytes.{Appends};
-ghost use Rattle.clr_office_reports.specs.declared.faults.RunFault.TheVariants as run_fault;
+ghost use Rattle.clr_process_io.specs.declared.faults.RunFault.TheVariants as run_fault;
 ghost use Rattle.clr_desk.specs.Answers.{IsDeskAnswer, IsDeskAnswerTo, IsDeskAnswerWithin, is_too_long_layer};
-ghost use Rattle.clr_desk_answers.specs.Printing.{IsMadePrintout};
+ghost use Rattle.clr_desk_prints.specs.Printing.{IsMadePrintout};
 
 use crate::certificates::answer_certificate;
 use crate::checks::answer_check;
@@ -16,8 +16,10 @@ use crate::geographic::answer_geographic;
 use crate::merges::answer_merge;
 use crate::orders::answer_work_order;
 use crate::whys::answer_why;
-use clr_desk_answers::{GivenLayer, Print, answer_map, answer_report};
 use clr_desk_command_line::DeskAsk;
+use clr_desk_layers::GivenLayer;
+use clr_desk_pages::{answer_map, answer_report};
+use clr_desk_prints::Print;
 use clr_office::{MOST_INPUT_BYTES, RunFault, Sink};
 use std::alloc::Global;
 

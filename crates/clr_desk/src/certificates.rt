@@ -2,13 +2,13 @@
 ghost use Rattle.std.specs.Prelude.{◌≡◌, ◌∷◌, false, map, IfOk};
 ghost use Rattle.clr_merge_sets.specs.MergeSetNames.{merge_set};
 ghost use Rattle.clr_office_texts.specs.Drafts.{draft_in};
-ghost use Rattle.clr_plan.specs.Promises.{is_cleared as is_cleared_plan};
+ghost use Rattle.clr_merge_sets.specs.Plans.{is_cleared as is_cleared_plan};
 ghost use Rattle.clr_desk.specs.Certificates.{IsCertificatePrint, IsPlanPrint, plan_print};
-ghost use Rattle.clr_desk_answers.specs.NameHints.{IsHinted};
-ghost use Rattle.clr_desk_answers.specs.Printing.{IsMadePrintout, IsPrintoutIn, printed};
+ghost use Rattle.clr_desk_prints.specs.NameHints.{IsHinted};
+ghost use Rattle.clr_desk_prints.specs.Printing.{IsMadePrintout, IsPrintoutIn, printed};
 
 use clr_cert::write_certificate;
-use clr_desk_answers::{Print, members_asked, notes_of, plan_members, with_hints};
+use clr_desk_prints::{Print, members_asked, notes_of, plan_members, with_hints};
 use clr_engine::Office;
 use clr_office::{Plan, RunFault, Words, open_office, texts_of_names};
 use clr_plan::plan_lines;

@@ -3,11 +3,11 @@ ghost use Rattle.std.specs.Prelude.{◌≡◌, ◌++◌, IfOk, OnOk};
 ghost use Rattle.clr_check.specs.Cases.{case_of};
 ghost use Rattle.clr_check.specs.TextChecks.{IsCheckedVerdict};
 ghost use Rattle.clr_desk.specs.Checks.{IsCheckPrint, counted, remark_on};
-ghost use Rattle.clr_desk_answers.specs.Printing.{IsMadePrintout, IsPrintoutOfCase, printed};
+ghost use Rattle.clr_desk_prints.specs.Printing.{IsMadePrintout, IsPrintoutOfCase, printed};
 
 use clr_cert::Certificate;
 use clr_check::judge_texts;
-use clr_desk_answers::{Print, notes_of};
+use clr_desk_prints::{Print, notes_of};
 use clr_engine::Office;
 use clr_lines::add_count;
 use clr_office::{RunFault, Verdict, fault_output, verdict_output};

@@ -3,17 +3,17 @@ ghost use Rattle.std.specs.Prelude.{◌≡◌, ◌∷◌, ◌++◌, [], codes, f
 ghost use Rattle.clr_cert.specs.Texts.{certificate_text};
 ghost use Rattle.clr_merge_sets.specs.MergeSetNames.{merge_set};
 ghost use Rattle.clr_office_texts.specs.Drafts.{draft_in};
-ghost use Rattle.clr_plan.specs.declared.plans.Plan.TheVariants as plan;
+ghost use Rattle.clr_merge_sets.specs.declared.plans.Plan.TheVariants as plan;
 ghost use Rattle.clr_choices.specs.Clearable.{IsPlanOf};
 ghost use Rattle.clr_desk.specs.Choices.{IsChoicePrint, names_line};
-ghost use Rattle.clr_desk_answers.specs.NameHints.{IsHinted};
-ghost use Rattle.clr_desk_answers.specs.Printing.{IsMadePrintout, IsPrintoutIn, printed, printout_of};
+ghost use Rattle.clr_desk_prints.specs.NameHints.{IsHinted};
+ghost use Rattle.clr_desk_prints.specs.Printing.{IsMadePrintout, IsPrintoutIn, printed, printout_of};
 
 use crate::certificates::plan_print;
 use crate::names_lines::names_line;
 use clr_cert::{Certificate, write_certificate};
 use clr_choices::{Choice, choose, plan_members};
-use clr_desk_answers::{Print, members_asked, notes_of, with_hints};
+use clr_desk_prints::{Print, members_asked, notes_of, with_hints};
 use clr_engine::Office;
 use clr_office::{Plan, RunFault, Words, open_office, texts_of_names};
 use clr_rows::Schema;

@@ -4,13 +4,13 @@ ghost use Rattle.clr_merge_sets.specs.MergeSetNames.{merge_set};
 ghost use Rattle.clr_office_texts.specs.Drafts.{draft_in};
 ghost use Rattle.clr_merge_clashes.specs.MergeClashes.{IsFaultOfNames};
 ghost use Rattle.clr_desk.specs.Clashes.{IsClashesPrint, IsMergeSetPrint, found_print};
-ghost use Rattle.clr_desk_answers.specs.NameHints.{IsHinted};
-ghost use Rattle.clr_desk_answers.specs.Printing.{IsMadePrintout, IsPrintoutIn, printed};
+ghost use Rattle.clr_desk_prints.specs.NameHints.{IsHinted};
+ghost use Rattle.clr_desk_prints.specs.Printing.{IsMadePrintout, IsPrintoutIn, printed};
 
 use crate::certificates::plan_print;
 use crate::clash_lines::clashes_lines;
 use clr_clearance::Verdict;
-use clr_desk_answers::{Print, members_asked, notes_of, with_hints};
+use clr_desk_prints::{Print, members_asked, notes_of, with_hints};
 use clr_engine::Office;
 use clr_merge_clashes::{MergeClashes, merge_clashes};
 use clr_office::{Plan, RunFault, Words, open_office, texts_of_names};

@@ -4,10 +4,10 @@ ghost use Rattle.clr_engine.specs.Drafts.{unheld_in};
 ghost use Rattle.clr_office_texts.specs.Drafts.{draft_in};
 ghost use Rattle.clr_office_texts.specs.Writing.{bytes_of};
 ghost use Rattle.clr_desk.specs.Formats.{IsFormatPrint, IsInLines};
-ghost use Rattle.clr_desk_answers.specs.Printing.{IsMadePrintout, IsPrintoutIn, printed};
+ghost use Rattle.clr_desk_prints.specs.Printing.{IsMadePrintout, IsPrintoutIn, printed};
 
 use crate::line_ends::with_line_ends;
-use clr_desk_answers::{Print, notes_of};
+use clr_desk_prints::{Print, notes_of};
 use clr_engine::Office;
 use clr_office::{RunFault, open_office};
 use clr_office_texts::write_office;

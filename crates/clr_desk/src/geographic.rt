@@ -1,13 +1,14 @@
 //! What is printed in the texts of geographic information systems, and of such texts.
 
 ghost use Rattle.clr_desk.specs.Geographic.{IsGeographicAnswer};
-ghost use Rattle.clr_desk_answers.specs.Printing.{IsMadePrintout};
+ghost use Rattle.clr_desk_prints.specs.Printing.{IsMadePrintout};
 
-use clr_desk_answers::{
-    GivenLayer, LayerOptions, Print, answer_design, answer_design_script, answer_geojson,
-    answer_layer, answer_office,
-};
 use clr_desk_command_line::GeographicAsk;
+use clr_desk_layers::{
+    GivenLayer, LayerOptions, answer_design, answer_design_script, answer_layer, answer_office,
+};
+use clr_desk_pages::answer_geojson;
+use clr_desk_prints::Print;
 use clr_office::RunFault;
 use std::alloc::Global;
 

@@ -3,8 +3,8 @@ ghost use Rattle.std.specs.Prelude.{◌≡◌, [], map, slice_get, IfOk};
 ghost use Rattle.std.specs.List.{zip};
 ghost use Rattle.clr_desk.specs.GivenLayers.{pair_of, pairs_in, tables_of};
 
-use clr_desk_answers::GivenLayer;
 use clr_desk_command_line::{DeskAsk, GeographicAsk};
+use clr_desk_layers::GivenLayer;
 use clr_office::Words;
 use std::alloc::{AllocError, Global};
 

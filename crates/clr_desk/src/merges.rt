@@ -2,11 +2,11 @@
 ghost use Rattle.std.specs.Prelude.{◌≡◌, IfOk};
 ghost use Rattle.clr_check.specs.Cases.{case_of};
 ghost use Rattle.clr_desk.specs.Merges.{IsHintedMerge, IsMergePrintout, merge_print};
-ghost use Rattle.clr_desk_answers.specs.Printing.{IsMadePrintout, IsPrintoutOfCase, printed};
+ghost use Rattle.clr_desk_prints.specs.Printing.{IsMadePrintout, IsPrintoutOfCase, printed};
 
 use clr_cert::Certificate;
 use clr_check::{ClearedRun, perform_cleared, read_case};
-use clr_desk_answers::{Print, hint_lines, notes_of};
+use clr_desk_prints::{Print, hint_lines, notes_of};
 use clr_engine::Office;
 use clr_office::{
     RunFault, Words, dump_text, fault_output, merge_commands, replies_output, stop_output,
@@ -35,7 +35,6 @@ fn merge_members(
 ) -> Result<Print, AllocError>
     ensures { IfOk result (λ p. IsMergePrintout names.now office.old certificate.now (printed p)) }
 {
-    let _rules = office.book();
     let commands = merge_commands(alloc, names)?;
     match perform_cleared(alloc, office, certificate, commands.as_slice()) {
         Ok(run) => run_print(alloc, office, &run),

@@ -2,11 +2,11 @@
 ghost use Rattle.std.specs.Prelude.{◌≡◌, ◌∷◌, map, IfOk};
 ghost use Rattle.clr_merge_sets.specs.MergeSetNames.{merge_set};
 ghost use Rattle.clr_office_texts.specs.Drafts.{draft_in};
-ghost use Rattle.clr_desk_answers.specs.NameHints.{IsHinted};
+ghost use Rattle.clr_desk_prints.specs.NameHints.{IsHinted};
 ghost use Rattle.clr_desk.specs.Orders.{IsOrderOfSet, IsOrderPrint, order_print};
-ghost use Rattle.clr_desk_answers.specs.Printing.{IsMadePrintout, IsPrintoutIn, printed};
+ghost use Rattle.clr_desk_prints.specs.Printing.{IsMadePrintout, IsPrintoutIn, printed};
 
-use clr_desk_answers::{Print, hint_lines, members_asked, notes_of};
+use clr_desk_prints::{Print, hint_lines, members_asked, notes_of};
 use clr_engine::Office;
 use clr_office::{RunFault, Words, open_office, texts_of_names};
 use clr_work_orders::{WorkOrder, work_order};

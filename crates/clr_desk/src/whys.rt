@@ -1,10 +1,10 @@
 //! Whether a text can be used, and where its fault is.
 ghost use Rattle.std.specs.Prelude.{◌≡◌, IfOk};
-ghost use Rattle.clr_desk_answers.specs.Printing.{IsMadePrintout, printed};
+ghost use Rattle.clr_desk_prints.specs.Printing.{IsMadePrintout, printed};
 ghost use Rattle.clr_desk.specs.Whys.{IsWhy, IsWhyPrint, why_print};
 
-use clr_desk_answers::{Ending, Print};
 use clr_desk_command_line::TextKind;
+use clr_desk_prints::{Ending, Print};
 use clr_office::RunFault;
 use clr_text_diagnosis::{Why, why_certificate, why_office, why_script};
 use std::alloc::{AllocError, Global};

@@ -1,12 +1,11 @@
 -- Where words have no fault, something is asked.
-use Rattle.std.proofs.Common.{◌≡◌, ◌∙◌, ◌||◌, ap, inl, inr, Bool, not, List, [], Option, Some, None, true, false, is_some, option_map, refl, sym}
+use Rattle.std.proofs.Common.{◌≡◌, ◌∙◌, ◌||◌, ap, Bool, not, List, [], ◌∷◌, codes, map, Option, Some, None, true, false, is_some, option_map, refl, sym}
 use Rattle.std.specs.Prelude.{if◌then◌else◌}
-use Rattle.std.specs.List.{AllByRecursion}
-use Rattle.clap.specs.Simple.{built}
+use Rattle.clap.specs.Simple.{built, label_of}
 use Rattle.clap.specs.Words.{Row, Text, subcommand_of}
-use Rattle.clap.specs.Faults.{fault_of}
+use Rattle.clap.specs.Faults.{fault_of, is_simple_and_free}
 use Rattle.clap.proofs.OnLiterals.{clap_on_literals}
-use Rattle.clr_command_line.proofs.Entering.{IsAsking, IsKnown, asked_of, asks_something}
+use Rattle.clr_command_line.proofs.Entering.{AllAsk, IsAsking, asked_of, asks_something, known_by_names, labels, simple_if_free}
 use Rattle.clr_desk_command_line.specs.declared.asks.DeskAsk.{DeskAsk}
 use Rattle.clr_desk_command_line.specs.Asks.{ask_by_name, geographic_asked, is_readable, members_ask, reads_layers}
 use Rattle.clr_desk_command_line.specs.Program.{program}
@@ -15,35 +14,28 @@ use Rattle.clr_desk_command_line.specs.Program.{program}
 abbrev known : Text → List Row → Option (Unit {0})
 known name rows = if reads_layers name then Some (tt {0}) else option_map (λ asked. tt {0}) (ask_by_name name rows)
 
-all_known : AllByRecursion (IsKnown known) (built program).subs
-unfolding ask_by_name geographic_asked members_ask clap_on_literals
-all_known = (
-  (refl, inl (λ rows. refl)),
+abbrev names : List Text
+names =
+    codes "certificate" ∷ codes "check" ∷ codes "merge" ∷ codes "format" ∷ codes "keep" ∷ codes "clashes" ∷ codes "why" ∷ codes "words" ∷ codes "map"
+    ∷ codes "report" ∷ codes "geojson" ∷ codes "layer" ∷ codes "office" ∷ codes "design" ∷ []
+
+all_ask : AllAsk known names
+unfolding ask_by_name geographic_asked members_ask
+all_ask = (
+  λ rows. refl,
   (
-    (refl, inl (λ rows. refl)),
+    λ rows. refl,
     (
-      (refl, inl (λ rows. refl)),
+      λ rows. refl,
       (
-        (refl, inl (λ rows. refl)),
+        λ rows. refl,
         (
-          (refl, inl (λ rows. refl)),
+          λ rows. refl,
           (
-            (refl, inl (λ rows. refl)),
+            λ rows. refl,
             (
-              (refl, inl (λ rows. refl)),
-              (
-                (refl, inl (λ rows. refl)),
-                (
-                  (refl, inl (λ rows. refl)),
-                  (
-                    (refl, inl (λ rows. refl)),
-                    (
-                      (refl, inl (λ rows. refl)),
-                      ((refl, inl (λ rows. refl)), ((refl, inl (λ rows. refl)), ((refl, inl (λ rows. refl)), ((refl, inr refl), tt)))),
-                    ),
-                  ),
-                ),
-              ),
+              λ rows. refl,
+              (λ rows. refl, (λ rows. refl, (λ rows. refl, (λ rows. refl, (λ rows. refl, (λ rows. refl, (λ rows. refl, tt))))))),
             ),
           ),
         ),
@@ -52,10 +44,24 @@ all_known = (
   ),
 )
 
+all_named : map label_of (built program).subs ≡ labels names
+unfolding clap_on_literals
+all_named = refl
+
+free : is_simple_and_free program ≡ true
+unfolding clap_on_literals
+free = refl
+
 -- the command line is one whose matches are known from the words
 pub program_asks : IsAsking known program
 unfolding clap_on_literals
-program_asks = record { known = all_known; demands = refl; has_help = refl; simple = refl; free = refl }
+program_asks = record {
+  known = known_by_names known names (built program).subs all_named all_ask;
+  demands = refl;
+  has_help = refl;
+  simple = simple_if_free program free;
+  free = free;
+}
 
 either : (b : Bool) (o : Option (DeskAsk × List Text)) → is_some (if b then Some (tt {0}) else option_map (λ asked. tt {0}) o) ≡ true → (not b || is_some o) ≡ true
     → is_some o ≡ true

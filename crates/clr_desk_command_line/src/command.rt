@@ -7,10 +7,10 @@ ghost use Rattle.clr_desk_command_line.specs.Program.{program};
 use crate::helps::{
     ABOUT, CERTIFICATE_PRINTS, CHECK_PRINTS, CLASHES_PRINTS, DESIGN_PRINTS, FORMAT_PRINTS,
     GEOJSON_PRINTS, KEEP_PRINTS, LAYER_PRINTS, MAP_PRINTS, MERGE_PRINTS, OFFICE_PRINTS,
-    REPORT_PRINTS, STATUSES, VERSION, WHY_PRINTS, WORDS_PRINTS,
+    REPORT_PRINTS, STATUSES, WHY_PRINTS, WORDS_PRINTS,
 };
 use clap::Command;
-use clr_command_line::{Argument, DATABASE, ProgramTable, Subcommand, command_of};
+use clr_command_line::{Argument, DATABASE, ProgramTable, Subcommand, VERSION, command_of};
 use std::alloc::{AllocError, Global};
 
 const CERTIFICATE: Argument<'static> = Argument::Value(

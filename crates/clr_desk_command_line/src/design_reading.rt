@@ -14,7 +14,7 @@ use clr_rows::{GREATEST_KEY, Names, Words};
 use std::alloc::{AllocError, Global};
 
 /// What is asked, and the files, in which the office text stands first.
-pub(crate) type Asked = (GeographicAsk, Vec<Words>);
+pub(crate) type GeographicAskAndFiles = (GeographicAsk, Vec<Words>);
 
 /// Returns the key that a text is, if it is one.
 fn key_in(text: &str) -> Option<u64>
@@ -45,7 +45,10 @@ fn append_files(mut files: Vec<Words>, mut others: Vec<Words>) -> Result<Vec<Wor
 }
 
 /// Returns what `office` asks for, and its files, or nothing where a layer can't be read.
-pub(crate) fn office(alloc: Global, matches: &ArgMatches) -> Result<Option<Asked>, AllocError>
+pub(crate) fn office(
+    alloc: Global,
+    matches: &ArgMatches,
+) -> Result<Option<GeographicAskAndFiles>, AllocError>
     ensures { IfOk result (λ r. office_ask (rows_of (found_of matches.now)) ≡ option_map (λ p. (p.0, p.1.items)) r) }
 {
     let Some((tables, files)) = layers(alloc, matches)? else {
@@ -69,7 +72,10 @@ fn as_script_or_office(is_script: bool, design: DesignAsk) -> GeographicAsk
 }
 
 /// Returns what `design` asks for, and its files, or nothing where the first key or a layer can't be read.
-pub(crate) fn design(alloc: Global, matches: &ArgMatches) -> Result<Option<Asked>, AllocError>
+pub(crate) fn design(
+    alloc: Global,
+    matches: &ArgMatches,
+) -> Result<Option<GeographicAskAndFiles>, AllocError>
     ensures { IfOk result (λ r. design_ask (rows_of (found_of matches.now)) ≡ option_map (λ p. (p.0, p.1.items)) r) }
 {
     let Some(first_key) = first_key(matches) else {

@@ -1,7 +1,5 @@
 //! The texts of the command line's help.
 
-pub(crate) const VERSION: &str = "1.0.0";
-
 pub(crate) const ABOUT: &str =
     "Says which designs of a utility network can be merged together, and why others can't";
 

@@ -5,7 +5,7 @@ ghost use Rattle.clap.specs.Words.{found_of, rows_of};
 ghost use Rattle.clr_desk_command_line.specs.Asks.{features_of, geographic_asked, layer_ask};
 
 use crate::asks::GeographicAsk;
-use crate::design_reading::{Asked, design, office};
+use crate::design_reading::{GeographicAskAndFiles, design, office};
 use crate::values::{given_or, given_value, root};
 use clap::ArgMatches;
 use clr_command_line::{database, names};
@@ -13,7 +13,7 @@ use clr_rows::{LIVE, Words};
 use std::alloc::{AllocError, Global};
 
 /// Returns what `geojson` asks for, and its file.
-fn features(alloc: Global, matches: &ArgMatches) -> Result<Asked, AllocError>
+fn features(alloc: Global, matches: &ArgMatches) -> Result<GeographicAskAndFiles, AllocError>
     ensures { IfOk result (λ r. features_of (rows_of (found_of matches.now)) ≡ (r.0, r.1.items)) }
 {
     let root = root(alloc, matches)?;
@@ -26,7 +26,7 @@ fn features(alloc: Global, matches: &ArgMatches) -> Result<Asked, AllocError>
 }
 
 /// Returns what `layer` asks for, and its file.
-fn layer(alloc: Global, matches: &ArgMatches) -> Result<Asked, AllocError>
+fn layer(alloc: Global, matches: &ArgMatches) -> Result<GeographicAskAndFiles, AllocError>
     ensures { IfOk result (λ r. layer_ask (rows_of (found_of matches.now)) ≡ (r.0, r.1.items)) }
 {
     let table = given_or(alloc, matches, "TABLE", "")?;
@@ -44,7 +44,7 @@ pub(crate) fn geographic_ask(
     alloc: Global,
     name: &str,
     matches: &ArgMatches,
-) -> Result<Option<Asked>, AllocError>
+) -> Result<Option<GeographicAskAndFiles>, AllocError>
     ensures { IfOk result (λ r. geographic_asked name.now (rows_of (found_of matches.now)) ≡ option_map (λ p. (p.0, p.1.items)) r) }
 {
     match name {

@@ -28,7 +28,7 @@ use clr_rows::{Names, Words};
 use std::alloc::{AllocError, Global};
 
 /// What is asked, and the files, in which the office text stands first.
-type Asked = (DeskAsk, Vec<Words>);
+type AskAndFiles = (DeskAsk, Vec<Words>);
 
 /// Returns whether an option has a value.
 fn has_value(matches: &ArgMatches, option: &str) -> bool
@@ -39,7 +39,7 @@ fn has_value(matches: &ArgMatches, option: &str) -> bool
 
 /// Returns what `why` asks for, and its files: where a script and a certificate are given, the script
 /// counts.
-fn why(alloc: Global, matches: &ArgMatches) -> Result<Asked, AllocError>
+fn why(alloc: Global, matches: &ArgMatches) -> Result<AskAndFiles, AllocError>
     ensures { IfOk result (λ r. why_of (rows_of (found_of matches.now)) ≡ (r.0, r.1.items)) }
 {
     if has_value(matches, "script") {
@@ -79,7 +79,7 @@ fn over_members(
     alloc: Global,
     name: &str,
     matches: &ArgMatches,
-) -> Result<Option<Asked>, AllocError>
+) -> Result<Option<AskAndFiles>, AllocError>
     ensures { IfOk result (λ r. members_asked name.now (rows_of (found_of matches.now)) ≡ option_map (λ p. (p.0, p.1.items)) r) }
 {
     let root = root(alloc, matches)?;
@@ -91,7 +91,7 @@ fn over_members(
 }
 
 /// Returns what `merge` asks for, and its files.
-fn merge(alloc: Global, matches: &ArgMatches) -> Result<Asked, AllocError>
+fn merge(alloc: Global, matches: &ArgMatches) -> Result<AskAndFiles, AllocError>
     ensures { IfOk result (λ r. merge_ask (rows_of (found_of matches.now)) ≡ (r.0, r.1.items)) }
 {
     let ask = DeskAsk::Merge(names(alloc, matches)?);
@@ -104,7 +104,7 @@ fn over_layers_or_members(
     alloc: Global,
     name: &str,
     matches: &ArgMatches,
-) -> Result<Option<Asked>, AllocError>
+) -> Result<Option<AskAndFiles>, AllocError>
     ensures { IfOk result (λ r. or_members_asked (geographic_asked name.now (rows_of (found_of matches.now))) name.now (rows_of (found_of matches.now))
         ≡ option_map (λ p. (p.0, p.1.items)) r) }
 {
@@ -121,7 +121,7 @@ fn ask_of_subcommand(
     alloc: Global,
     name: &str,
     matches: &ArgMatches,
-) -> Result<Option<Asked>, AllocError>
+) -> Result<Option<AskAndFiles>, AllocError>
     ensures { IfOk result (λ r. ask_by_name name.now (rows_of (found_of matches.now)) ≡ option_map (λ p. (p.0, p.1.items)) r) }
 {
     match name {

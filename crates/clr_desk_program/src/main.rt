@@ -6,9 +6,9 @@
 
 use clr_desk::{AskFault, DeskAsk, answer, ask_of, fault_place, take_layers};
 use clr_office::{Port, RunFault, Sink, Words};
-use clr_office_reports::{
-    BAD_WORDS, end_run, file_name, print_fault, print_input_remark, print_parser_message,
-    read_files, text_at, texts_of_words, words,
+use clr_process_io::{
+    BAD_WORDS, end_run, file_name, print_fault, print_parser_message, put_input_remark, read_files,
+    text_at, texts_of_words, words,
 };
 use clr_streams::Screen;
 use std::io::ErrorKind;
@@ -34,7 +34,7 @@ fn refuse_texts(
 /// Prints the line of a fault of a file on standard error, and behind it which file that is; and gives its exit status.
 fn refuse_file(rt: &HostRuntime, name: &str, fault: RunFault) -> u8 {
     let status = print_fault(rt, fault);
-    print_input_remark(rt, name, fault);
+    let _ = put_input_remark(rt.alloc(), &mut Port::new(rt.stderr()), name, fault);
     status
 }
 

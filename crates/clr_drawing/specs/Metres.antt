@@ -1,10 +1,6 @@
 -- Lengths of the world, as they are read: in metres.
-use Rattle.std.specs.Prelude.{ℕ, ℤ, ◌/◌, ◌%◌, ◌==◌, List, [], ◌++◌, codes, decimal, unsigned_abs, if◌then◌else◌}
-use Rattle.std.specs.Int.{is_negative}
-
--- a `-` where a number is below 0
-abbrev pub sign_text : ℤ → List ℕ
-sign_text n = if is_negative n then codes "-" else []
+use Rattle.std.specs.Prelude.{ℕ, ℤ, ◌/◌, ◌%◌, ◌==◌, List, ◌++◌, codes, decimal, unsigned_abs, if◌then◌else◌}
+use Rattle.clr_svg.specs.Numbers.{sign_text}
 
 -- the hundredths and the thousandths of a metre, without a nought at the end
 unfoldable pub last_digits : ℕ → List ℕ

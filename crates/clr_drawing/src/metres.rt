@@ -1,7 +1,8 @@
 //! Lengths of the world, as they are read: in metres.
 
 ghost use Rattle.std.specs.Prelude.{◌≡◌, IfOk, string_bytes};
-ghost use Rattle.clr_drawing.specs.Metres.{decimals, last_digits, round_metres_text, sign_text, unsigned_text};
+ghost use Rattle.clr_svg.specs.Numbers.{sign_text};
+ghost use Rattle.clr_drawing.specs.Metres.{decimals, last_digits, round_metres_text, unsigned_text};
 
 use std::alloc::{AllocError, Global};
 

@@ -24,10 +24,10 @@ or_none None = refl
 or_none (Some reply) = refl
 
 -- edits that can be made are refused for what they break
-pub edits_break : (bad : Option (ℕ × EditFault)) (kept judged : Bool) (book : List Rule) (content other : Content) (need : Option Broken) → bad ≡ None → judged
+pub edits_break : (bad : Option (ℕ × EditFault)) (kept judged : Bool) (book : List Rule) (before content other : Content) (need : Option Broken) → bad ≡ None → judged
     ≡ kept → other ≡ content
-    → option_map RuleBroken need ≡ broken_where judged book other → option_or (option_map bad_edit bad) (option_or (broken_where kept book content) None)
+    → option_map RuleBroken need ≡ broken_where judged book before other → option_or (option_map bad_edit bad) (option_or (broken_where kept book before content) None)
     ≡ option_map RuleBroken need
-edits_break bad kept judged book content other need none same is e =
-    ap (λ r. option_or (option_map bad_edit r) (option_or (broken_where kept book content) None)) none ∙ or_none (broken_where kept book content)
-    ∙ sym (e ∙ ap (λ b. broken_where b book other) same ∙ ap (broken_where kept book) is)
+edits_break bad kept judged book before content other need none same is e =
+    ap (λ r. option_or (option_map bad_edit r) (option_or (broken_where kept book before content) None)) none ∙ or_none (broken_where kept book before content)
+    ∙ sym (e ∙ ap (λ b. broken_where b book before other) same ∙ ap (broken_where kept book before) is)

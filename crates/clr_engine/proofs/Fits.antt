@@ -49,6 +49,10 @@ module _ (book : List Rule) (ws : List Workspace) (h : FitSome book ws) where
   both : (at : ℕ) (next : Content) → FitsSchema h.0 next → FitBoth book (workspace_at ws at).current next
   both at next fits = record { tables = h.0; book = h.1.book; before = content_at h.0 book ws h.1.rows at; after = fits }
 
+  -- the current contents of two workspaces
+  pub fit_two : (at other : ℕ) → FitBoth book (workspace_at ws at).current (workspace_at ws other).current
+  fit_two at other = both at _ (content_at h.0 book ws h.1.rows other)
+
   module _ (at : ℕ) (some : 0 < at) where
     fits_at : WorkspaceFits h.0 (workspace_at ws at)
     fits_at = rows_at h.0 book ws h.1.rows at some

@@ -1,4 +1,5 @@
 pub mod Answered
+pub mod Changed
 pub mod Contents
 pub mod Dispatch
 pub mod Fits

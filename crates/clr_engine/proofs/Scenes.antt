@@ -1,4 +1,4 @@
--- The scene of one change set over a content in which every rule holds.
+-- The scene of one change set over a content.
 use Rattle.std.proofs.Common.{◌≡◌, ◌∙◌, ℕ, zero, suc, Bool, true, false, cond, List, [], ◌∷◌, Option, Some, None, refl, sym, ap, subst, unwrap_or}
 use Rattle.clr_rows.specs.declared.cells.CellId.{CellId}
 use Rattle.clr_rows.specs.declared.rows.Row.{Row}
@@ -7,13 +7,16 @@ use Rattle.clr_rows.proofs.ChangeLemmas.{row-taken_over}
 use Rattle.std.specs.Prelude.{Result, Ok, Err, IfOk}
 use Rattle.std.specs.declared.alloc.AllocError.{AllocError}
 use Rattle.clr_rules.specs.Books.{FitsCell}
-use Rattle.clr_rules.specs.Needs.{IsFirstBroken}
+use Rattle.clr_rules.specs.Needs.{IsFirstNewlyBroken}
 use Rattle.clr_rules.specs.declared.needs.Broken.{Broken}
 use Rattle.clr_finders.specs.Sharing.{IsSettledFor}
 use Rattle.clr_needs.proofs.AuditLaws.{first_listed}
 use Rattle.clr_needs.specs.Broken.{view_after_merge}
 use Rattle.clr_foot.specs.Scenes.{IsReady, SceneModel, setting_of}
-use Rattle.clr_steps.specs.Refusals.{first_broken}
+use Rattle.clr_steps.specs.Refusals.{first_newly_broken}
+use Rattle.clr_needs.specs.Settings.{DoChange}
+use Rattle.clr_engine.specs.Fitting.{DoChangeRows}
+use Rattle.clr_engine.proofs.Changed.{do_change}
 use Rattle.clr_rules.specs.declared.rules.Rule.{Rule}
 use Rattle.clr_finders.specs.RowMaps.{FiledRows}
 use Rattle.clr_needs.specs.declared.needs.VersionId.{VersionId}
@@ -79,15 +82,20 @@ module _ (book rules : List Rule) (content root : Content) (changed : Changes) (
     is_settled = subst (λ r. IsSettledFor finder.settled r root) (sym is) (subst (λ m. IsSettledFor finder.settled book m) (sym same) served.0);
   }
 
+  pub changing : DoChangeRows content changed → DoChange (setting rules root sets)
+  changing h = subst (λ r. DoChange (setting r root sets)) (sym is) (subst (λ m. DoChange (setting book m sets)) (sym same)
+      (subst (λ ss. DoChange (setting book content ss)) (sym one) (do_change book content changed h)))
+
   pub listed : (m : SceneModel FiledRows) (finder : FiledRows) → m ≡ record { rules = rules; root = root; sets = sets; finder = finder }
       → (r : Result (Option Broken) AllocError)
-      → IfOk r (IsFirstBroken m.rules (view_after_merge (setting_of m))) → IfOk r (λ need. need ≡ first_broken book (taken_over content changed))
-  unfolding first_broken
+      → IfOk r (IsFirstNewlyBroken m.rules (row_at m.root) (view_after_merge (setting_of m)))
+      → IfOk r (λ need. need ≡ first_newly_broken book content (taken_over content changed))
+  unfolding first_newly_broken
   listed m finder e (Ok need) h = first_listed book content changed need
-      (subst (λ r. IsFirstBroken r (view_after_merge (setting r content (changed ∷ []))) need) is
-      (subst (λ c. IsFirstBroken rules (view_after_merge (setting rules c (changed ∷ []))) need) same
-      (subst (λ ss. IsFirstBroken rules (view_after_merge (setting rules root ss)) need) one
-      (subst (λ (m : SceneModel FiledRows). IsFirstBroken m.rules (view_after_merge (setting_of m)) need) e h))))
+      (subst (λ r. IsFirstNewlyBroken r (row_at content) (view_after_merge (setting r content (changed ∷ []))) need) is
+      (subst (λ (c : Content). IsFirstNewlyBroken rules (row_at c) (view_after_merge (setting rules c (changed ∷ []))) need) same
+      (subst (λ ss. IsFirstNewlyBroken rules (row_at root) (view_after_merge (setting rules root ss)) need) one
+      (subst (λ (m : SceneModel FiledRows). IsFirstNewlyBroken m.rules (row_at m.root) (view_after_merge (setting_of m)) need) e h))))
   listed m finder e (Err x) h = h
 
 -- ---- a workspace with a finder

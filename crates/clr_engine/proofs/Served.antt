@@ -4,12 +4,11 @@ use Rattle.std.proofs.Common.{sym, ap, subst, slice_get, slice_set, arith}
 use Rattle.std.specs.Prelude.{Result, Ok, Err, OnOk, IfSome, is_err}
 use Rattle.std.specs.declared.alloc.AllocError.{AllocError}
 use Rattle.std.specs.Option.{option_and_then, option_map, option_map_or}
-use Rattle.std.proofs.lemmas.Bool.{false≢true, true≢false}
+use Rattle.std.proofs.lemmas.Bool.{true≢false}
 use Rattle.std.proofs.Math.Seq.{take-length}
 use Rattle.std.proofs.lemmas.List.{length-append, length-map, map-set, take-append-le, take_more}
-use Rattle.clr_rows.specs.Contents.{no_rows, row_at}
+use Rattle.clr_rows.specs.Contents.{no_rows}
 use Rattle.clr_rows.specs.declared.tables.TableDef.{TableDef}
-use Rattle.clr_rules.specs.Needs.{Holds}
 use Rattle.clr_rules.specs.declared.rules.Rule.{Rule}
 use Rattle.clr_finders.specs.RowMaps.{FiledRows}
 use Rattle.clr_workspaces.specs.Marks.{Name, find_mark}
@@ -24,27 +23,14 @@ use Rattle.clr_steps.proofs.SeenLemmas.{name_is, name_law, within}
 use Rattle.clr_engine.specs.Fitting.{IsAdmitted}
 use Rattle.clr_grid.specs.Finders.{AreFinders, IsFinderAt, IsFinderOf}
 use Rattle.clr_engine.specs.KeptContents.{IsPositionOf, StayFinders, kept_content_at, kept_content, kept_contents}
-use Rattle.clr_engine.specs.Fitting.{HoldInKept, IsServed}
+use Rattle.clr_engine.specs.Fitting.{IsServed}
 use Rattle.clr_grid.proofs.Indexes.{one_at, one_less, one_more, one_set}
 use Rattle.clr_engine.proofs.Kept.{after_creating, after_removing, content_at, same_content}
 
 module _ (schema : List TableDef) (book : List Rule) (ws : List Workspace) (sound : IsSound ws) where
-  below_within : (vs : List Workspace) (at : ℕ) → (workspace_at vs at).kept ≡ true → at < length vs
-  below_within [] at flag = absurd (false≢true flag)
-  below_within (v ∷ vs) zero flag = omega arith
-  below_within (v ∷ vs) (suc at) flag = omega (arith, below_within vs at flag)
-
-  hold_in_kept : IsAdmitted (office_of schema book ws) → HoldInKept book ws
-  hold_in_kept admitted at flag =
-      let name = (workspace_at ws at).name in
-      let s = name_law schema book ws sound name in
-      let own : find ws name ≡ Some at = sound.rooted.own at (below_within ws at flag) in
-      subst (λ m. Holds book (row_at m)) (s.content ∙ ap (λ r. option_map_or (λ k. (workspace_at ws k).current) r no_rows) own)
-      (admitted.holds name (s.kept ∙ ap (λ r. option_map_or (λ k. (workspace_at ws k).kept) r false) own ∙ flag))
-
   pub served : IsAdmitted (office_of schema book ws) → (finders : List (Option FiledRows)) → AreFinders book (kept_contents ws) finders →
       IsServed book ws finders
-  served admitted finders are = record { sound = sound; fit = (schema, admitted.fit); holds = hold_in_kept admitted; are = are }
+  served admitted finders are = record { sound = sound; fit = (schema, admitted.fit); are = are }
 
   -- ---- positions of an office
   got : (vs : List Workspace) (k : ℕ) → k < length vs → slice_get vs k ≡ Some (workspace_at vs k)

@@ -3,11 +3,9 @@ use Rattle.std.proofs.Common.{Bool, true, false, sym, ap, subst}
 use Rattle.clr_rules.specs.Books.{FitsBook}
 use Rattle.clr_steps.specs.declared.commands.Command.{Command}
 use Rattle.clr_steps.specs.declared.commands.Reply.{Reply}
-use Rattle.clr_steps.specs.Invariants.{HoldsWhereKept}
 use Rattle.clr_steps.specs.Offices.{Office}
 use Rattle.clr_steps.specs.Steps.{Answer, IsAnswer, is_lost, step, step_or_lost}
 use Rattle.clr_steps.proofs.FitLemmas.{fit_law}
-use Rattle.clr_steps.proofs.RuleLemmas.{rules_law}
 use Rattle.clr_steps.proofs.SchemaLemmas.{schema_law}
 use Rattle.clr_engine.specs.Fitting.{IsFitting}
 
@@ -33,5 +31,3 @@ pub fits_after : (o : Office) (c : Command) (reply : Reply) (left : Office) → 
 fits_after o c reply left h answered = after_answer IsFitting o c reply left h (fits_step o c h) answered
 
 -- after each answer, rules hold where they are to hold
-pub holds_after : (o : Office) (c : Command) (reply : Reply) (left : Office) → HoldsWhereKept o → IsAnswer o c reply left → HoldsWhereKept left
-holds_after o c reply left h answered = after_answer HoldsWhereKept o c reply left h (rules_law o c h) answered

@@ -46,7 +46,7 @@ fn apply(
     requires served { IsServed judge.now tree.old.list finders.old }
     ensures performed { let w = workspace_at tree.old.list at in IsPerformed
         (first_of (option_map bad_edit (first_bad_edit schema.now w.current 1 edits.now)
-        ∷ broken_where w.kept judge.now (after_edits w.current edits.now)
+        ∷ broken_where w.kept judge.now w.current (after_edits w.current edits.now)
         ∷ []))
         tree.old.list (edit_at tree.old.list edits.now at) result tree.new.list }
     ensures finders { AreFinders judge.now (kept_contents tree.new.list) finders.new }
@@ -244,7 +244,8 @@ fn hold(judge: &Judge, tree: &mut Tree, finders: &mut Finders, at: usize) -> Rep
         IsPerformedAt judge.now (command.Hold (name_of list at)) at list (set_kept list at true) result tree.new.list }
     ensures finders { AreFinders judge.now (kept_contents tree.new.list) finders.new }
 {
-    match judge.prepare_hold(tree, finders, at) {
+    let above = tree.parent(at).unwrap();
+    match judge.prepare_hold(tree, finders, at, above) {
         Ok(None) => {
             tree.hold(at);
             Reply::Done

@@ -1,13 +1,15 @@
-//! Offices: workspaces under LIVE over one schema, and rules that hold in LIVE and in each
-//! workspace that is kept.
+//! Offices: workspaces under LIVE over one schema, and rules that no command breaks anew in LIVE or
+//! in a workspace that is kept.
 //!
-//! - `Office::perform` [`answer`, `no_memory`]: the reply and the whole office afterwards are those
+//! - `Office::perform` [`answer`, `nothing_new`, `no_memory`]: the reply and the whole office afterwards are those
 //!   of one step of `clr_steps`, or the reply is want of memory and the office is unchanged;
 //!   Remove, Unmark and Release are never answered so. A refusal, always the first that applies,
-//!   changes nothing; RuleBroken is the last, with the least broken need of the whole content that
-//!   would stand in LIVE or a kept workspace. The body looks at what the changes touch; what is
-//!   proved speaks of the whole content.
-//! - `Office::perform_all` [`run`, `err`]: the replies and the office are those of `run` in which
+//!   changes nothing; RuleBroken is the last, with the least need that the whole content breaks
+//!   which would stand in LIVE or a kept workspace, and that isn't broken already with the same
+//!   rows. The body looks at what the changes touch; what is proved speaks of the whole content. So
+//!   no kept content breaks what none broke before, and every rule goes on holding where every rule
+//!   held (`BreaksNothingNew`).
+//! - `Office::perform_all` [`run`, `nothing_new`, `err`]: the replies and the office are those of `run` in which
 //!   the commands answered OutOfMemory are lost; where no memory is found for the replies, nothing
 //!   is performed.
 //! - `Draft::build` [`made`, `passed`, `refused`] gives a draft of LIVE and parts, or the first
@@ -15,7 +17,7 @@
 //!   rules and each row fit the schema. `Draft::admit` [`office`, `held`, `draft`, `fault`] gives
 //!   an office of the same exactly where every rule holds in LIVE and in each kept workspace;
 //!   otherwise it gives the draft back with the first that breaks one and its least broken need, or
-//!   with want of memory. An office goes on fitting and holding [`admitted`].
+//!   with want of memory. An office goes on fitting its schema [`admitted`].
 //! - `schema`, `book`, `live`, `len`, `name_at`, `parent_of`, `kept`, `read`, `rows`, `changes`,
 //!   `conflicts` and `part` show the office exactly; all up to `read` take no memory. `len`
 //!   [`sound`] tells what holds of its workspaces (`clr_workspaces: Soundness`).

@@ -1,6 +1,6 @@
 //! Offices, and what is read of them.
 
-ghost use Rattle.std.specs.Prelude.{◌≡◌, ◌+◌, ◌∷◌, false, length, is_some, option_map, IfOk, IfSome, OnErr};
+ghost use Rattle.std.specs.Prelude.{◌≡◌, ◌+◌, ◌∷◌, false, length, is_some, option_map, IfOk, IfSome, OnErr, OnOk};
 ghost use Rattle.std.specs.Option.{option_copied};
 ghost use Rattle.clr_rows.specs.Contents.{row_at};
 ghost use Rattle.clr_workspaces.specs.Workspaces.{live_workspace};
@@ -8,6 +8,7 @@ ghost use Rattle.clr_workspace_parts.specs.Parts.{workspace_of};
 ghost use Rattle.clr_workspaces.specs.Soundness.{IsSound};
 ghost use Rattle.clr_steps.specs.Offices.{content_of, is_kept, office_of, stands};
 ghost use Rattle.clr_steps.specs.Readings.{changes_in, conflicts_in, if_stands, name_at, parent_in, stored_in};
+ghost use Rattle.clr_steps.specs.Laws.{BreaksNothingNew};
 ghost use Rattle.clr_steps.specs.Steps.{is_lost, lost_in, run, IsAnswer, TakesNoMemory};
 ghost use Rattle.clr_engine.specs.Fitting.{IsAdmitted};
 ghost use Rattle.clr_engine.specs.Drafts.{delta_in, part_at};
@@ -28,8 +29,8 @@ use std::alloc::AllocError;
 use std::marker::Model;
 
 /// A database: its schema, its rules, LIVE's content and the workspaces under LIVE. The rules and
-/// each row of each content fit the schema, and every rule holds in LIVE and in each workspace that
-/// is kept.
+/// each row of each content fit the schema. No command breaks a need in LIVE or in a workspace that
+/// is kept which isn't broken there already, so every rule goes on holding where every rule held.
 pub struct Office {
     schema: Schema,
     judge: Judge,
@@ -90,7 +91,7 @@ impl Office {
         &self.schema
     }
 
-    /// Returns the rules, which hold in LIVE and in each workspace that is kept.
+    /// Returns the rules. No command breaks one anew in LIVE or in a workspace that is kept.
     /// For example, where the only rule is that mains cross only at nodes, the book has `len` 1, and its rule 0 is
     /// this `Crossing`. No command changes that.
     pub fn book(&self) -> &RuleBook
@@ -180,8 +181,8 @@ impl Office {
         self.finders.get(position)
     }
 
-    /// Returns whether LIVE or a workspace is kept, so that every rule holds in it; or none for an
-    /// unknown name.
+    /// Returns whether LIVE or a workspace is kept, so that no command breaks a rule anew in it; or
+    /// none for an unknown name.
     pub fn kept(&self, ws: &str) -> Option<bool>
         ensures value { result ≡ if_stands self.now ws.now (is_kept self.now ws.now) }
         ensures admitted { IsAdmitted self.now }
@@ -292,11 +293,13 @@ impl Office {
     /// Performs one command, whole or not at all. The reply is the first refusal that applies, or
     /// `Done`; a refused command changes nothing. `OutOfMemory` may come in place of any other
     /// reply, but never to `Remove`, `Unmark` and `Release`, and changes nothing either. That the
-    /// content would break a rule, where the rules are to hold in it, is the last refusal.
+    /// content would break a need that isn't broken already, with the same rows, where the rules are
+    /// to hold in it, is the last refusal. So where every rule holds, it goes on holding.
     /// For example, where two mains may cross only at a node, and a workspace has deleted the node at which they do, its
     /// merge into LIVE is answered `RuleBroken` with the need of both mains.
     pub fn perform(&mut self, command: &Command) -> Reply
         ensures answer { IsAnswer self.old command.now result self.new }
+        ensures nothing_new { BreaksNothingNew self.old self.new }
         ensures no_memory { TakesNoMemory command.now → is_lost result ≡ false }
     {
         let reply = perform(
@@ -316,6 +319,7 @@ impl Office {
     pub fn perform_all(&mut self, commands: &[Command]) -> Result<Vec<Reply>, AllocError>
         ensures run { IfOk result (λ replies. run self.old commands.now (lost_in replies.items)
             ≡ record { replies = replies.items; office = self.new }) }
+        ensures nothing_new { OnOk result (BreaksNothingNew self.old self.new) }
         ensures err { OnErr result (self.new ≡ self.old) }
     {
         let mut replies = Vec::with_capacity(self.judge.allocator(), commands.len())?;

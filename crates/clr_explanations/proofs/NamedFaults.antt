@@ -21,7 +21,7 @@ use Rattle.clr_item_explanations.specs.Values.{text_at}
 use Rattle.clr_text_positions.specs.declared.paths.Key.TheVariants as key
 use Rattle.clr_explanations.specs.Names.{HasTable, NamesAreKnown, TellsFirstUnknown, TellsUnknownName, TellsUnknownTable, first_unknown}
 use Rattle.clr_item_explanations.specs.declared.slips.Slip.{Slip}
-use Rattle.clr_fault_lines.specs.declared.remarks.Remark.{Remark}
+use Rattle.clr_text_positions.specs.declared.remarks.Remark.{Remark}
 use Rattle.clr_faults.specs.declared.spots.FaultyItem.{FaultyItem}
 use Rattle.clr_explanations.specs.Items.{item_at_spot}
 use Rattle.clr_explanations.specs.Places.{place_text}

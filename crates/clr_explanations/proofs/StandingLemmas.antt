@@ -14,7 +14,7 @@ use Rattle.clr_rule_text.specs.declared.faults.TextFault.TheVariants as fault
 use Rattle.clr_faults.proofs.Lost.{fails_exactly}
 use Rattle.clr_faults.specs.Spots.{value_in}
 use Rattle.clr_faults.specs.declared.spots.FaultyItem.TheVariants as spot
-use Rattle.clr_fault_lines.specs.declared.remarks.Remark.{Remark}
+use Rattle.clr_text_positions.specs.declared.remarks.Remark.{Remark}
 use Rattle.clr_item_explanations.specs.FaultNames.{BeginsWithName, part_fault_name}
 use Rattle.clr_item_explanations.specs.declared.slips.Slip.{Slip}
 use Rattle.clr_explanations.specs.Places.{place_text}

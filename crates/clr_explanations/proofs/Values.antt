@@ -8,7 +8,7 @@ use Rattle.serde_json.specs.Read.{read}
 use Rattle.clr_rule_text.specs.declared.faults.TextFault.{TextFault}
 use Rattle.clr_faults.specs.Spots.{value_in}
 use Rattle.clr_faults.specs.declared.spots.FaultyItem.{FaultyItem}
-use Rattle.clr_fault_lines.specs.declared.remarks.Remark.{Remark}
+use Rattle.clr_text_positions.specs.declared.remarks.Remark.{Remark}
 use Rattle.clr_explanations.specs.Remarks.{IsRemarkIn}
 
 pub said_in : (text : List ℕ) (d : Data) (e : TextFault) (at : FaultyItem) (remark : Remark) → value_in text ≡ Some d → IsRemarkIn d e at remark →

@@ -20,7 +20,7 @@ use Rattle.clr_item_explanations.specs.Tellings.{Tells, TellsNamed}
 use Rattle.clr_item_explanations.specs.Values.{table_called, text_at}
 use Rattle.clr_faults.specs.Spots.{IsFoundIn, value_in}
 use Rattle.clr_faults.specs.declared.spots.FaultyItem.{FaultyItem}
-use Rattle.clr_fault_lines.specs.declared.remarks.Remark.{Remark}
+use Rattle.clr_text_positions.specs.declared.remarks.Remark.{Remark}
 use Rattle.clr_text_positions.specs.declared.paths.Key.TheVariants as key
 use Rattle.clr_text_positions.specs.declared.paths.PathStep.{PathStep}
 use Rattle.clr_explanations.specs.Items.{item_at_spot}

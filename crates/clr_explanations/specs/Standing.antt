@@ -8,7 +8,7 @@ use Rattle.clr_office_reading.specs.Offices.{OfficeText, office_in}
 use Rattle.clr_item_explanations.specs.FaultNames.{BeginsWithName, part_fault_name}
 use Rattle.clr_faults.specs.Spots.{value_in}
 use Rattle.clr_faults.specs.declared.spots.FaultyItem.TheVariants as spot
-use Rattle.clr_fault_lines.specs.declared.remarks.Remark.{Remark}
+use Rattle.clr_text_positions.specs.declared.remarks.Remark.{Remark}
 use Rattle.clr_text_positions.specs.declared.paths.PathStep.{PathStep}
 use Rattle.clr_explanations.specs.Places.{place_text}
 

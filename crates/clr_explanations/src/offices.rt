@@ -11,11 +11,11 @@ use crate::field_slips::field_slip;
 use crate::inner_slips::{row_slip, rule_slip, schema_slip, slip_or_unknown};
 use crate::places::remark_of;
 use crate::repeated::repeated_slip;
-use clr_fault_lines::Remark;
 use clr_faults::{FaultyItem, Found, find_fault};
 use clr_hints::json_fault;
 use clr_item_explanations::{Slip, explain_workspace};
 use clr_office_reading::TextFault;
+use clr_text_positions::Remark;
 use serde_json::Value as Json;
 use std::alloc::{AllocError, Global};
 

@@ -8,10 +8,9 @@ ghost use Rattle.clr_explanations.specs.Places.{steps_within, value_at_step};
 
 use crate::items::item_at;
 use crate::spots::spot_steps;
-use clr_fault_lines::Remark;
 use clr_faults::FaultyItem;
 use clr_item_explanations::Slip;
-use clr_text_positions::{PathStep, value_at};
+use clr_text_positions::{PathStep, Remark, value_at};
 use serde_json::Value as Json;
 use std::alloc::{AllocError, Global};
 

@@ -7,11 +7,10 @@ ghost use Rattle.clr_explanations.specs.Standing.{IsPartRemark, IsStandingFault,
 ghost use Rattle.clr_item_explanations.specs.FaultNames.{BeginsWithName, part_fault_name};
 
 use crate::places::remark_of;
-use clr_fault_lines::Remark;
 use clr_faults::{FaultyItem, unless_lost};
 use clr_item_explanations::{Slip, explain_part, items_at};
 use clr_office_reading::read_office;
-use clr_text_positions::Key;
+use clr_text_positions::{Key, Remark};
 use clr_tree::{PartFault, Tree};
 use serde_json::Value as Json;
 use std::alloc::{AllocError, Global};

@@ -17,7 +17,7 @@ use Rattle.clr_rules.specs.declared.rules.Rule.{Rule}
 use Rattle.clr_rules.specs.declared.sides.Side.{Side}
 use Rattle.clr_rules.specs.Calls.{is_server, is_server_of, serves, suits}
 use Rattle.clr_rules.specs.Sides.{is_of, sides}
-use Rattle.clr_rules.specs.Needs.{Holds, IsBroken, IsLeastBroken, broken_cmp}
+use Rattle.clr_rules.specs.Needs.{BreaksNoMore, IsLeastNewlyBroken, IsNewlyBroken, broken_cmp}
 use Rattle.clr_rules.proofs.BrokenOrder.{broken_total}
 use Rattle.clr_needs.specs.declared.needs.Need.{Need}
 use Rattle.clr_needs.specs.declared.needs.VersionId.{VersionId}
@@ -25,11 +25,11 @@ use Rattle.clr_needs.specs.Broken.{HasLivingServer, IsJudged, IsServedAfterMerge
 use Rattle.clr_needs.specs.Members.{setting}
 use Rattle.clr_needs.specs.Needs.{IsBesideIfAny, IsChanged, IsPossibleNeed, IsTouched, ask_of, held_if_any, is_fresh}
 use Rattle.clr_needs.specs.Orders.{need_cmp}
-use Rattle.clr_needs.specs.Settings.{Setting, Lifetime, Always, With, Without, Lived, held_row, version}
-use Rattle.clr_needs.proofs.BreakLaws.{broken_by, holds_after, unserved_is_broken, need_order}
+use Rattle.clr_needs.specs.Settings.{Setting, DoChange, Lifetime, Always, With, Without, Lived, held_row, version}
+use Rattle.clr_needs.proofs.BreakLaws.{broken_by, need_order, no_more_after, unserved_is_broken}
 use Rattle.clr_needs.proofs.NeedOrder.{need_total}
 use Rattle.clr_needs.proofs.Placing.{PlaceOf, after, before, here, place_of}
-use Rattle.clr_needs.proofs.Reading.{all_taken}
+use Rattle.clr_needs.proofs.Reading.{all_taken, read_of}
 use Rattle.clr_row_versions.specs.Gains.{IsListedOrPassed}
 use Rattle.clr_new_pairs.specs.NewPairs.{BreaksAtOnce, Passes, is_unserved, is_unserved_by, is_unserved_under}
 use Rattle.clr_foot.specs.Touches.{ListsTouched}
@@ -97,10 +97,10 @@ module _ (rules : List Rule) (root : Content) (sets : List Changes) (one : lengt
 
   -- ---- the first broken one of the listed needs
 
-  module _ (leaves_out : Bool) (holds : Holds rules s.root) (needs read : List Need) (k : ℕ) (listed : ListsTouched s leaves_out needs) (same : read ≡ needs)
+  module _ (leaves_out : Bool) (changes : DoChange s) (needs read : List Need) (k : ℕ) (listed : ListsTouched s leaves_out needs) (same : read ≡ needs)
       (kept : (m : Need) → Contains (take k read) m → IsServedAfterMerge s m) where
-    pub none_is_broken : length read ≤ k → Holds rules (view_after_merge s)
-    none_is_broken past = holds_after rules root sets one holds (λ m t. by m (listed.every m t))
+    pub none_is_broken : length read ≤ k → BreaksNoMore rules s.root (view_after_merge s)
+    none_is_broken past = no_more_after rules root sets one (λ m t. by m (listed.every m t))
       where
         all : (m : Need) → Contains needs m → IsServedAfterMerge s m
         all m h = kept m (all_taken read k m past (subst (λ ms. Contains ms m) (sym same) h))
@@ -110,10 +110,14 @@ module _ (rules : List Rule) (root : Content) (sets : List Changes) (one : lengt
         by m (inr (j, h, (breaking, less))) = absurd (kept_not_broken j (all j h) (break_is_broken leaves_out j (listed.only j h) breaking))
 
     pub first_is_least : (n d : Need) (broken : Bool) (b : Broken) → k < length read → n ≡ get_or read k d → IsJudged s n broken → broken ≡ true
-        → b ≡ broken_of n → IsLeastBroken rules (view_after_merge s) b
+        → b ≡ broken_of n → IsLeastNewlyBroken rules s.root (view_after_merge s) b
     first_is_least n d broken b less is judged told named =
-        subst (IsLeastBroken rules (view_after_merge s)) (sym named) (record { broken = unserved_is_broken rules root sets one n it; least = least })
+        subst (IsLeastNewlyBroken rules s.root (view_after_merge s)) (sym named)
+        (record { broken = unserved_is_broken rules root sets one changes n it (listed.only n there); least = least })
       where
+        there : Contains needs n
+        there = subst (λ m. Contains needs m) (sym is) (read_of read needs k d same less)
+
         it : IsUnservedAfterMerge s n
         it = subst (IsJudged s n) told judged
 
@@ -138,7 +142,7 @@ module _ (rules : List Rule) (root : Content) (sets : List Changes) (one : lengt
         by m unserved_too (inl h) = at m unserved_too (place m h)
         by m unserved_too (inr (j, h, (breaking, e))) = behind m j unserved_too (break_is_broken leaves_out j (listed.only j h) breaking) e (place j h)
 
-        least : (b : Broken) → IsBroken rules (view_after_merge s) b → is_gt (broken_cmp (broken_of n) b) ≡ false
+        least : (b : Broken) → IsNewlyBroken rules s.root (view_after_merge s) b → is_gt (broken_cmp (broken_of n) b) ≡ false
         least b broken =
-            let (m, h) = broken_by rules root sets one holds b broken in
+            let (m, h) = broken_by rules root sets one b broken in
             subst (λ x. is_gt (broken_cmp (broken_of n) x) ≡ false) (sym h.named) (by m h.broken (listed.every m h.touched))

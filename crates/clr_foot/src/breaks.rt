@@ -2,9 +2,10 @@
 
 ghost use Rattle.std.specs.Prelude.{◌≡◌, length, IfOk};
 ghost use Rattle.clr_rows.specs.Contents.{row_at};
-ghost use Rattle.clr_rules.specs.Needs.{Holds, IsFirstBroken};
+ghost use Rattle.clr_rules.specs.Needs.{IsFirstNewlyBroken};
 ghost use Rattle.clr_needs.specs.Broken.{IsJudged, view_after_merge};
 ghost use Rattle.clr_needs.specs.Needs.{IsPossibleNeed};
+ghost use Rattle.clr_needs.specs.Settings.{DoChange};
 ghost use Rattle.clr_foot.specs.Scenes.{IsReady, model_of, setting_in, setting_of};
 
 use crate::first_servers::Sought;
@@ -41,13 +42,15 @@ impl<V: RowView, F: RowFinder> Scene<'_, V, F> {
         }
     }
 
-    /// Returns the least broken need of the root's rows with the changes of the one member over
-    /// them, where every rule holds in the root: none where every rule holds after the changes too.
+    /// Returns the least need that the root's rows with the changes of the one member over them break,
+    /// and the root's rows don't: none where no more is broken than before. The changes differ from
+    /// the root's rows.
     pub fn first_broken(&self) -> Result<Option<Broken>, AllocError>
         requires ready { IsReady F.settled (model_of V.content self.now) }
         requires one { length (model_of V.content self.now).sets ≡ 1 }
-        requires holds { Holds (model_of V.content self.now).rules (row_at (model_of V.content self.now).root) }
-        ensures { IfOk result (IsFirstBroken (model_of V.content self.now).rules (view_after_merge (setting_of (model_of V.content self.now)))) }
+        requires changes { DoChange (setting_of (model_of V.content self.now)) }
+        ensures { IfOk result (IsFirstNewlyBroken (model_of V.content self.now).rules (row_at (model_of V.content self.now).root)
+            (view_after_merge (setting_of (model_of V.content self.now)))) }
     {
         let needs = self.list_touched(true)?;
         for need in &needs {

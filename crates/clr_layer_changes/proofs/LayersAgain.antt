@@ -8,7 +8,7 @@ use Rattle.std.specs.Prelude.{slice_get}
 use Rattle.std.specs.Option.{option_map}
 use Rattle.std.specs.Ordering.{eq_by_cmp, is_eq}
 use Rattle.std.specs.Cmp.{eq_by_cmp_equiv}
-use Rattle.std.proofs.lemmas.Bool.{eqb-true}
+use Rattle.std.proofs.lemmas.Bool.{eqb-true, false_from_ne_true}
 use Rattle.std.proofs.lemmas.List.{get_or-take, length-take-le}
 use Rattle.std.proofs.lemmas.List.Folds.{list_any_none}
 use Rattle.std.proofs.lemmas.Option.{get_or_from_slice_get, none-some, slice_get_within}
@@ -219,10 +219,6 @@ unchanged {S = S} {E = E} f s n (x ∷ xs) each =
     ap (λ (r : Result S E). r >>= λ next. after_each f (n + 1) next xs) one
     ∙ unchanged f s (n + 1) xs (λ i y is. let behind : n + suc i ≡ n + 1 + i = omega arith in subst (λ (m : ℕ). f m s y ≡ Ok s) behind (each (suc i) y is))
 
-not_equal : (b : Bool) → (b ≡ true → ⊥) → b ≡ false
-not_equal true h = absurd (h refl)
-not_equal false h = refl
-
 -- no layer before one is of its table
 none_before : (layers : List GivenLayer) (n : ℕ) (layer : GivenLayer) → AreOfOtherTables layers → slice_get layers n ≡ Some layer
     → list_any (is_layer_of_table layer.table) (take n layers) ≡ false
@@ -233,7 +229,7 @@ none_before layers n layer others is =
     let before : k < n = omega (arith, lt, count) in
     let other = get_or_from_slice_get layers n layer d is in
     subst (λ (x : GivenLayer). is_layer_of_table layer.table x ≡ false) (sym (get_or-take n layers k d before))
-    (not_equal _ (λ same. others k n d before within ((bytes_eq-Decides _ _).0 same ∙ ap (λ (x : GivenLayer). x.table) (sym other)))))
+    (false_from_ne_true _ (λ same. others k n d before within ((bytes_eq-Decides _ _).0 same ∙ ap (λ (x : GivenLayer). x.table) (sym other)))))
 
 module _ (tables : List TableDef) (live : Content) (options : LayerOptions) where
   layer_changes_nothing : (earlier : List GivenLayer) (layer : GivenLayer) → IsLayerOf tables live layer

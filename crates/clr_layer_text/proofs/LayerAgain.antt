@@ -2,7 +2,7 @@
 use Rattle.std.proofs.Common.{◌≡◌, ℕ, suc, ◌+◌, Bool, true, List, [], ◌∷◌, get_or, map, Ok, Option, Some, None, ℤ, pos, refl}
 use Rattle.std.proofs.Common.{arith}
 use Rattle.std.specs.Prelude.{IsUtf8, slice_get, unwrap_or}
-use Rattle.std.specs.List.{All, AllByRecursion, list_all}
+use Rattle.std.specs.List.{All, AllByRecursion}
 use Rattle.std.proofs.lemmas.Bool.{and_parts}
 use Rattle.std.proofs.lemmas.List.Elements.{recursion_from_All}
 use Rattle.std.proofs.lemmas.Str.{IsUtf8-nil, is_utf8-from_IsUtf8}
@@ -11,8 +11,6 @@ use Rattle.csv.specs.Reading.{strip_bom}
 use Rattle.clr_rows.specs.declared.limits.TheConstants.{KEY}
 use Rattle.clr_rows.specs.declared.places.Shape.{Shape}
 use Rattle.clr_rows.specs.declared.places.Shape.TheVariants.{Bare, At, Line, Chain}
-use Rattle.clr_rows.specs.declared.rows.Value.{Value}
-use Rattle.clr_rows.specs.declared.rows.Value.TheVariants.{Int, Words}
 use Rattle.clr_rows.specs.declared.tables.Form.{Form}
 use Rattle.clr_rows.specs.declared.tables.Form.TheVariants as form
 use Rattle.clr_rows.specs.declared.tables.Kind.{Kind}
@@ -22,12 +20,13 @@ use Rattle.clr_records.proofs.RecordsAgain.{HasField, read_written, rows_closed,
 use Rattle.clr_records.proofs.Turns.{joined}
 use Rattle.clr_records.proofs.Utf8.{low_utf8, name_utf8, number_utf8}
 use Rattle.clr_layer_text.specs.declared.limits.TheConstants.{SHAPE}
-use Rattle.clr_rows.specs.Schemas.{is_key, is_number, names_of, schema_fault}
+use Rattle.clr_rows.specs.Schemas.{is_key, names_of, schema_fault}
 use Rattle.clr_rows.proofs.SchemaLemmas.{good_column_name, key_within, row_fits}
 use Rattle.clr_records.specs.Records.{in_turn}
 use Rattle.clr_layer_text.specs.declared.rows.LayerRow.{LayerRow}
-use Rattle.clr_layer_text.specs.Layers.{cell_of, header_of, key_text, layer_text, row_fields, rows_from, shape_fields, shape_name, value_text}
-use Rattle.clr_records.specs.Values.{IsText}
+use Rattle.clr_layer_text.specs.Layers.{cell_of, header_of, key_text, layer_text, row_fields, rows_from, shape_fields, shape_name}
+use Rattle.clr_records.specs.Values.{IsText, value_field}
+use Rattle.clr_records.proofs.ValuesAgain.{values_utf8}
 use Rattle.clr_layer_text.specs.ReadBack.{IsLayerRow, ReadBackLaw}
 use Rattle.clr_layer_text.specs.Wkt.{shape_text}
 use Rattle.clr_layer_text.proofs.HeaderAgain.{header_again, written_fields}
@@ -80,14 +79,6 @@ key_utf8 : (key : Option ℤ) → is_key (unwrap_or key (pos 1)) ≡ true → Is
 key_utf8 None e = IsUtf8-nil
 key_utf8 (Some z) e = number_utf8 z (key_within z e)
 
-value_utf8 : (value : Value) → is_number value ≡ true → IsText value → IsUtf8 (value_text value)
-value_utf8 (Int n) number text = number_utf8 n number
-value_utf8 (Words t) number text = text
-
-values_utf8 : (values : List Value) → list_all is_number values ≡ true → AllByRecursion IsText values → AllByRecursion IsUtf8 (map value_text values)
-values_utf8 [] numbers texts = tt
-values_utf8 (v ∷ vs) numbers texts = let t = and_parts (is_number v) (list_all is_number vs) numbers in (value_utf8 v t.0 texts.0, values_utf8 vs t.1 texts.1)
-
 shape_utf8 : (shape : Shape) → IsUtf8 (shape_text shape) → AllByRecursion IsUtf8 (shape_fields shape)
 shape_utf8 Bare utf8 = tt
 shape_utf8 (At p) utf8 = (utf8, tt)
@@ -99,7 +90,7 @@ row_utf8 : (tables : List TableDef) (at : ℕ) (table : TableDef) (r : LayerRow)
 row_utf8 tables at table r is one =
     let f = row_fits tables (cell_of at r.key) r.row one.fits table is in (
       key_utf8 r.key f.key,
-      joined IsUtf8 (map value_text r.row.values) (shape_fields r.row.shape)
+      joined IsUtf8 (map value_field r.row.values) (shape_fields r.row.shape)
           (values_utf8 r.row.values f.numbers (recursion_from_All IsText r.row.values one.texts))
           (shape_utf8 r.row.shape (low_utf8 (shape_text r.row.shape) (shape_ascii r.row.shape f.coordinates))),
     )

@@ -14,7 +14,6 @@ use Rattle.clr_rows.specs.declared.limits.TheConstants.{GREATEST_KEY}
 use Rattle.clr_rows.specs.declared.places.Shape.{Shape}
 use Rattle.clr_rows.specs.declared.places.Shape.TheVariants.{Bare, At, Line, Chain}
 use Rattle.clr_rows.specs.declared.rows.Value.{Value}
-use Rattle.clr_rows.specs.declared.rows.Value.TheVariants.{Int, Words}
 use Rattle.clr_rows.specs.declared.tables.Form.{Form}
 use Rattle.clr_rows.specs.declared.tables.Form.TheVariants as form
 use Rattle.clr_rows.specs.declared.tables.Kind.{Kind}
@@ -24,10 +23,12 @@ use Rattle.clr_rows.specs.Numbers.{is_i64}
 use Rattle.clr_rows.specs.Schemas.{are_of_kinds, has_coordinates, is_bad_path, is_key, is_number, is_of_form, is_of_kind, names_of, row_fault}
 use Rattle.clr_rows.proofs.SchemaLemmas.{key_of as key_parts, row_fits}
 use Rattle.clr_records.specs.Records.{field_of, in_turn}
+use Rattle.clr_records.specs.Values.{value_field}
 use Rattle.clr_records.proofs.Decimals.{number_again}
+use Rattle.clr_records.proofs.ValuesAgain.{value_again}
 use Rattle.clr_layer_text.specs.declared.rows.LayerRow.{LayerRow}
 use Rattle.clr_layer_text.specs.Layers.{cell_of, header_of, key_in_field, key_text, row_fields, row_of, shape_fields, shape_in, shape_name, value_of}
-use Rattle.clr_layer_text.specs.Layers.{value_text, whole_row_of}
+use Rattle.clr_layer_text.specs.Layers.{whole_row_of}
 use Rattle.clr_layer_text.specs.Pieces.{is_empty}
 use Rattle.clr_layer_text.proofs.HeaderAgain.{columns_from, shape_behind, written_fields}
 use Rattle.clr_layer_text.proofs.ShapeAgain.{shape_again}
@@ -38,14 +39,8 @@ unfolding field_at
 field_here [] x rest = refl
 field_here (y ∷ front) x rest = field_here front x rest
 
-value_again : (k : Kind) (value : Value) → is_of_kind k value ≡ true → is_number value ≡ true → value_of k (value_text value) ≡ Ok value
-value_again kind.Int (Int n) of number = rw (number_again n number) refl
-value_again kind.Int (Words text) of number = absurd cc
-value_again kind.Words (Int n) of number = absurd cc
-value_again kind.Words (Words text) of number = refl
-
 values_again : (fields front : List (List ℕ)) (columns : List (List ℕ × Kind)) (values : List Value) (rest : List (List ℕ)) (n : ℕ)
-    → length values ≡ length columns → are_of_kinds columns values ≡ true → list_all is_number values ≡ true → fields ≡ front ++ (map value_text values ++ rest)
+    → length values ≡ length columns → are_of_kinds columns values ≡ true → list_all is_number values ≡ true → fields ≡ front ++ (map value_field values ++ rest)
     → in_turn (λ _ column. value_of column.kind (field_of fields column.at)) n (columns_from (length front) columns) ≡ Ok values
 unfolding in_turn
 values_again fields front [] [] rest n long of numbers is = refl
@@ -54,10 +49,10 @@ values_again fields front (column ∷ columns) [] rest n long of numbers is = ab
 values_again fields front (column ∷ columns) (value ∷ values) rest n long of numbers is =
     let o = and_parts (is_of_kind column.1 value) (are_of_kinds columns values) of in
     let m = and_parts (is_number value) (list_all is_number values) numbers in
-    let text = value_text value in
-    let at : field_of fields (length front) ≡ text = rw is (field_here front text (map value_text values ++ rest)) in
-    let next : fields ≡ (front ++ text ∷ []) ++ (map value_text values ++ rest) =
-    rw is (sym (append_assoc front (text ∷ []) (map value_text values ++ rest))) in
+    let text = value_field value in
+    let at : field_of fields (length front) ≡ text = rw is (field_here front text (map value_field values ++ rest)) in
+    let next : fields ≡ (front ++ text ∷ []) ++ (map value_field values ++ rest) =
+    rw is (sym (append_assoc front (text ∷ []) (map value_field values ++ rest))) in
     let more : length (front ++ text ∷ []) ≡ length front + 1 = length-append front (text ∷ []) in
     let others = values_again fields (front ++ text ∷ []) columns values rest (n + 1) (omega (arith, long)) o.1 m.1 next in
     rw (at, value_again column.1 value o.0 m.0, rw more at others) refl
@@ -128,9 +123,9 @@ width_again table r long of =
       arith,
       long,
       same_width table.shape r.row.shape of,
-      length-append (map value_text r.row.values) (shape_fields r.row.shape),
+      length-append (map value_field r.row.values) (shape_fields r.row.shape),
       length-append (names_of table.columns) (shape_name table.shape),
-      length-map r.row.values value_text,
+      length-map r.row.values value_field,
       length-map table.columns (λ c. c.0),
     ))
 
@@ -141,9 +136,9 @@ pub row_again : (tables : List TableDef) (at : ℕ) (table : TableDef) (rounded 
 unfolding field_at whole_row_of
 row_again tables at table rounded r is fit =
     let f = row_fits tables (cell_of at r.key) r.row fit table is in
-    let front = key_text r.key ∷ map value_text r.row.values in
+    let front = key_text r.key ∷ map value_field r.row.values in
     let wide : 1 + length (names_of table.columns) ≡ length front =
-    omega (arith, f.count, length-map r.row.values value_text, length-map table.columns (λ c. c.0)) in
+    omega (arith, f.count, length-map r.row.values value_field, length-map table.columns (λ c. c.0)) in
     let shape : shape_in rounded (shape_behind (1 + length (names_of table.columns)) table.shape) (row_fields r) ≡ Ok r.row.shape =
     rw wide (shape_field rounded front table.shape r.row.shape f.form f.coordinates f.vertices) in
     rw (

@@ -11,16 +11,15 @@ use Rattle.clr_rows.specs.declared.limits.TheConstants.{KEY}
 use Rattle.clr_rows.specs.declared.places.Shape.{Shape}
 use Rattle.clr_rows.specs.declared.places.Shape.TheVariants.{Bare, At, Line, Chain}
 use Rattle.clr_rows.specs.declared.rows.Value.{Value}
-use Rattle.clr_rows.specs.declared.rows.Value.TheVariants.{Int, Words}
 use Rattle.clr_rows.specs.declared.tables.Form.{Form}
 use Rattle.clr_rows.specs.declared.tables.Form.TheVariants as form
 use Rattle.clr_rows.specs.declared.tables.Kind.{Kind}
-use Rattle.clr_rows.specs.declared.tables.Kind.TheVariants as kind
 use Rattle.clr_rows.specs.declared.tables.TableDef.{TableDef}
 use Rattle.clr_rows.specs.Schemas.{names_of, row_fault}
 use Rattle.clr_records.specs.Decimals.{number_of}
 use Rattle.clr_readings.specs.Readings.{◌>>=◌, or_fault}
 use Rattle.clr_records.specs.Records.{at_record, field_of, in_turn, records_in}
+use Rattle.clr_records.specs.Values.{value_field, value_of_kind}
 use Rattle.clr_records.specs.Writing.{records_text}
 use Rattle.clr_layer_text.specs.declared.faults.LayerFault.{LayerFault}
 use Rattle.clr_layer_text.specs.declared.faults.LayerFault.TheVariants.{NotCsv, NoColumn, ColumnTwice, FieldCount, BadNumber, Unfit}
@@ -57,10 +56,6 @@ abbrev pub key_text : Option ℤ → List ℕ
 key_text None = []
 key_text (Some key) = signed_decimal key
 
-abbrev pub value_text : Value → List ℕ
-value_text (Int n) = signed_decimal n
-value_text (Words text) = text
-
 abbrev pub shape_fields : Shape → List (List ℕ)
 shape_fields Bare = []
 shape_fields (At p) = shape_text (At p) ∷ []
@@ -69,7 +64,7 @@ shape_fields (Chain vertices) = shape_text (Chain vertices) ∷ []
 
 -- the record of a row
 abbrev pub row_fields : LayerRow → List (List ℕ)
-row_fields r = key_text r.key ∷ (map value_text r.row.values ++ shape_fields r.row.shape)
+row_fields r = key_text r.key ∷ (map value_field r.row.values ++ shape_fields r.row.shape)
 
 -- the text of a layer
 abbrev pub layer_text : TableDef → List LayerRow → List ℕ
@@ -118,8 +113,7 @@ abbrev pub key_in_field : List ℕ → Result (Option ℤ) LayerFault
 key_in_field text = if is_empty text then Ok None else (or_fault BadNumber (number_of text) >>= λ key. Ok (Some key))
 
 abbrev pub value_of : Kind → List ℕ → Result Value LayerFault
-value_of kind.Int text = or_fault BadNumber (number_of text) >>= λ n. Ok (Int n)
-value_of kind.Words text = Ok (Words text)
+value_of kind text = or_fault BadNumber (value_of_kind kind text)
 
 abbrev pub values_of : List Heading → List (List ℕ) → Result (List Value) LayerFault
 values_of columns fields = in_turn (λ _ column. value_of column.kind (field_of fields column.at)) 0 columns

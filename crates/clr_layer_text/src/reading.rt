@@ -14,8 +14,8 @@ use crate::faults::{LayerFault, numbered_fault};
 use crate::headings::{Heading, Headings, ShapeHeading, find_headings};
 use crate::rows::LayerRow;
 use crate::shape_reading::read_shape;
-use clr_records::{field, read_number, records_of};
-use clr_rows::{CellId, Kind, Row, Schema, Shape, Value, Values, Words};
+use clr_records::{field, read_number, read_value, records_of};
+use clr_rows::{CellId, Kind, Row, Schema, Shape, Value, Values};
 use csv::StringRecord;
 use std::alloc::Global;
 
@@ -38,10 +38,7 @@ fn key(text: &str) -> Result<Option<i64>, LayerFault>
 fn value(alloc: Global, kind: Kind, text: &str) -> Result<Value, LayerFault>
     ensures { Gives layer_lacks_memory (λ x. x) result (value_of kind text.now) }
 {
-    match kind {
-        Kind::Int => Ok(Value::Int(number(text)?)),
-        Kind::Words => Ok(Value::Words(Words::from_str(alloc, text)?)),
-    }
+    read_value(alloc, kind, text)?.ok_or(LayerFault::BadNumber)
 }
 
 /// Returns the values of a row.

@@ -4,28 +4,18 @@ ghost use Rattle.std.specs.Prelude.{◌≡◌, ◌++◌, ◌∷◌, [], Ok, IfOk
 ghost use Rattle.csv.specs.Records.{fields_of, partial_of};
 ghost use Rattle.csv.specs.Writing.{default_writer, row_text};
 ghost use Rattle.clr_rows.specs.Schemas.{names_of};
-ghost use Rattle.clr_layer_text.specs.Layers.{header_of, key_text, layer_text, row_fields, shape_fields, shape_name, value_text};
+ghost use Rattle.clr_layer_text.specs.Layers.{header_of, key_text, layer_text, row_fields, shape_fields, shape_name};
 ghost use Rattle.std.specs.List.{All};
-ghost use Rattle.clr_records.specs.Values.{IsText};
 ghost use Rattle.clr_layer_text.specs.ReadBack.{HasTexts};
 ghost use Rattle.clr_records.specs.Writing.{IsBetween, records_text, written_by};
 
 use crate::limits::SHAPE;
 use crate::rows::LayerRow;
 use crate::shape_writing::shape_in_text;
-use clr_rows::{Form, KEY, Kind, Shape, TableDef, Value, Words};
+use clr_records::{add_field, add_number, add_values};
+use clr_rows::{Form, KEY, Kind, Shape, TableDef, Words};
 use csv::{ByteRecord, Writer, WriterBuilder};
-use itoa::Buffer;
 use std::alloc::{AllocError, Global};
-
-/// Adds a field to a record that has no field begun.
-fn add_field(fields: &mut ByteRecord, field: &[u8]) -> Result<(), AllocError>
-    requires { partial_of fields.old ≡ [] }
-    ensures added { OnOk result (fields_of fields.new ≡ fields_of fields.old ++ field.now ∷ []) }
-    ensures whole { OnOk result (partial_of fields.new ≡ []) }
-{
-    fields.push_field(field)
-}
 
 /// Adds the names of columns.
 fn add_names(fields: &mut ByteRecord, columns: &[(Words, Kind)]) -> Result<(), AllocError>
@@ -68,32 +58,8 @@ fn add_key(fields: &mut ByteRecord, key: Option<i64>) -> Result<(), AllocError>
 {
     match key {
         None => add_field(fields, b""),
-        Some(key) => add_field(fields, Buffer::new().format(key).as_bytes()),
+        Some(key) => add_number(fields, key),
     }
-}
-
-fn add_value(fields: &mut ByteRecord, value: &Value) -> Result<(), AllocError>
-    requires { partial_of fields.old ≡ [] }
-    ensures text { OnOk result (IsText value.now) }
-    ensures added { OnOk result (fields_of fields.new ≡ fields_of fields.old ++ value_text value.now ∷ []) }
-    ensures whole { OnOk result (partial_of fields.new ≡ []) }
-{
-    match value {
-        Value::Int(number) => add_field(fields, Buffer::new().format(*number).as_bytes()),
-        Value::Words(text) => add_field(fields, text.as_str().as_bytes()),
-    }
-}
-
-fn add_values(fields: &mut ByteRecord, values: &[Value]) -> Result<(), AllocError>
-    requires { partial_of fields.old ≡ [] }
-    ensures texts { OnOk result (All IsText values.now) }
-    ensures added { OnOk result (fields_of fields.new ≡ fields_of fields.old ++ map value_text values.now) }
-    ensures whole { OnOk result (partial_of fields.new ≡ []) }
-{
-    for value in values {
-        add_value(fields, value)?;
-    }
-    Ok(())
 }
 
 fn add_shape(alloc: Global, fields: &mut ByteRecord, shape: &Shape) -> Result<(), AllocError>

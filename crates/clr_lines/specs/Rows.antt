@@ -10,16 +10,11 @@ use Rattle.clr_rows.specs.declared.cells.CellId.{CellId}
 use Rattle.clr_rows.specs.declared.places.Place.{Place}
 use Rattle.clr_rows.specs.declared.places.Shape.{Shape}
 use Rattle.clr_rows.specs.declared.places.Shape.TheVariants.{Bare, At, Line, Chain}
-use Rattle.clr_rows.specs.declared.rows.Value.{Value}
-use Rattle.clr_rows.specs.declared.rows.Value.TheVariants.{Int, Words}
 use Rattle.clr_rows.specs.declared.rows.Row.{Row}
 use Rattle.clr_rows.specs.declared.tables.TableDef.{TableDef}
 use Rattle.clr_rows.specs.Contents.{Content, cells_of}
 use Rattle.clr_rows.specs.Schemas.{name_of_table}
-
-abbrev pub value_field : Value → List ℕ
-value_field (Int n) = signed_decimal n
-value_field (Words text) = text
+use Rattle.clr_records.specs.Values.{value_field}
 
 abbrev pub place_fields : Place → List (List ℕ)
 place_fields p = signed_decimal p.x ∷ signed_decimal p.y ∷ []

@@ -1,5 +1,5 @@
 -- The lines of verdicts.
-use Rattle.std.specs.Prelude.{ℕ, List, [], ◌++◌, codes, Option, Some, None, slice_get, unwrap_or}
+use Rattle.std.specs.Prelude.{ℕ, List, [], ◌++◌, codes, Option, Some, None}
 use Rattle.std.specs.Fmt.{decimal}
 use Rattle.clr_rows.specs.declared.cells.CellId.{CellId}
 use Rattle.clr_rows.specs.declared.tables.TableDef.{TableDef}
@@ -9,11 +9,8 @@ use Rattle.clr_needs.specs.declared.needs.VersionId.{VersionId}
 use Rattle.clr_clearance.specs.declared.verdicts.Verdict.{Verdict}
 use Rattle.clr_clearance.specs.declared.verdicts.Verdict.TheVariants as verdict
 use Rattle.clr_cert.specs.Texts.{entry_subject_text}
+use Rattle.clr_member_changes.specs.Names.{member_name}
 use Rattle.clr_lines.specs.Pieces.{cell_text, rule_text}
-
--- the name of the member at a position, or no bytes past the end
-abbrev pub member_name : List Name → ℕ → Name
-member_name members at = unwrap_or (slice_get members at) []
 
 abbrev pub second_version_text : List TableDef → Option VersionId → ℕ → List ℕ
 second_version_text tables None part = []

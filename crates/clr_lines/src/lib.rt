@@ -7,8 +7,8 @@
 //! - `add_cell`, `add_need` and `add_workspace` [`ok`, `begun`], and `add_count` [`ok`, `err`],
 //!   add their bytes to a line or to lines. If memory runs out, what stood there still stands there, and behind it at
 //!   most a beginning of these bytes; of a count, nothing.
-//! - `add_field` [`added`, `whole`, `err`], `add_cell_fields` and `add_row_fields` [`added`, `whole`, `begun`] add just the fields of
-//!   a text, of a cell and of a row to a record. If memory runs out, the record has at most a beginning of them beside its own.
+//! - `add_cell_fields` and `add_row_fields` [`added`, `whole`, `begun`] add just the fields of a cell and of a row to a record. If memory runs
+//!   out, the record has at most a beginning of them beside its own.
 #![tactic(auto)]
 
 mod needs;
@@ -24,6 +24,6 @@ pub use reply_lines::{reply_line, row_fault_word};
 pub use report_lines::{
     add_workspace, audit_lines, changes_lines, conflicts_lines, count_line, unheld_line,
 };
-pub use row_fields::{add_cell_fields, add_field, add_row_fields};
+pub use row_fields::{add_cell_fields, add_row_fields};
 pub use row_lines::rows_lines;
-pub use verdict_lines::{member_name, unfit_line, verdict_line};
+pub use verdict_lines::{unfit_line, verdict_line};

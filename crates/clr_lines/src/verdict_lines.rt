@@ -1,24 +1,15 @@
 //! The lines of verdicts.
 
 ghost use Rattle.std.specs.Prelude.{◌≡◌, ◌++◌, codes, map, IfOk};
-ghost use Rattle.clr_lines.specs.Verdicts.{conflict_text, member_name as name_of_member, name_text, shared_text, uncovered_text, verdict_text};
+ghost use Rattle.clr_lines.specs.Verdicts.{conflict_text, name_text, shared_text, uncovered_text, verdict_text};
 
 use crate::needs::add_need_of_versions;
 use crate::pieces::{add_cell, add_count};
 use clr_clearance::Verdict;
+use clr_member_changes::member_name;
 use clr_needs::Need;
 use clr_rows::{CellId, Schema};
 use std::alloc::{AllocError, Global};
-
-/// Returns the name of the member at a position, or no bytes past the end.
-pub fn member_name<'a>(members: &'a [&'a str], at: usize) -> &'a str
-    ensures { result.now ≡ name_of_member (map (λ name. name.now) members.entry.now) at }
-{
-    match members.get(at) {
-        Some(name) => name,
-        None => "",
-    }
-}
 
 /// Returns a line that ends with a name.
 fn name_line(alloc: Global, front: &str, name: &str) -> Result<Vec<u8>, AllocError>

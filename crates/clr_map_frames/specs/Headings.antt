@@ -1,11 +1,11 @@
 -- The names of designs in a heading.
 use Rattle.std.specs.Prelude.{ℕ, ◌-◌, min, List, [], ◌∷◌, ◌++◌, codes, decimal, flat_map, length, map, nat_le, take, if◌then◌else◌}
-use Rattle.clr_lines.specs.Verdicts.{member_name}
-use Rattle.clr_plan_scenes.specs.declared.designs.Designs.{Designs}
-use Rattle.clr_plan_scenes.specs.Designs.{leaders_of}
+use Rattle.clr_member_changes.specs.Names.{member_name}
+use Rattle.clr_map_scenes.specs.declared.designs.Designs.{Designs}
+use Rattle.clr_map_scenes.specs.Designs.{leaders_of}
 
 abbrev pub design_names : Designs → List (List ℕ)
-design_names d = map (λ name. name.now) d.members.names.now
+design_names d = map (λ name. name.now) d.members.now.names.now
 
 -- the names of designs by position, with a comma before each
 unfoldable pub behind_commas : List (List ℕ) → List ℕ → List ℕ
@@ -17,7 +17,7 @@ listed names [] = []
 listed names (at ∷ ats) = member_name names at ++ behind_commas names ats
 
 abbrev pub design_count : Designs → ℕ
-design_count d = length d.members.names.now
+design_count d = length d.members.now.names.now
 
 -- how many of many designs are named: four, or fewer where there are fewer
 abbrev pub named_of : Designs → ℕ

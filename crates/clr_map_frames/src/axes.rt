@@ -3,7 +3,7 @@
 use clr_drawing::{
     Area, FAINT, GRID, GROUND, INK, SOFT, Sketch, round_metres, round_step, ticks, words_width,
 };
-use clr_plan_scenes::{LEFT, MapScene};
+use clr_map_scenes::{LEFT, MapScene};
 use clr_rows::Place;
 use clr_svg::{Anchor, Ink, PagePoint, PathCommand, Pixels, Weight};
 use std::alloc::AllocError;

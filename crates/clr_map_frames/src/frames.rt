@@ -4,7 +4,7 @@ ghost use Rattle.std.specs.Prelude.{◌≡◌};
 ghost use Rattle.clr_map_frames.specs.Frames.{has_frames};
 
 use clr_drawing::{Area, Sketch, extent_of};
-use clr_plan_scenes::MapScene;
+use clr_map_scenes::MapScene;
 use clr_rows::Row;
 use clr_svg::{Ink, Pixels};
 use std::alloc::{AllocError, Global};

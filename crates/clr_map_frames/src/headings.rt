@@ -4,7 +4,7 @@ ghost use Rattle.std.specs.Prelude.{◌≡◌, ◌++◌, IfOk, OnOk, decimal, st
 ghost use Rattle.clr_map_frames.specs.Headings.{behind_commas, design_names, design_names_text, few_names, listed, names_of_leaders, some_names};
 
 use clr_drawing::{INK, SOFT, Sketch, words_width};
-use clr_plan_scenes::{Designs, Field, LEFT, PAGE_WIDTH};
+use clr_map_scenes::{Designs, Field, LEFT, PAGE_WIDTH};
 use clr_svg::{Anchor, PagePoint, Pixels, Weight};
 use std::alloc::{AllocError, Global};
 

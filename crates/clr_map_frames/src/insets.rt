@@ -3,7 +3,7 @@
 use clr_drawing::{
     ALARM, Area, FAINT, GROUND, INK, PLAIN, SOFT, Sketch, Viewport, add_shape, extent_of, grow_box,
 };
-use clr_plan_scenes::{BESIDE, EDGE, MapScene};
+use clr_map_scenes::{BESIDE, EDGE, MapScene};
 use clr_rows::Row;
 use clr_segments::Bounds;
 use clr_svg::{Anchor, Ink, PagePoint, PathCommand, Pixels, Weight};

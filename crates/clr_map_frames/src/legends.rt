@@ -2,7 +2,8 @@
 
 use clr_drawing::{ALARM, Area, HALO, INK, PAPER, PLAIN, SIGN, SOFT, Sketch, add_cross, add_sign};
 use clr_map_marks::sign_of_table;
-use clr_plan_scenes::{BESIDE, Counts, EDGE, MapScene, Mark, TOP};
+use clr_map_scenes::{BESIDE, EDGE, MapScene, Mark, TOP};
+use clr_member_changes::Counts;
 use clr_rows::Form;
 use clr_svg::{Anchor, Colour, Ink, Layer, PagePoint, Pixels, Weight};
 use std::alloc::AllocError;
@@ -296,7 +297,7 @@ fn add_tables(column: &mut Column<'_>) -> Result<(), AllocError> {
 fn add_signs(column: &mut Column<'_>) -> Result<(), AllocError> {
     column.add_heading("HOW TO READ IT")?;
     let scene = column.scene;
-    let root = scene.field.root;
+    let root = scene.field.designs.members.root;
     column.add_item(Sample::Plain, root)?;
     column.add_item(Sample::Added, "added")?;
     column.add_item(Sample::Changed, "changed")?;

@@ -11,8 +11,8 @@ use Rattle.clr_viewports.specs.declared.details.Detail.{Detail}
 use Rattle.clr_viewports.specs.Details.{is_fine}
 use Rattle.clr_drawing.specs.Palette.{colours_of}
 use Rattle.clr_drawing.specs.Signs.{DrawsCross}
-use Rattle.clr_plan_scenes.specs.declared.scenes.MapScene.{MapScene}
-use Rattle.clr_plan_scenes.specs.Designs.{rank_of, sets_of}
+use Rattle.clr_map_scenes.specs.declared.scenes.MapScene.{MapScene}
+use Rattle.clr_map_scenes.specs.Designs.{rank_of, sets_of}
 use Rattle.clr_map_marks.specs.Lines.{DrawsKinds, Kinds, lines_drawn}
 use Rattle.clr_map_marks.specs.Points.{paper}
 

@@ -4,7 +4,7 @@ ghost use Rattle.std.specs.Prelude.{◌≡◌, count_by};
 ghost use Rattle.clr_map_marks.specs.Tables.{is_of_points, sign_of_table};
 
 use clr_drawing::{Detail, PAPER, PLAIN, SIGN, Sign, Sketch, add_shape, add_sign, sign_at};
-use clr_plan_scenes::MapScene;
+use clr_map_scenes::MapScene;
 use clr_rows::{CellId, Form, Row, Schema, Shape, TableDef};
 use clr_svg::{Ink, PathCommand, Pixels};
 use std::alloc::AllocError;

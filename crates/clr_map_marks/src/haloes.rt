@@ -2,7 +2,7 @@
 
 use crate::point_marks::{mark_radius, marks_at};
 use clr_drawing::{ALARM, HALO, PAPER, Sketch, add_shape, middle_of};
-use clr_plan_scenes::{Cause, CauseRow, MapScene, Mark};
+use clr_map_scenes::{Cause, CauseRow, MapScene, Mark};
 use clr_rows::{Place, Shape};
 use clr_svg::{Ink, PagePoint, Pixels};
 use std::alloc::AllocError;

@@ -8,7 +8,7 @@ ghost use Rattle.clr_map_marks.specs.LineMarks.{DrawsCrossAt, DrawsDesign, Draws
 
 use clr_change::ChangeSet;
 use clr_drawing::{GROUND, PAPER, Sketch, Viewport, add_cross, add_shape, middle_of};
-use clr_plan_scenes::MapScene;
+use clr_map_scenes::MapScene;
 use clr_rows::{Change, Row, Shape};
 use clr_svg::{Colour, Dash, Ink, PagePoint, PathCommand, Pixels};
 use std::alloc::{AllocError, Global};

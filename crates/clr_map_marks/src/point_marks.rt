@@ -5,12 +5,12 @@ ghost use Rattle.std.specs.Option.{option_copied};
 ghost use Rattle.clr_drawing.specs.Sketches.{Draws};
 ghost use Rattle.clr_drawing.specs.Signs.{IsSign};
 ghost use Rattle.clr_map_marks.specs.Points.{DrawsMark, count_at, ink_of, is_at, mark_radius, marks_at, most_marks, points_by, small_ink_of, stands_at};
-ghost use Rattle.clr_plan_scenes.specs.Designs.{sets_of};
+ghost use Rattle.clr_map_scenes.specs.Designs.{sets_of};
 
 use crate::grounds::sign_of_table;
 use clr_change::ChangeSet;
 use clr_drawing::{GROUND, PAPER, Sign, Sketch, add_cross, add_sign};
-use clr_plan_scenes::{Designs, MapScene};
+use clr_map_scenes::{Designs, MapScene};
 use clr_rows::{CellId, Change, Place, Row, Shape};
 use clr_svg::{Colour, Ink, PagePoint, Pixels};
 use std::alloc::AllocError;

@@ -12,15 +12,15 @@ use Rattle.clr_steps.specs.Offices.{Office}
 use Rattle.clr_steps.specs.Quiet.{MergeSet, root_content}
 use Rattle.clr_steps.specs.Readings.{changes_in}
 use Rattle.clr_clearance.specs.Plans.{members_at}
-use Rattle.clr_clearance.specs.MergeSets.{RootHolds, change_sets, setting_by_position}
+use Rattle.clr_clearance.specs.MergeSets.{change_sets, setting_by_position}
 use Rattle.clr_clearance.specs.Verdicts.{member_fault}
 use Rattle.clr_clearance.proofs.ClearLemmas.{no_member_fault}
 use Rattle.clr_clearance.proofs.StaticLemmas.{apart_sets}
 use Rattle.clr_merge_sets.specs.MergeSetNames.{merge_set}
-use Rattle.clr_plan.specs.declared.plans.Plan.{Plan}
-use Rattle.clr_plan.specs.declared.plans.Plan.TheVariants as plan
+use Rattle.clr_merge_sets.specs.declared.plans.Plan.{Plan}
+use Rattle.clr_merge_sets.specs.declared.plans.Plan.TheVariants as plan
 use Rattle.clr_plan.specs.Plans.{IsPlan}
-use Rattle.clr_plan.specs.Promises.{is_cleared, is_out_of_memory}
+use Rattle.clr_merge_sets.specs.Plans.{is_cleared, is_out_of_memory}
 use Rattle.clr_clashes.specs.Clashes.{LeavesNoneUncovered}
 use Rattle.clr_clashes.specs.Laws.{ClashesDecideSubsets, ListedClashesDecideSubsets}
 use Rattle.clr_clashes.specs.ListedClashes.{AreSmallestClashes, HoldNoneOf, ListedClash}
@@ -63,23 +63,23 @@ module _ (o : Office) (t : MergeSet) where
         record { fits = no_member_fault o (merge_set_of_part t positions) mergeable; apart = apart_sets o (merge_set_of_part t positions) mergeable; none = none }
 
     -- where the members are free, so are some of them
-    pub part_free : ClashesDecideSubsets → RootHolds o t → IsFreeSet o t → Part
-    part_free law root free =
-        let decided = law o.book (root_content o t) (change_sets o t) positions free.apart root part.ascending within in
+    pub part_free : ClashesDecideSubsets → IsFreeSet o t → Part
+    part_free law free =
+        let decided = law o.book (root_content o t) (change_sets o t) positions free.apart part.ascending within in
         part_is free.fits free.apart (subst LeavesNoneUncovered (sym (setting_same o t positions))
         (decided.1 (λ list smallest held. let (n, broken) = smallest.clash in free.none n broken.touched broken.uncovered)))
 
-    module _ (law : ListedClashesDecideSubsets) (root : RootHolds o t) (fits : member_fault o t ≡ None) (apart : AreApart (change_sets o t))
+    module _ (law : ListedClashesDecideSubsets) (fits : member_fault o t ≡ None) (apart : AreApart (change_sets o t))
         (listed : List ListedClash) (smallest : AreSmallestClashes (setting_by_position o t) listed) where
       -- some are free exactly where they hold none of the smallest clashes
       pub holding_none : HoldNoneOf listed positions → Part
       holding_none none =
-          let decided = law o.book (root_content o t) (change_sets o t) listed positions apart root smallest part.ascending within in
+          let decided = law o.book (root_content o t) (change_sets o t) listed positions apart smallest part.ascending within in
           part_is fits apart (subst LeavesNoneUncovered (sym (setting_same o t positions)) (decided.1 none))
 
       pub none_held : Part → HoldNoneOf listed positions
       none_held free =
-          let decided = law o.book (root_content o t) (change_sets o t) listed positions apart root smallest part.ascending within in
+          let decided = law o.book (root_content o t) (change_sets o t) listed positions apart smallest part.ascending within in
           decided.0 (subst LeavesNoneUncovered (setting_same o t positions) free.none)
 
 -- some of some of the members ----------------------------------------------------------------------
@@ -108,8 +108,8 @@ module _ (s : MergeSet) (ps : List ℕ) (all : ArePositions s ps) where
     }
 
     -- where these members are free, so are some of them
-    pub some_free : (o : Office) → ClashesDecideSubsets → RootHolds o (merge_set_of_part s ps) → IsFreeSet o (merge_set_of_part s ps)
+    pub some_free : (o : Office) → ClashesDecideSubsets → IsFreeSet o (merge_set_of_part s ps)
         → IsFreeSet o (merge_set_of_part s qs)
-    some_free o law root free =
+    some_free o law free =
         subst (λ (names : List Name). IsFreeSet o (merge_set s.root names)) members_placed
-        (part_free o (merge_set_of_part s ps) (map (place ps) qs) places_are law root free)
+        (part_free o (merge_set_of_part s ps) (map (place ps) qs) places_are law free)

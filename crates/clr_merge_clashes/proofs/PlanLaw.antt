@@ -29,10 +29,10 @@ use Rattle.clr_clearance.proofs.PickLemmas.{picked_cover, unpicked_is_uncovered}
 use Rattle.clr_clearance.proofs.StaticLemmas.{apart_sets}
 use Rattle.clr_merge_sets.specs.Certificates.{entries_in}
 use Rattle.clr_merge_sets.proofs.MergeSetLemmas.{names_free}
-use Rattle.clr_plan.specs.declared.plans.Plan.{Plan}
-use Rattle.clr_plan.specs.declared.plans.Plan.TheVariants as plan
+use Rattle.clr_merge_sets.specs.declared.plans.Plan.{Plan}
+use Rattle.clr_merge_sets.specs.declared.plans.Plan.TheVariants as plan
 use Rattle.clr_plan.specs.Plans.{IsPlan}
-use Rattle.clr_plan.specs.Promises.{is_cleared, is_out_of_memory}
+use Rattle.clr_merge_sets.specs.Plans.{is_cleared, is_out_of_memory}
 use Rattle.clr_clashes.specs.Clashes.{LeavesNoneUncovered}
 use Rattle.clr_clashes.specs.Laws.{ListedClashesDecideSubsets}
 use Rattle.clr_merge_clashes.specs.Laws.{ClashesDecidePlans, merge_set_of_part}
@@ -103,12 +103,12 @@ module _ (o : Office) (t : MergeSet) where
   none_left_cleared fits apart none plan.OutOfMemory h found = absurd (true≢false found)
 
 pub plans_decided : ListedClashesDecideSubsets → ClashesDecidePlans
-plans_decided law o s listed positions p fits apart root smallest ascending below planned found =
+plans_decided law o s listed positions p fits apart smallest ascending below planned found =
     let sets = change_sets o s in
     let within : ((k : ℕ) → Contains positions k → k < length sets) =
     (λ k h. let less = below k h in let count = length-map s.members (changes_in o) in omega (arith, less, count)) in
     let same = setting_same o s positions in
-    let decided = law o.book (root_content o s) sets listed positions apart root smallest ascending within in
+    let decided = law o.book (root_content o s) sets listed positions apart smallest ascending within in
     let part = part_mergeable o s positions fits apart ascending below in
     let fits_too = no_member_fault o (merge_set_of_part s positions) part in
     let apart_too = apart_sets o (merge_set_of_part s positions) part in (

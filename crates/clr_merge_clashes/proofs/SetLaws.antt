@@ -26,14 +26,13 @@ use Rattle.clr_needs.proofs.BlockerLaws.{range_below}
 use Rattle.clr_needs.proofs.NeedSubjects.{blocker_involves, involved_member, touched_involves}
 use Rattle.clr_needs.proofs.PartPositions.{StandsIn, one_to_one}
 use Rattle.clr_needs.proofs.PositionLaws.{number_less}
-use Rattle.clr_steps.specs.Invariants.{HoldsWhereKept}
 use Rattle.clr_steps.specs.Offices.{Office}
 use Rattle.clr_steps.specs.Quiet.{MergeSet, root_content}
 use Rattle.clr_steps.specs.Readings.{changes_in}
 use Rattle.clr_clearance.specs.declared.verdicts.Verdict.{Verdict}
 use Rattle.clr_clearance.specs.declared.verdicts.Verdict.TheVariants as verdict
 use Rattle.clr_clearance.specs.Plans.{members_at}
-use Rattle.clr_clearance.specs.MergeSets.{AreMergeable, RootHolds, change_sets, setting_by_position}
+use Rattle.clr_clearance.specs.MergeSets.{AreMergeable, change_sets, setting_by_position}
 use Rattle.clr_clearance.proofs.ClearLemmas.{no_member_fault}
 use Rattle.clr_merge_sets.specs.MergeSetNames.{merge_set}
 use Rattle.clr_merge_sets.proofs.MergeSetLemmas.{kept_root}
@@ -93,7 +92,7 @@ told_cause None v e = absurd (cc)
 told_cause (Some None) v e = absurd (cc)
 told_cause (Some (Some w)) v e = ap Some e
 
-module _ (o : Office) (s : MergeSet) (found : Found) (holds : HoldsWhereKept o) (causes : List (Option Verdict)) (broken : List MergeClash)
+module _ (o : Office) (s : MergeSet) (found : Found) (causes : List (Option Verdict)) (broken : List MergeClash)
     (is : AreMergeClashes o s causes broken found) (law : ClashesDecideSubsets) (listed_law : ListedClashesDecideSubsets) where
   abbrev Free : List ℕ → Type 0
   Free positions = IsFreeSet o (merge_set_of_part s positions)
@@ -106,10 +105,6 @@ module _ (o : Office) (s : MergeSet) (found : Found) (holds : HoldsWhereKept o) 
 
   abbrev both : List ℕ
   both = together o s causes
-
-  root_kept : (members : List Name) → RootHolds o (merge_set s.root members)
-  unfolding root_content
-  root_kept members = holds s.root (kept_root o s (sym is.named))
 
   count : length causes ≡ length s.members
   count = same_count o s.root s.members causes is.alone
@@ -297,13 +292,10 @@ module _ (o : Office) (s : MergeSet) (found : Found) (holds : HoldsWhereKept o) 
     abbrev t : MergeSet
     t = together_merge_set o s causes
 
-    root_t : RootHolds o t
-    root_t = root_kept (members_at s both)
-
     free_by_places : (qs : List ℕ) → ArePositions s qs → ((x : ℕ) → Among x qs → Among x both) → HoldNoneOf listed (map (place both) qs) → Free qs
     free_by_places qs part within none =
         subst (λ (names : List Name). IsFreeSet o (merge_set s.root names)) (members_placed s both both_are qs part within)
-        (holding_none o t (map (place both) qs) (places_are s both both_are qs part within) listed_law root_t are.free are.apart listed are.smallest none)
+        (holding_none o t (map (place both) qs) (places_are s both both_are qs part within) listed_law are.free are.apart listed are.smallest none)
 
     listed_is : (k : ListedClash) → Among k listed → IsListedClash (setting_by_position o t) k
     listed_is k h = (are.smallest.lists.exactly k).0 (contained k listed h)
@@ -345,7 +337,7 @@ module _ (o : Office) (s : MergeSet) (found : Found) (holds : HoldsWhereKept o) 
     need_blocked : (k : ListedClash) → Among k listed → Free (filter_map (slice_get both) k.members) → ⊥
     need_blocked k h one =
         let part = subst (λ (names : List Name). IsFreeSet o (merge_set s.root names)) (sym (members_through s both both_are k.members)) one in
-        none_held o t k.members (clash_positions k h) listed_law root_t are.free are.apart listed are.smallest part k (contained k listed h) (λ x there. there)
+        none_held o t k.members (clash_positions k h) listed_law are.free are.apart listed are.smallest part k (contained k listed h) (λ x there. there)
 
     -- a number of some that stands at the place of a member of a clash
     need_lesser : (k : ListedClash) → Among k listed → (qs : List ℕ) → ArePositions s qs → IsAllIn qs (filter_map (slice_get both) k.members)
@@ -465,7 +457,7 @@ module _ (o : Office) (s : MergeSet) (found : Found) (holds : HoldsWhereKept o) 
         blocked = λ k there held. (
             let kind = kind_of k there in
             not_cleared o (merge_set_of_part s ps) (λ all. kind_blocked k.members kind (some_free s ps part k.members (kind_positions k.members kind)
-            (λ x h. among x ps (held x (contained x k.members h))) o law (root_kept (members_at s ps)) all)) p planned);
+            (λ x h. among x ps (held x (contained x k.members h))) o law all)) p planned);
         cleared = λ looked none. cleared_if_free o (merge_set_of_part s ps) (all_free ps part looked none) p planned memory;
       };
       smallest = λ k there. (
@@ -480,6 +472,6 @@ module _ (o : Office) (s : MergeSet) (found : Found) (holds : HoldsWhereKept o) 
     }
 
 pub sets_decided : ClashesDecideSubsets → ListedClashesDecideSubsets → SetsDecidePlans
-sets_decided law listed_law o s found holds (causes, broken, is) =
+sets_decided law listed_law o s found (causes, broken, is) =
     let (listed, are) = is.needs in
-    smallest_sets o s found holds causes broken is law listed_law listed are
+    smallest_sets o s found causes broken is law listed_law listed are

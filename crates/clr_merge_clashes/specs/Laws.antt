@@ -2,17 +2,16 @@
 use Rattle.std.specs.Prelude.{◌≡◌, ◌↔◌, ◌<◌, ℕ, true, false, List, None, Contains, length, map}
 use Rattle.std.specs.List.Sorted.{IsStrictlySortedBy}
 use Rattle.std.specs.Ordering.{nat_cmp}
-use Rattle.clr_steps.specs.Invariants.{HoldsWhereKept}
 use Rattle.clr_steps.specs.Offices.{Office}
 use Rattle.clr_steps.specs.Quiet.{MergeSet}
 use Rattle.clr_needs.specs.Members.{AreApart}
 use Rattle.clr_clearance.specs.Plans.{members_at}
-use Rattle.clr_clearance.specs.MergeSets.{RootHolds, change_sets, setting_by_position}
+use Rattle.clr_clearance.specs.MergeSets.{change_sets, setting_by_position}
 use Rattle.clr_clearance.specs.Verdicts.{member_fault}
 use Rattle.clr_merge_sets.specs.MergeSetNames.{merge_set}
-use Rattle.clr_plan.specs.declared.plans.Plan.{Plan}
+use Rattle.clr_merge_sets.specs.declared.plans.Plan.{Plan}
 use Rattle.clr_plan.specs.Plans.{IsPlan}
-use Rattle.clr_plan.specs.Promises.{is_cleared, is_out_of_memory}
+use Rattle.clr_merge_sets.specs.Plans.{is_cleared, is_out_of_memory}
 use Rattle.clr_clashes.specs.Clashes.{IsAllIn}
 use Rattle.clr_clashes.specs.ListedClashes.{AreSmallestClashes, HoldNoneOf, ListedClash}
 use Rattle.clr_merge_clashes.specs.MergeClashes.{FindsClashes}
@@ -28,13 +27,12 @@ pub record ArePositions (s : MergeSet) (positions : List ℕ) : Type 0 where
   pub ascending : IsStrictlySortedBy nat_cmp positions
   pub below : (k : ℕ) → Contains positions k → k < length s.members
 
--- of members of a root in which every rule holds, none in conflict and no cell changed by two: the plan of some of them is cleared exactly where
--- they hold none of the listed sets, memory aside
+-- of members of a root, none in conflict and no cell changed by two: the plan of some of them is cleared exactly where they hold none of the listed
+-- sets, memory aside
 abbrev pub ClashesDecidePlans : Type 0
 ClashesDecidePlans = (o : Office) (s : MergeSet) (listed : List ListedClash) (positions : List ℕ) (p : Plan)
     → member_fault o s ≡ None
     → AreApart (change_sets o s)
-    → RootHolds o s
     → AreSmallestClashes (setting_by_position o s) listed
     → IsStrictlySortedBy nat_cmp positions
     → ((k : ℕ) → Contains positions k → k < length s.members)
@@ -70,9 +68,9 @@ pub record AreSmallestSets (o : Office) (s : MergeSet) (found : Found) : Type 0 
   pub smallest : (k : MergeClash) → Contains (sets_of found) k → IsSmallestSet o s k
   pub apart : (j k : MergeClash) → Contains (sets_of found) j → Contains (sets_of found) k → IsAllIn j.members k.members → j.members ≡ k.members
 
--- in an office in which every rule holds that is to hold
+-- the sets that are found promise this
 abbrev pub SetsDecidePlans : Type 0
-SetsDecidePlans = (o : Office) (s : MergeSet) (found : Found) → HoldsWhereKept o → FindsClashes o s found → AreSmallestSets o s found
+SetsDecidePlans = (o : Office) (s : MergeSet) (found : Found) → FindsClashes o s found → AreSmallestSets o s found
 
 -- where no cell is changed by two, all members are looked at
 abbrev pub AllAreLookedAt : Type 0

@@ -7,9 +7,9 @@ use Rattle.clr_steps.specs.Quiet.{MergeSet}
 use Rattle.clr_clearance.specs.declared.verdicts.Verdict.{Verdict}
 use Rattle.clr_clearance.specs.Plans.{IsBlocked}
 use Rattle.clr_merge_sets.specs.MergeSetNames.{merge_set}
-use Rattle.clr_plan.specs.declared.plans.Plan.{Plan}
+use Rattle.clr_merge_sets.specs.declared.plans.Plan.{Plan}
 use Rattle.clr_plan.specs.Plans.{IsPlan}
-use Rattle.clr_plan.specs.Promises.{is_cleared}
+use Rattle.clr_merge_sets.specs.Plans.{is_cleared}
 use Rattle.clr_merge_clashes.specs.ClashSets.{MergeClash, positions_of, merge_clash}
 
 -- one member alone

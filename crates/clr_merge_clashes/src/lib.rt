@@ -6,6 +6,7 @@
 //!   `AreSmallestClashes` has them. No set holds another; the members of a set can't be merged
 //!   together, and without one or more of them they can. Where a test of names fails, that is the
 //!   answer. Otherwise want of memory is the only refusal.
+//! - `merge_clashes_of` says the same, with the same clauses, of members whose changes were read before.
 //! - `sets_decide_plans`, which `merge_clashes` [`exact`] says of its own answer: a plan of some members isn't
 //!   cleared where they hold a set, and is where they hold none and all of them were looked at.
 //! - `all_are_looked_at`: where no cell is changed by two members, all are looked at.
@@ -24,6 +25,6 @@ mod places;
 mod shared_cells;
 
 pub use clash_sets::{MergeClash, MergeClashes};
-pub use clashes::merge_clashes;
+pub use clashes::{merge_clashes, merge_clashes_of};
 pub use laws::{all_are_looked_at, clashes_decide_plans, sets_decide_plans};
 pub use places::names_at;

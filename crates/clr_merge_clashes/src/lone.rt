@@ -1,26 +1,31 @@
 //! Members that can't be merged even alone.
 ghost use Rattle.std.specs.Prelude.{◌≡◌, ◌++◌, ◌∷◌, [], filter, map, option_map, option_to_list, IfOk, OnOk};
+ghost use Rattle.clr_steps.specs.Readings.{changes_in};
 ghost use Rattle.clr_merge_clashes.specs.Lone.{AreCauses, IsCause, alone, cause_at, free_positions, is_free, lone_clash, lone_clashes};
 ghost use Rattle.clr_merge_clashes.specs.ClashSets.{stored_clash};
 
 use crate::clash_sets::MergeClash;
+use clr_change::ChangeSet;
 use clr_clearance::Verdict;
 use clr_engine::Office;
-use clr_plan::{Plan, plan};
+use clr_plan::{Plan, plan_changes};
 use std::alloc::{AllocError, Global};
+use std::slice;
 
-/// Returns why a member can't be merged even alone, if it can't. Where a test of names fails, it fails as it does for
+/// Returns why a member with these changes can't be merged even alone, if it can't. Where a test of names fails, it fails as it does for
 /// want of memory.
 fn cause_alone(
     alloc: Global,
     office: &Office,
     root: &str,
     name: &str,
+    set: &ChangeSet,
 ) -> Result<Option<Verdict>, AllocError>
+    requires { set.now ≡ changes_in office.now name.now }
     ensures { IfOk result (IsCause office.now (alone root.now name.now)) }
 {
     let names = [name];
-    match plan(alloc, office, root, &names) {
+    match plan_changes(alloc, office, root, &names, slice::from_ref(set)) {
         Plan::Cleared(_) => Ok(None),
         Plan::Blocked { order: _, cause } => Ok(Some(cause)),
         Plan::Unfit(_) => Err(AllocError),
@@ -34,12 +39,14 @@ pub(crate) fn causes_alone(
     office: &Office,
     root: &str,
     names: &[&str],
+    sets: &[ChangeSet],
 ) -> Result<Vec<Option<Verdict>>, AllocError>
+    requires { sets.now ≡ map (changes_in office.now) (map (λ name. name.now) names.now) }
     ensures { IfOk result (λ causes. AreCauses office.now root.now (map (λ name. name.now) names.now) causes.items) }
 {
     let mut causes = Vec::new(alloc);
-    for name in names {
-        causes.push(cause_alone(alloc, office, root, name)?)?;
+    for at in 0..names.len() {
+        causes.push(cause_alone(alloc, office, root, names[at], &sets[at])?)?;
     }
     Ok(causes)
 }

@@ -1,5 +1,6 @@
 //! Members that break needs which nothing covers.
 ghost use Rattle.std.specs.Prelude.{◌≡◌, map, IfOk};
+ghost use Rattle.clr_clearance.specs.MergeSets.{change_sets};
 ghost use Rattle.clr_merge_sets.specs.MergeSetNames.{merge_set};
 ghost use Rattle.clr_clashes.specs.ListedClashes.{listed_clash_of};
 ghost use Rattle.clr_merge_clashes.specs.MergeClashes.{AreNeedClashes, need_clash};
@@ -7,10 +8,11 @@ ghost use Rattle.clr_merge_clashes.specs.ClashSets.{stored_clash};
 
 use crate::clash_sets::MergeClash;
 use crate::places::numbers_at;
+use clr_change::ChangeSet;
 use clr_clashes::{Clash, clashes};
 use clr_clearance::Verdict;
 use clr_engine::Office;
-use clr_merge_sets::read_merge_set;
+use clr_merge_sets::read_merge_set_of;
 use std::alloc::{AllocError, Global};
 
 /// Returns a set of those looked at, by positions among all.
@@ -37,18 +39,20 @@ fn clashes_among(
     Ok(list)
 }
 
-/// Returns the smallest sets of members that break a need which nothing covers, where no test of these members
-/// fails and no cell is changed by two.
+/// Returns the smallest sets of members with these changes that break a need which nothing covers, where no test of these
+/// members fails and no cell is changed by two.
 pub(crate) fn need_clashes(
     alloc: Global,
     office: &Office,
     root: &str,
     names: &[&str],
+    sets: Vec<&ChangeSet>,
     looked: &[usize],
 ) -> Result<Vec<MergeClash>, AllocError>
+    requires { map (λ set. set.now) sets.items ≡ change_sets office.now (merge_set root.now (map (λ name. name.now) names.now)) }
     ensures { IfOk result (λ list. AreNeedClashes office.now (merge_set root.now (map (λ name. name.now) names.now)) looked.now (map stored_clash list.items)) }
 {
-    let Ok(parts) = read_merge_set(alloc, office, root, &names) else {
+    let Ok(parts) = read_merge_set_of(alloc, office, root, &names, sets) else {
         return Err(AllocError);
     };
     let Ok(scene) = parts.scene(alloc, office) else {

@@ -104,6 +104,16 @@ module _ (o : Office) (names : List Name) where
 pub unchanged : (o : Office) (name : Name) → stands o name ≡ false → no_changes ≡ changes_in o name
 unchanged o name e = sym (ap (λ r. option_map_or own_changes r no_changes) (nowhere o name e))
 
+-- what stands at a position of what members changed is what the member there changed
+pub named_at : (o : Office) (names : List Name) (sets : List Changes) (at : ℕ) (set : Changes) → sets ≡ map (changes_in o) names → slice_get sets at ≡ Some set
+    → (name : Name) × (slice_get names at ≡ Some name) × (set ≡ changes_in o name)
+named_at o names sets at set are read = by names at (sym (ap (λ ss. slice_get ss at) are) ∙ read)
+  where
+    by : (ns : List Name) (k : ℕ) → slice_get (map (changes_in o) ns) k ≡ Some set → (name : Name) × (slice_get ns k ≡ Some name) × (set ≡ changes_in o name)
+    by [] k e = absurd (cc)
+    by (n ∷ ns) zero e = let one : changes_in o n ≡ set = cc in (n, refl, sym one)
+    by (n ∷ ns) (suc k) e = by ns k e
+
 module _ (o : Office) (admitted : IsAdmitted o) where
   content_standing : (name : Name) (w : Workspace) → workspace o name ≡ Some w → content_of o name ≡ w.current
   unfolding workspace content_of
@@ -161,11 +171,6 @@ module _ (o : Office) (admitted : IsAdmitted o) where
 
     pub merge_set_fits : FitsSetting (setting_by_position o s)
     merge_set_fits = record { tables = o.schema; book = admitted.fit.book; each = version_fits }
-
-    -- every rule holds in a root that is kept
-    pub root_holds : is_kept o s.root ≡ true → RootHolds o s
-    unfolding root_content
-    root_holds kept = admitted.holds s.root kept
 
 -- where no test of names fails ---------------------------------------------------------------------------
 

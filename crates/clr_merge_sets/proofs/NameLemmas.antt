@@ -1,9 +1,9 @@
 -- What an office shows by name, and the tests of names.
-use Rattle.std.proofs.Common.{◌≡◌, ℕ, ◌+◌, ◌<◌, ◌≤◌, ◌⊎◌, inl, inr, Bool, true, false, not, cond, ◌||◌, ◌&&◌, List, [], Option, Some, None, get_or, is_none}
+use Rattle.std.proofs.Common.{◌≡◌, ℕ, ◌+◌, ◌<◌, ◌≤◌, ◌⊎◌, inl, inr, Bool, true, false, not, cond, ◌||◌, ◌&&◌, List, [], Option, Some, None, get_or}
 use Rattle.std.proofs.Common.{is_some, length, nat_lt, refl, sym, ap, unwrap_or, ◌∙◌, arith}
 use Rattle.std.specs.Prelude.{position, slice_get}
 use Rattle.std.specs.List.{position_or_len}
-use Rattle.std.specs.Option.{option_map, option_map_or, option_or}
+use Rattle.std.specs.Option.{option_map, option_map_or}
 use Rattle.std.specs.Str.{bytes_eq}
 use Rattle.std.proofs.lemmas.Bool.{false≢true, lt-ltb, le-ltb}
 use Rattle.std.proofs.lemmas.List.Sums.{position_or_len_is}
@@ -14,10 +14,7 @@ use Rattle.clr_steps.specs.Names.{is_live, same_name}
 use Rattle.clr_steps.specs.Offices.{Office, find_name, is_kept, stands, workspace}
 use Rattle.clr_steps.specs.Quiet.{MergeSet, is_other, is_root, is_under_other}
 use Rattle.clr_steps.specs.Readings.{if_stands, parent_in}
-use Rattle.clr_clearance.specs.declared.verdicts.Verdict.{Verdict}
-use Rattle.clr_clearance.specs.declared.verdicts.Verdict.TheVariants as verdict
 use Rattle.clr_clearance.specs.MergeSets.{is_child}
-use Rattle.clr_clearance.specs.Verdicts.{first_repeated, names_fault}
 use Rattle.clr_merge_sets.specs.MergeSetNames.{merge_set}
 
 -- what is shown of a name --------------------------------------------------------------------------

@@ -1,4 +1,6 @@
 pub mod Certificates
 pub mod Faults
+pub mod MemberChanges
 pub mod MergeSetNames
 pub mod MergeSets
+pub mod Plans

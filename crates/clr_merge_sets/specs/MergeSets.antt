@@ -1,5 +1,5 @@
 -- What is read of a merge set in an office, and the scene that it makes.
-use Rattle.std.specs.Prelude.{◌≡◌, true, List, None}
+use Rattle.std.specs.Prelude.{◌≡◌, true, List, None, map}
 use Rattle.clr_rows.specs.Contents.{Content, conflicts}
 use Rattle.clr_finders.specs.Sharing.{IsSettledFor, Settled}
 use Rattle.clr_workspaces.specs.Marks.{Name}
@@ -22,7 +22,7 @@ pub record AreParts (o : Office) (s : MergeSet) (parts : MergeSetParts) : Type 0
   pub free : member_fault o s ≡ None
   pub rows : parts.rows ≡ root_content o s
   pub filed : IsSettledFor parts.finder.now.settled o.book parts.rows
-  pub sets : parts.sets.items ≡ change_sets o s
+  pub sets : map (λ set. set.now) parts.sets.items ≡ change_sets o s
 
 -- the parts of a merge set
 abbrev pub AreOfMergeSet : Office → MergeSetParts → Type 0

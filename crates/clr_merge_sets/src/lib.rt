@@ -1,25 +1,34 @@
-//! What checks and plans read of a merge set, a root and its members, in an office.
+//! What checks and plans read of a merge set, a root and its members, in an office; and what a plan is.
 //!
+//! - `read_changes`, `read_member_changes` [`members`, `names`]: what each member changed, in their order. They refuse no name: one that no
+//!   workspace has changes nothing. `row_of_version` is the row of a version of a merge set whose changes were read.
 //! - `name_fault` [`fault`, `admitted`]: the first test of names that fails, or none. Each test is
 //!   made over the whole list before the next: the root stands and is kept, no name stands twice,
 //!   each is that of a workspace, and each is a child of the root. The answer is never want of
 //!   memory.
-//! - `read_merge_set` [`parts`, `fault`, `admitted`]: where no test of names and no test for conflicts
-//!   fails, the rows of the root, which aren't copied, and what each member changed; else the first
-//!   test that fails, or want of memory where no test of names does.
+//! - `read_merge_set` [`parts`, `fault`, `admitted`]: over the changes of the members, which aren't copied, where no test of names and no
+//!   test for conflicts fails, the rows of the root, which aren't copied either; else the first test that fails, or want of memory where no
+//!   test of names does. `read_merge_set_of` does so of changes that stand in different places. `fault_without_memory` is the answer where
+//!   no memory was found for the changes.
 //! - `MergeSetParts::scene` [`scene`, `shared`]: the scene of those rows and changes, or the least cell
 //!   that two members change, or want of memory. `verdict_of` gives such a fault as a verdict.
+//! - `Plan` is what a planner says: a certificate, a verdict with an order of members, or a test of names that fails. `is_cleared` and
+//!   `is_out_of_memory` tell which of its answers a plan is.
 #![tactic(auto)]
 
+mod member_changes;
 mod merge_set_parts;
 mod merge_sets;
 mod name_lists;
 mod name_tests;
+mod plans;
 mod repeats;
 mod scene_faults;
 
+pub use member_changes::{read_changes, read_member_changes, row_of_version};
 pub use merge_set_parts::MergeSetParts;
-pub use merge_sets::read_merge_set;
+pub use merge_sets::{read_merge_set, read_merge_set_of};
 pub use name_lists::NameList;
-pub use name_tests::name_fault;
+pub use name_tests::{fault_without_memory, name_fault};
+pub use plans::Plan;
 pub use scene_faults::verdict_of;

@@ -8,11 +8,11 @@ use clr_grid::SpotIndex;
 use clr_tree::View;
 
 /// The rows of a root as its office shows them, the office's finder of those rows, and what each
-/// member changed, in the order of the members. No row of the root is copied.
+/// member changed, in the order of the members. Nothing of this is copied.
 #[derive(Drop)]
 pub struct MergeSetParts<'a> {
     pub(crate) rows: View<'a>,
     pub(crate) finder: &'a SpotIndex,
-    pub(crate) sets: Vec<ChangeSet>,
+    pub(crate) sets: Vec<&'a ChangeSet>,
     ghost few: { length sets.items ≤ MOST_MEMBERS },
 }

@@ -1,7 +1,7 @@
-//! What is read of a merge set in an office: the rows of its root, which aren't copied, and what each member
-//! changed.
+//! What is read of a merge set in an office: the rows of its root, over which the changes of the members are looked at. Nothing of this is
+//! copied.
 
-ghost use Rattle.std.specs.Prelude.{◌≡◌, ◌⊎◌, None, Some, true, map, IfErr, IfOk, OnOk};
+ghost use Rattle.std.specs.Prelude.{◌≡◌, None, true, map, IfErr, IfOk};
 ghost use Rattle.clr_finders.specs.Sharing.{IsSettledFor};
 ghost use Rattle.clr_needs.specs.Members.{IsSceneFault};
 ghost use Rattle.clr_foot.specs.Scenes.{model_of};
@@ -10,8 +10,7 @@ ghost use Rattle.clr_steps.specs.Quiet.{MergeSet};
 ghost use Rattle.clr_steps.specs.Readings.{changes_in};
 ghost use Rattle.clr_engine.specs.Fitting.{IsAdmitted};
 ghost use Rattle.clr_clearance.specs.MergeSets.{change_sets};
-ghost use Rattle.clr_clearance.specs.Verdicts.{first_conflict};
-ghost use Rattle.clr_clearance.specs.declared.verdicts.Verdict.TheVariants as verdict;
+ghost use Rattle.clr_clearance.specs.Verdicts.{first_conflict as first_conflict_of, names_fault};
 ghost use Rattle.clr_merge_sets.specs.Faults.{IsMergeSetFault};
 ghost use Rattle.clr_merge_sets.specs.MergeSetNames.{merge_set};
 ghost use Rattle.clr_merge_sets.specs.MergeSets.{AreOfMergeSet, AreParts, AreRowsAbove, IsSceneOf};
@@ -28,16 +27,6 @@ use clr_needs::SceneFault;
 use clr_tree::View;
 use std::alloc::{AllocError, Global};
 
-/// Returns what a workspace changed, and nothing where there is none.
-fn changes(alloc: Global, office: &Office, name: &str) -> Result<ChangeSet, AllocError>
-    ensures { IfOk result (λ set. set ≡ changes_in office.now name.now) }
-{
-    match office.changes(name)? {
-        Some(set) => Ok(set),
-        None => Ok(ChangeSet::new(alloc)),
-    }
-}
-
 /// Returns the rows of a root that is kept as the office shows them, and the office's finder of
 /// them.
 fn root_rows<'a>(office: &'a Office, root: &str) -> (View<'a>, &'a SpotIndex)
@@ -51,37 +40,30 @@ fn root_rows<'a>(office: &'a Office, root: &str) -> (View<'a>, &'a SpotIndex)
     (rows, finder)
 }
 
-/// Returns what each member changed, in their order. Fails with the first member in conflict with
-/// these rows of the root, its least cell in conflict and how many there are, or with `OutOfMemory`
-/// if memory runs out.
-fn change_sets<N: NameList>(
-    alloc: Global,
+/// Returns the first member in conflict with these rows of the root, with its least cell in conflict
+/// and how many there are, or none.
+fn first_in_conflict<N: NameList>(
     office: &Office,
     rows: &View,
     members: &N,
-) -> Result<Vec<ChangeSet>, Verdict>
-    requires { AreRowsAbove office.now (N.names members.now) rows.now }
-    ensures sets { IfOk result (λ sets. sets.items ≡ map (changes_in office.now) (N.names members.now)) }
-    ensures free { OnOk result (first_conflict office.now 0 (N.names members.now) ≡ None) }
-    ensures fault { IfErr result (λ v. (Some v ≡ first_conflict office.now 0 (N.names members.now)) ⊎ (v ≡ verdict.OutOfMemory)) }
+    sets: &[&ChangeSet],
+) -> Option<Verdict>
+    requires above { AreRowsAbove office.now (N.names members.now) rows.now }
+    requires changed { map (λ set. set.now) sets.now ≡ map (changes_in office.now) (N.names members.now) }
+    ensures { result ≡ first_conflict_of office.now 0 (N.names members.now) }
 {
-    let mut sets = Vec::new(alloc);
-    for member in 0..members.len() {
-        let Ok(set) = changes(alloc, office, members.name_at(member)) else {
-            return Err(Verdict::OutOfMemory);
-        };
-        if let Some((cell, count)) = first_conflict(&set, rows) {
-            return Err(Verdict::Conflict {
+    let _office = office;
+    let _members = members;
+    for member in 0..sets.len() {
+        if let Some((cell, count)) = first_conflict(sets[member], rows) {
+            return Some(Verdict::Conflict {
                 member,
                 cell,
                 count,
             });
         }
-        if sets.push(set).is_err() {
-            return Err(Verdict::OutOfMemory);
-        }
     }
-    Ok(sets)
+    None
 }
 
 /// References to change sets, in their order.
@@ -95,15 +77,37 @@ fn references(alloc: Global, sets: &[ChangeSet]) -> Result<Vec<&ChangeSet>, Allo
     Ok(list)
 }
 
-/// Returns the parts of a root and its members where no test of names and no test for conflicts
-/// fails. Fails with the first test that fails. `OutOfMemory` may come in place of any answer but a
-/// test of names.
+/// Returns the parts of a root and its members where no test of names fails. Fails with the first
+/// member in conflict.
+fn parts_of<'a, N: NameList>(
+    office: &'a Office,
+    root: &str,
+    members: &N,
+    sets: Vec<&'a ChangeSet>,
+) -> Result<MergeSetParts<'a>, Verdict>
+    requires named { None ≡ names_fault office.now (merge_set root.now (N.names members.now)) }
+    requires changed { map (λ set. set.now) sets.items ≡ change_sets office.now (merge_set root.now (N.names members.now)) }
+    ensures parts { IfOk result (AreParts office.entry.now (merge_set root.now (N.names members.now))) }
+    ensures fault { IfErr result (IsMergeSetFault office.entry.now (merge_set root.now (N.names members.now))) }
+{
+    let _sound = office.len();
+    let (rows, finder) = root_rows(office, root);
+    if let Some(fault) = first_in_conflict(office, &rows, members, sets.as_slice()) {
+        return Err(fault);
+    }
+    Ok(MergeSetParts { rows, finder, sets })
+}
+
+/// Returns the parts of a root and its members over their changes, where no test of names and no test for conflicts fails. Fails with the
+/// first test that fails; `OutOfMemory` may come in place of any answer but a test of names.
 pub fn read_merge_set<'a, N: NameList>(
     alloc: Global,
     office: &'a Office,
     root: &str,
     members: &N,
+    changes: &'a [ChangeSet],
 ) -> Result<MergeSetParts<'a>, Verdict>
+    requires { changes.now ≡ change_sets office.now (merge_set root.now (N.names members.now)) }
     ensures parts { IfOk result (AreParts office.entry.now (merge_set root.now (N.names members.now))) }
     ensures fault { IfErr result (IsMergeSetFault office.entry.now (merge_set root.now (N.names members.now))) }
     ensures admitted { IsAdmitted office.entry.now }
@@ -111,10 +115,28 @@ pub fn read_merge_set<'a, N: NameList>(
     if let Some(fault) = name_fault(alloc, office, root, members) {
         return Err(fault);
     }
-    let _sound = office.len();
-    let (rows, finder) = root_rows(office, root);
-    let sets = change_sets(alloc, office, &rows, members)?;
-    Ok(MergeSetParts { rows, finder, sets })
+    let Ok(sets) = references(alloc, changes) else {
+        return Err(Verdict::OutOfMemory);
+    };
+    parts_of(office, root, members, sets)
+}
+
+/// Returns what `read_merge_set` does, of changes that stand in different places, as those of some of the members of another merge set do.
+pub fn read_merge_set_of<'a, N: NameList>(
+    alloc: Global,
+    office: &'a Office,
+    root: &str,
+    members: &N,
+    changes: Vec<&'a ChangeSet>,
+) -> Result<MergeSetParts<'a>, Verdict>
+    requires { map (λ set. set.now) changes.items ≡ change_sets office.now (merge_set root.now (N.names members.now)) }
+    ensures parts { IfOk result (AreParts office.entry.now (merge_set root.now (N.names members.now))) }
+    ensures fault { IfErr result (IsMergeSetFault office.entry.now (merge_set root.now (N.names members.now))) }
+{
+    if let Some(fault) = name_fault(alloc, office, root, members) {
+        return Err(fault);
+    }
+    parts_of(office, root, members, changes)
 }
 
 impl<'a> MergeSetParts<'a> {
@@ -131,7 +153,7 @@ impl<'a> MergeSetParts<'a> {
         ensures shared { IfErr result (λ fault. (s : MergeSet) → AreParts office.entry.now s self.entry.now
             → IsSceneFault (change_sets office.entry.now s) fault) }
     {
-        let sets = references(alloc, self.sets.as_slice())?;
+        let sets = Vec::from_slice(alloc, self.sets.as_slice())?;
         Scene::new(alloc, office.book(), &self.rows, self.finder, sets)
     }
 }

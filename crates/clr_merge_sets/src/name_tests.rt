@@ -5,6 +5,7 @@ ghost use Rattle.clr_steps.specs.Offices.{is_kept, stands};
 ghost use Rattle.clr_clearance.specs.MergeSets.{is_child};
 ghost use Rattle.clr_clearance.specs.Verdicts.{names_fault};
 ghost use Rattle.clr_engine.specs.Fitting.{IsAdmitted};
+ghost use Rattle.clr_merge_sets.specs.Faults.{IsMergeSetFault};
 ghost use Rattle.clr_merge_sets.specs.MergeSetNames.{merge_set};
 
 use crate::name_lists::NameList;
@@ -91,5 +92,22 @@ pub fn name_fault<N: NameList>(
     match first_stray(office, root, members) {
         Some(position) => Some(Verdict::NotUnderRoot(position)),
         None => None,
+    }
+}
+
+/// Returns the first test of names that fails, or `OutOfMemory` where none does: the answer where no memory was found for what the members
+/// changed.
+pub fn fault_without_memory<N: NameList>(
+    alloc: Global,
+    office: &Office,
+    root: &str,
+    members: &N,
+) -> Verdict
+    ensures fault { IsMergeSetFault office.now (merge_set root.now (N.names members.now)) result }
+    ensures admitted { IsAdmitted office.now }
+{
+    match name_fault(alloc, office, root, members) {
+        Some(fault) => fault,
+        None => Verdict::OutOfMemory,
     }
 }

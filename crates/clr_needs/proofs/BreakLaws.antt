@@ -1,5 +1,5 @@
 -- The needs that the merge of one member breaks: just the touched ones whose subjects stand then, and no version that serves.
-use Rattle.std.proofs.Common.{◌≡◌, ◌∙◌, ◌<◌, ◌≤◌, ◌+◌, ◌==◌, ℕ, Bool, true, false, ◌&&◌, not, List, [], ◌∷◌, ◌⊎◌, inl, inr, Option, Some, None, Contains}
+use Rattle.std.proofs.Common.{◌≡◌, ◌∙◌, ◌<◌, ◌+◌, ◌==◌, ℕ, Bool, true, false, ◌&&◌, not, List, [], ◌∷◌, ◌⊎◌, inl, inr, Option, Some, None, Contains}
 use Rattle.std.proofs.Common.{get_or, length, take, refl, sym, ap, subst, unwrap_or}
 use Rattle.std.specs.List.{range_with_len}
 use Rattle.std.specs.Option.{option_cmp, option_map}
@@ -17,7 +17,7 @@ use Rattle.clr_rows.proofs.CellOrder.{cell_cmp_exact}
 use Rattle.clr_rules.specs.declared.needs.Broken.{Broken}
 use Rattle.clr_rules.specs.declared.rules.Rule.{Rule}
 use Rattle.clr_rules.specs.Calls.{serves}
-use Rattle.clr_rules.specs.Needs.{Holds, IsBroken, IsMet, IsNeed, broken_at, broken_cmp}
+use Rattle.clr_rules.specs.Needs.{BreaksNoMore, IsKept, IsMet, IsNeed, IsNewlyBroken, broken_at, broken_cmp}
 use Rattle.clr_rules.specs.Needs as audit
 use Rattle.clr_needs.specs.declared.needs.Need.{Need}
 use Rattle.clr_needs.specs.declared.needs.VersionId.{VersionId}
@@ -29,15 +29,15 @@ use Rattle.clr_needs.specs.Members.{setting}
 use Rattle.clr_needs.specs.Needs.{AreServers, AreTouchedNeeds, IsPossibleNeed, IsBesideIfAny, IsPossible, IsTouched, IsTouchedBy, ask_of, held_if_any, is_fresh}
 use Rattle.clr_needs.specs.Needs.{need_of}
 use Rattle.clr_needs.specs.Orders.{need_cmp, version_cmp}
-use Rattle.clr_needs.specs.Settings.{Setting, AreDisjoint, Lifetime, Always, With, Without, Lived, changer, has, held_row, new_version, old_version, view_with}
+use Rattle.clr_needs.specs.Settings.{Setting, AreDisjoint, DoChange, Lifetime, Always, With, Without, Lived, changer, has, held_row, new_version, old_version, view_with}
 use Rattle.clr_needs.specs.Settings.{version}
 use Rattle.clr_needs.proofs.CoverLaws.{root_server}
 use Rattle.clr_needs.proofs.Lives.{has_version, lives, names_member, never_both, old_is}
-use Rattle.clr_needs.proofs.Meetings.{HasServer, IsStandingNeed, IsSubjectLife, holds_where_met, is_need, met_by, server_of}
-use Rattle.clr_needs.proofs.Placing.{after}
+use Rattle.clr_needs.proofs.Meetings.{HasServer, IsKeptIn, IsStandingNeed, IsSubjectLife, is_need, met_by, no_more_where_met, server_of}
 use Rattle.clr_needs.proofs.Reading.{one_more}
 use Rattle.clr_needs.proofs.Merges.{IsMerge, root_is, taken_over}
 use Rattle.clr_needs.proofs.NeedSubjects.{subjects_once}
+use Rattle.clr_needs.proofs.TouchedLaws.{touched_is_kept}
 
 module _ (rules : List Rule) (root : Content) (sets : List Changes) (one : length sets ≡ 1) where
   abbrev s : Setting ℕ
@@ -116,12 +116,13 @@ module _ (rules : List Rule) (root : Content) (sets : List Changes) (one : lengt
 
   -- ---- a standing need is touched, or a row that stays serves it
 
-  touched_or_served : Holds rules s.root → (n : Need) (a : Lived ℕ) (b : Option (Lived ℕ)) → IsPossible s n a b → IsTouchedBy s n a b ⊎ HasServer s ts n a b
-  touched_or_served holds n a b p = elim (cases_Bool n.first.fresh) [
+  touched_or_served : (n : Need) (a : Lived ℕ) (b : Option (Lived ℕ)) → IsPossible s n a b → IsKeptIn s s.root n a b
+      → IsTouchedBy s n a b ⊎ HasServer s ts n a b
+  touched_or_served n a b p kept = elim (cases_Bool n.first.fresh) [
     | inl new ↦ inl (inl (or_left n.first.fresh (is_fresh n.second) new))
     | inr old ↦ elim (cases_Bool (is_fresh n.second)) [
       | inl new ↦ inl (inl (or_right n.first.fresh (is_fresh n.second) new))
-      | inr old_too ↦ stays (root_server s n a b p apart holds old old_too)
+      | inr old_too ↦ stays (root_server s n a b p apart kept old old_too)
     ]
   ]
     where
@@ -133,24 +134,27 @@ module _ (rules : List Rule) (root : Content) (sets : List Changes) (one : lengt
           by (With m) e = absurd (false≢true (sym (ap (lives s []) e) ∙ h.lives))
           by (Without m) e = inl (inr (h.id, h.lived, h.serves, rw e tt))
 
-  -- ---- every rule holds where each touched need is kept
+  -- ---- no more is broken where each touched need is served
 
-  pub holds_after : Holds rules s.root → ((n : Need) → IsTouched s n → IsServedAfterMerge s n) → Holds rules (view_after_merge s)
-  holds_after holds kept = subst (Holds rules) views
-      (holds_where_met s ts merge (λ n a b need. met_by s ts n a b merge (by n a b need (touched_or_served holds n a b need.possible))))
+  pub no_more_after : ((n : Need) → IsTouched s n → IsServedAfterMerge s n) → BreaksNoMore rules s.root (view_after_merge s)
+  no_more_after served = subst (BreaksNoMore rules s.root) views
+      (no_more_where_met s s.root ts merge
+      (λ n a b need kept. met_by s ts n a b merge (by n a b need (touched_or_served n a b need.possible kept))))
     where
       by : (n : Need) (a : Lived ℕ) (b : Option (Lived ℕ)) → IsStandingNeed s ts n a b → IsTouchedBy s n a b ⊎ HasServer s ts n a b → HasServer s ts n a b
-      by n a b need (inl touched) = server_stands n a b (kept n (a, b, need.possible, touched) a b need.possible (living_too n a b need.possible need))
+      by n a b need (inl touched) = server_stands n a b (served n (a, b, need.possible, touched) a b need.possible (living_too n a b need.possible need))
       by n a b need (inr h) = h
 
   -- ---- broken needs
 
-  pub unserved_is_broken : (n : Need) → IsUnservedAfterMerge s n → IsBroken rules (view_after_merge s) (broken_of n)
-  unserved_is_broken n (a, b, p, living, unserved) = subst (λ view. IsBroken rules view (broken_of n)) views (record {
+  pub unserved_is_broken : DoChange s → (n : Need) → IsUnservedAfterMerge s n → IsTouched s n → IsNewlyBroken rules s.root (view_after_merge s) (broken_of n)
+  unserved_is_broken changes n (a, b, p, living, unserved) (x, y, q, touched) = subst (λ view. IsNewlyBroken rules s.root view (broken_of n)) views (record {
     first = held_row n.first a;
     second = held_if_any n.second b;
     need = is_need s ts n a b merge (it_stands n a b p living);
     unmet = λ met. unserved (server_lives n a b (server_of s ts n a b merge met));
+    kept = (let once = subjects_once s n a x b y p q in
+        subst (λ k. IsKeptIn s s.root n k b) once.0 (subst (λ k. IsKeptIn s s.root n x k) once.1 (touched_is_kept s changes n x y q touched)));
     named = same_names n.second b p.second_is;
   })
     where
@@ -167,12 +171,12 @@ module _ (rules : List Rule) (root : Content) (sets : List Changes) (one : lengt
     pub touched : IsTouched s n
     pub named : b ≡ broken_of n
 
-  pub broken_by : Holds rules s.root → (b : Broken) → IsBroken rules (view_after_merge s) b → (n : Need) × IsBrokenBy b n
-  broken_by holds b broken = by b (subst (λ view. IsBroken rules view b) (sym views) broken)
+  pub broken_by : (b : Broken) → IsNewlyBroken rules s.root (view_after_merge s) b → (n : Need) × IsBrokenBy b n
+  broken_by b broken = by b (subst (λ view. IsNewlyBroken rules s.root view b) (sym views) broken)
     where
-      break_of : (b : Broken) (n : Need) (x : Lived ℕ) (y : Option (Lived ℕ)) → IsStandingNeed s ts n x y → b ≡ broken_of n → (HasServer s ts n x y → ⊥)
-          → (n : Need) × IsBrokenBy b n
-      break_of b n x y need named unserved = go (touched_or_served holds n x y need.possible)
+      break_of : (b : Broken) (n : Need) (x : Lived ℕ) (y : Option (Lived ℕ)) → IsStandingNeed s ts n x y → IsKeptIn s s.root n x y → b ≡ broken_of n
+          → (HasServer s ts n x y → ⊥) → (n : Need) × IsBrokenBy b n
+      break_of b n x y need kept named unserved = go (touched_or_served n x y need.possible kept)
         where
           go : IsTouchedBy s n x y ⊎ HasServer s ts n x y → (n : Need) × IsBrokenBy b n
           go (inl touched) = (
@@ -185,24 +189,25 @@ module _ (rules : List Rule) (root : Content) (sets : List Changes) (one : lengt
           )
           go (inr h) = absurd (unserved h)
 
-      by : (b : Broken) → IsBroken rules (view_with s ts) b → (n : Need) × IsBrokenBy b n
-      by b broken = go broken.first broken.second broken.need broken.unmet broken.named
+      by : (b : Broken) → IsNewlyBroken rules s.root (view_with s ts) b → (n : Need) × IsBrokenBy b n
+      by b broken = go broken.first broken.second broken.need broken.unmet broken.kept broken.named
         where
           go : (first : Held) (second : Option Held) → IsNeed rules (view_with s ts) (audit.ask_of b) first second
               → (IsMet rules (view_with s ts) (audit.ask_of b) first second → ⊥)
+              → IsKept rules s.root (audit.ask_of b) first second
               → b ≡ broken_at (audit.ask_of b) first second → (n : Need) × IsBrokenBy b n
-          go first None need unmet named =
+          go first None need unmet kept named =
               let v = has_version s ts merge first.0 first.1 need.stands in
               let x : Lived ℕ = record { row = first.1; life = v.life } in
               let n = need_of (audit.ask_of b) (record { cell = first.0; fresh = v.fresh }) None in
               let stand : IsStandingNeed s ts n x None =
               record { possible = record { first_is = v.is; second_is = tt; they_call = need.they_call }; live = λ l h. alone l x v.lives h } in
-              break_of b n x None stand named (λ h. unmet (met_by s ts n x None merge h))
+              break_of b n x None stand kept named (λ h. unmet (met_by s ts n x None merge h))
             where
               alone : (l : Lifetime ℕ) (x : Lived ℕ) → lives s ts x.life ≡ true → IsSubjectLife s x None l → lives s ts l ≡ true
               alone l x living (inl e) = ap (lives s ts) e ∙ living
               alone l x living (inr e) = absurd e
-          go first (Some second) need unmet named =
+          go first (Some second) need unmet kept named =
               let v = has_version s ts merge first.0 first.1 need.stands in
               let w = has_version s ts merge second.0 second.1 need.beside.0 in
               let x : Lived ℕ = record { row = first.1; life = v.life } in
@@ -221,7 +226,7 @@ module _ (rules : List Rule) (root : Content) (sets : List Changes) (one : lengt
                 };
                 live = λ l h. both l x y v.lives w.lives h;
               } in
-              break_of b n x (Some y) stand named (λ h. unmet (met_by s ts n x (Some y) merge h))
+              break_of b n x (Some y) stand kept named (λ h. unmet (met_by s ts n x (Some y) merge h))
             where
               both : (l : Lifetime ℕ) (x y : Lived ℕ) → lives s ts x.life ≡ true → lives s ts y.life ≡ true → IsSubjectLife s x (Some y) l → lives s ts l ≡ true
               both l x y living living_too (inl e) = ap (lives s ts) e ∙ living

@@ -1,16 +1,17 @@
 -- A need that nothing covers is broken where its blockers' changes are over the root: its subjects stand there, and what would serve there covers it.
 use Rattle.std.proofs.Common.{◌≡◌, ◌∙◌, true, List, ◌⊎◌, inl, inr, refl, sym, ap, subst, Option, Some, None, not}
 use Rattle.std.proofs.lemmas.Bool.{cases_Bool, false≢true}
-use Rattle.clr_rules.specs.Needs.{Holds}
+use Rattle.clr_rules.specs.Needs.{BreaksNoMore}
 use Rattle.clr_needs.specs.declared.needs.Need.{Need}
 use Rattle.clr_needs.specs.declared.needs.VersionId.{VersionId}
 use Rattle.clr_needs.specs.Covers.{AreBlockers, IsBlocker, IsLifeOf, IsUncovered}
 use Rattle.clr_needs.specs.Independence.{Names}
-use Rattle.clr_needs.specs.Needs.{AreOpposed, IsBesideIfAny, IsPossible, Serves}
-use Rattle.clr_needs.specs.Settings.{Setting, AreDisjoint, Lifetime, Always, With, Without, Lived, has, view_with}
+use Rattle.clr_needs.specs.Needs.{AreOpposed, IsBesideIfAny, IsPossible, IsTouchedBy, Serves}
+use Rattle.clr_needs.specs.Settings.{Setting, AreDisjoint, DoChange, Lifetime, Always, With, Without, Lived, has, view_with}
 use Rattle.clr_needs.proofs.Merges.{IsMerge}
 use Rattle.clr_needs.proofs.Lives.{lives, names_member, opposed_too}
 use Rattle.clr_needs.proofs.Meetings.{HasServer, IsStandingNeed, IsSubjectLife, is_need, server_of}
+use Rattle.clr_needs.proofs.TouchedLaws.{touched_is_kept}
 
 module _ {A : Type 0} (c : Setting A) where
   itself : (l : Lifetime A) → AreOpposed l l → ⊥
@@ -104,8 +105,9 @@ module _ {A : Type 0} (c : Setting A) where
             let merged = blockers.every x member (inr (inr (s.id, s.lived, s.serves, e))) in
             false≢true (sym (ap not merged) ∙ sym (ap (lives c ts) e) ∙ s.lives)
 
-    pub uncovered_breaks : AreDisjoint c → Holds c.rules (view_with c ts) → ⊥
-    uncovered_breaks apart holds =
+    pub uncovered_breaks : AreDisjoint c → DoChange c → IsTouchedBy c n a b → BreaksNoMore c.rules c.root (view_with c ts) → ⊥
+    uncovered_breaks apart changes touched no_more =
         let merge : IsMerge c ts = record { apart = apart; part = blockers.part } in
         let need : IsStandingNeed c ts n a b = record { possible = uncovered.possible; live = subjects_live } in
-        none_serves (server_of c ts n a b merge (holds _ _ _ (is_need c ts n a b merge need)))
+        none_serves (server_of c ts n a b merge
+        (no_more _ _ _ (touched_is_kept c changes n a b uncovered.possible touched) (is_need c ts n a b merge need)))

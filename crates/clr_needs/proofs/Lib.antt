@@ -19,4 +19,5 @@ pub mod PositionLaws
 pub mod Reading
 pub mod RenamingLaws
 pub mod TestLemmas
+pub mod TouchedLaws
 pub mod VersionOrder

@@ -1,7 +1,9 @@
 -- Possible needs whose subjects stand where some members are merged, and what meets them there.
 use Rattle.std.proofs.Common.{◌≡◌, ◌∙◌, true, List, [], ◌⊎◌, inl, inr, refl, ap, Option, Some, None}
 use Rattle.std.specs.Prelude.{◌∷◌}
-use Rattle.clr_rules.specs.Needs.{Holds, IsMet, IsNeed, StandsBeside}
+use Rattle.clr_rules.specs.declared.needs.Ask.{Ask}
+use Rattle.clr_rules.specs.Needs.{BreaksNoMore, Holds, IsKept, IsMet, IsNeed, StandsBeside, View}
+use Rattle.clr_rows.specs.Held.{Held}
 use Rattle.clr_needs.specs.declared.needs.Need.{Need}
 use Rattle.clr_needs.specs.declared.needs.VersionId.{VersionId}
 use Rattle.clr_needs.specs.Covers.{CoversAlone, CoverTogether, Entry, HasEntry, IsLifeOf, Lasts, WitnessesCover}
@@ -46,15 +48,18 @@ module _ {A : Type 0} (c : Setting A) where
   subject_lives ts a b first second l (inl e) = ap (lives c ts) e ∙ first
   subject_lives ts a b first second l (inr h) = second l h
 
-  -- every rule holds there where each standing need is met
-  pub holds_where_met : (ts : List A) → IsMerge c ts → ((n : Need) (a : Lived A) (b : Option (Lived A)) → IsStandingNeed ts n a b → IsMetIn ts n a b)
-      → Holds c.rules (view_with c ts)
-  holds_where_met ts merge met ask first None need =
+  -- what is asked of standing needs of which a fact holds is asked of the needs of the merged rows
+  each_met : (P : Ask → Held → Option Held → Type 0) (ts : List A) → IsMerge c ts
+      → ((n : Need) (a : Lived A) (b : Option (Lived A)) → IsStandingNeed ts n a b → P (ask_of n) (held_row n.first a) (held_if_any n.second b) → IsMetIn ts n a b)
+      → (ask : Ask) (first : Held) (second : Option Held) → P ask first second → IsNeed c.rules (view_with c ts) ask first second
+      → IsMet c.rules (view_with c ts) ask first second
+  each_met P ts merge met ask first None fact need =
       let v = has_version c ts merge first.0 first.1 need.stands in
       let a : Lived A = record { row = first.1; life = v.life } in
       met (need_of ask (record { cell = first.0; fresh = v.fresh }) None) a None
       (record { possible = record { first_is = v.is; second_is = tt; they_call = need.they_call }; live = subject_lives ts a None v.lives (λ l h. absurd h) })
-  holds_where_met ts merge met ask first (Some second) need =
+      fact
+  each_met P ts merge met ask first (Some second) fact need =
       let v = has_version c ts merge first.0 first.1 need.stands in
       let w = has_version c ts merge second.0 second.1 need.beside.0 in
       let a : Lived A = record { row = first.1; life = v.life } in
@@ -73,6 +78,21 @@ module _ {A : Type 0} (c : Setting A) where
         };
         live = subject_lives ts a (Some b) v.lives (λ l h. ap (lives c ts) h ∙ w.lives);
       })
+      fact
+
+  -- every rule holds there where each standing need is met
+  pub holds_where_met : (ts : List A) → IsMerge c ts → ((n : Need) (a : Lived A) (b : Option (Lived A)) → IsStandingNeed ts n a b → IsMetIn ts n a b)
+      → Holds c.rules (view_with c ts)
+  holds_where_met ts merge met ask first second need = each_met (λ k s t. Unit {0}) ts merge (λ n a b stand fact. met n a b stand) ask first second tt need
+
+  -- no more is broken there than in other rows where each standing need is met that is kept by those
+  abbrev pub IsKeptIn : View → Need → Lived A → Option (Lived A) → Type 0
+  IsKeptIn view n a b = IsKept c.rules view (ask_of n) (held_row n.first a) (held_if_any n.second b)
+
+  pub no_more_where_met : (before : View) (ts : List A) → IsMerge c ts
+      → ((n : Need) (a : Lived A) (b : Option (Lived A)) → IsStandingNeed ts n a b → IsKeptIn before n a b → IsMetIn ts n a b)
+      → BreaksNoMore c.rules before (view_with c ts)
+  no_more_where_met before ts merge met ask first second kept need = each_met (IsKept c.rules before) ts merge met ask first second kept need
 
   -- ---- who serves
 

@@ -1,12 +1,12 @@
 -- The subjects of a need, and the members that it involves.
-use Rattle.std.proofs.Common.{◌≡◌, ◌∙◌, Bool, true, ◌⊎◌, inl, inr, refl, sym, ap, subst, Option, Some, None}
+use Rattle.std.proofs.Common.{◌≡◌, ◌∙◌, true, ◌⊎◌, inl, inr, refl, sym, ap, subst, Option, Some, None}
 use Rattle.std.proofs.lemmas.Bool.{or_cases}
 use Rattle.clr_needs.specs.declared.needs.Need.{Need}
 use Rattle.clr_needs.specs.declared.needs.VersionId.{VersionId}
 use Rattle.clr_needs.specs.Covers.{IsBlocker, IsLifeOf}
 use Rattle.clr_needs.specs.Independence.{Involves, Names, NamesIfAny}
 use Rattle.clr_needs.specs.Needs.{IsBesideIfAny, IsChanged, IsPossible, IsTouchedBy, is_fresh}
-use Rattle.clr_needs.specs.Settings.{Setting, Lifetime, Always, With, Without, Lived, changer, has, version}
+use Rattle.clr_needs.specs.Settings.{Setting, Lifetime, With, Without, Lived, changer, has, version}
 use Rattle.clr_needs.proofs.Lives.{names_member, new_is, version_by, version_by_changer}
 
 module _ {A : Type 0} (c : Setting A) (n : Need) where

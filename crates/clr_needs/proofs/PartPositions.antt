@@ -1,5 +1,5 @@
 -- The setting of the change sets at some positions is a part of that of all.
-use Rattle.std.proofs.Common.{◌≡◌, ◌∙◌, ◌<◌, ◌≤◌, ℕ, zero, suc, true, List, [], ◌∷◌, inl, inr, Contains, get_or, length, refl, sym, ap, subst, arith, Option}
+use Rattle.std.proofs.Common.{◌≡◌, ◌∙◌, ◌<◌, ℕ, zero, suc, true, List, [], ◌∷◌, inl, inr, Contains, get_or, length, refl, sym, ap, subst, arith, Option}
 use Rattle.std.proofs.Common.{Some, None, is_some}
 use Rattle.std.specs.Prelude.{slice_get}
 use Rattle.std.specs.List.{cons_option}

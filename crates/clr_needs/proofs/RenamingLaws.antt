@@ -1,5 +1,5 @@
 -- Settings with the same members but for their names have the same needs, and the same versions serve and cover them.
-use Rattle.std.proofs.Common.{◌≡◌, refl, sym, subst, List, Option, Some, None}
+use Rattle.std.proofs.Common.{◌≡◌, subst, List, Option, Some}
 use Rattle.clr_needs.specs.declared.needs.Need.{Need}
 use Rattle.clr_needs.specs.declared.needs.VersionId.{VersionId}
 use Rattle.clr_needs.specs.Blocking.{IsBlockerOf}
@@ -9,7 +9,7 @@ use Rattle.clr_needs.specs.Needs.{IsPossible, IsPossibleNeed, IsServing, IsTouch
 use Rattle.clr_needs.specs.Picks.{PicksBy}
 use Rattle.clr_needs.specs.Settings.{Setting, Lived, version}
 use Rattle.clr_needs.proofs.Agreement.{Agree, IsInOneOrder, IsOneToOne, alone_to, blocker_at, entry_to, involves_to, other_way, pick_to, together_to}
-use Rattle.clr_needs.proofs.Agreement.{touched_to, turned_one, turned_order, turned_round}
+use Rattle.clr_needs.proofs.Agreement.{touched_to, turned_one, turned_round}
 use Rattle.clr_needs.proofs.NeedSubjects.{each_involved}
 use Rattle.clr_needs.proofs.PartLaws.{AllInside, IsPart, agreeing, matched, possible_up}
 use Rattle.clr_needs.proofs.PartLives.{AreInside, IsInside}

@@ -15,7 +15,7 @@ use Rattle.clr_needs.specs.declared.faults.SceneFault.TheVariants as fault
 use Rattle.clr_needs.specs.declared.shared_cells.SharedCell.{SharedCell}
 use Rattle.clr_needs.specs.declared.needs.Life.{Life}
 use Rattle.clr_needs.specs.declared.needs.Life.TheVariants as life
-use Rattle.clr_needs.specs.Settings.{Setting, Lifetime, Always, With, Without, first_changer}
+use Rattle.clr_needs.specs.Settings.{Setting, Lifetime, Always, With, Without}
 
 -- what a change set has at a cell that it changes
 abbrev pub after_in : Changes → CellId → Option (Option Row)

@@ -39,6 +39,10 @@ AreDisjoint {A} c = (m n : A) (q : CellId)
     → is_some (c.after n q) ≡ true
     → m ≡ n
 
+-- no member has at a cell that it changes what the root has there
+abbrev pub DoChange : {A : Type 0} → Setting A → Type 0
+DoChange {A} c = (n : A) (q : CellId) (row : Option Row) → has c.same c.members n ≡ true → c.after n q ≡ Some row → row ≡ c.root q → ⊥
+
 -- versions -----------------------------------------------------------------------------------
 
 -- a version lives whatever is merged, once a member is merged, or until then

@@ -8,10 +8,12 @@
 //!   needs, and the witnesses that cover one. `Picks`: the witnesses that a planner names, and the
 //!   members that break a need. `Independence`: members that no possible need ties. `Members` and
 //!   `Parts`: change sets as members, and some of them.
-//! - `covered_members_keep_rules`: where no cell is changed by two members, each touched need is
-//!   covered and every rule holds in the root, every rule holds in the root with the changes of any
-//!   of the members over it. `uncovered_needs_are_broken`: a need that nothing covers is broken
-//!   where the changes of its blockers are over the root.
+//! - `covered_members_break_no_more`: where no cell is changed by two members and each touched need is
+//!   covered, the root with the changes of more members over it breaks no need but those that it
+//!   breaks with fewer, whatever it broke at first. `covered_members_keep_rules`: where every rule
+//!   holds in the root, it holds then with the changes of any of the members over it.
+//! - `uncovered_needs_are_broken`: a touched need that nothing covers is newly broken where the
+//!   changes of its blockers are over the root.
 //! - `positions_stand_for_names`: members by position and by name have the same versions, with the
 //!   lives of the same members, and the same possible, touched and uncovered needs, servers and
 //!   covering entries. The same witnesses are picked, the same members block a need, each for
@@ -28,8 +30,8 @@ mod shared_cells;
 
 pub use faults::SceneFault;
 pub use laws::{
-    covered_members_keep_rules, first_broken_is_listed_first, positions_stand_for_names,
-    uncovered_needs_are_broken,
+    covered_members_break_no_more, covered_members_keep_rules, first_broken_is_listed_first,
+    positions_stand_for_names, uncovered_needs_are_broken,
 };
 pub use limits::{MOST_MEMBERS, limit_of_members};
 pub use needs::{Life, Need, VersionId};

@@ -20,8 +20,8 @@ use Rattle.clr_check.specs.TextChecks.{IsCheckedVerdict}
 use Rattle.clr_check.specs.declared.cases.CaseFault.{CaseFault}
 use Rattle.clr_check.specs.declared.cases.CaseFault.TheVariants as no_case
 use Rattle.clr_lines.specs.Verdicts.{verdict_text}
-use Rattle.clr_office_reports.specs.declared.faults.RunFault.{RunFault}
-use Rattle.clr_office_reports.specs.declared.faults.RunFault.TheVariants as run_fault
+use Rattle.clr_process_io.specs.declared.faults.RunFault.{RunFault}
+use Rattle.clr_process_io.specs.declared.faults.RunFault.TheVariants as run_fault
 use Rattle.clr_office_reports.specs.declared.outputs.Output.{Output}
 use Rattle.clr_office.specs.Clearances.{AreMerged, IsMergeOutcome, IsPrintOfCase, IsVerdictOutcome, fault_print, is_clear, is_without_memory}
 use Rattle.clr_office.specs.Clearances.{merge_text, of_merges, of_verdict as of_verdict_alone, verdict_outcome}

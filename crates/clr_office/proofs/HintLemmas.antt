@@ -1,9 +1,9 @@
 -- Hints at names, one name after another, and the names of workspaces.
-use Rattle.std.proofs.Common.{◌≡◌, ◌∙◌, ◌<◌, ◌+◌, ◌++◌, ◌∷◌, [], ℕ, zero, suc, List, Some, None, ap, append-nil, append_assoc, get_or, length, map, refl, sym, take}
+use Rattle.std.proofs.Common.{◌≡◌, ◌∙◌, ◌+◌, ◌++◌, ◌∷◌, [], ℕ, zero, suc, List, Some, ap, append-nil, append_assoc, map, refl, sym, take}
 use Rattle.std.specs.Prelude.{slice_get}
 use Rattle.std.specs.Option.{option_map}
 use Rattle.std.proofs.lemmas.List.{take_more}
-use Rattle.std.proofs.lemmas.Option.{get_or_from_slice_get, slice_get-get_or, slice_get_within}
+use Rattle.std.proofs.lemmas.Option.{get_or_from_slice_get, slice_get_within}
 use Rattle.clr_workspaces.specs.Marks.{Name}
 use Rattle.clr_workspaces.specs.Workspaces.{Workspace}
 use Rattle.clr_steps.specs.Offices.{Office}
@@ -32,6 +32,3 @@ pub more_names : (all : List Name) (at : ℕ) (name : Name) (old new : List Name
 more_names all at name old new is before put =
     put ∙ ap (λ ns. ns ++ name ∷ []) before
     ∙ sym (take_more all at name (slice_get_within all at name is) ∙ ap (λ n. take at all ++ n ∷ []) (get_or_from_slice_get all at name name is))
-
-pub there_is_one : (all : List Name) (at : ℕ) → at < length all → slice_get all at ≡ None → ⊥
-there_is_one all at less none = absurd (let some = slice_get-get_or all at [] less in let same : Some (get_or all at []) ≡ None = sym some ∙ none in cc)

@@ -19,10 +19,10 @@ use Rattle.clr_check.specs.Answers.{IsCheckAnswer, of_memory, of_verdict}
 use Rattle.clr_merge_sets.specs.Certificates.{entries_in, merge_set_of}
 use Rattle.clr_merge_sets.specs.MergeSetNames.{merge_set}
 use Rattle.clr_lines.specs.Verdicts.{verdict_text}
-use Rattle.clr_plan.specs.declared.plans.Plan.{Plan}
-use Rattle.clr_plan.specs.declared.plans.Plan.TheVariants as plan
+use Rattle.clr_merge_sets.specs.declared.plans.Plan.{Plan}
+use Rattle.clr_merge_sets.specs.declared.plans.Plan.TheVariants as plan
 use Rattle.clr_plan.specs.OnePlan.{AreAlike}
-use Rattle.clr_plan.specs.Promises.{is_cleared, is_out_of_memory}
+use Rattle.clr_merge_sets.specs.Plans.{is_cleared, is_out_of_memory}
 use Rattle.clr_plan.proofs.OnePlanLemmas.{one_plan}
 use Rattle.clr_plan.specs.PlanLines.{blocked_text, cleared_text, plan_text}
 use Rattle.clr_scripts.specs.declared.steps.Step.{Step}
@@ -34,7 +34,8 @@ use Rattle.clr_office.specs.Outcomes.{IsCommandOutcome, IsOutcome, IsPlanOutcome
 use Rattle.clr_office_reports.specs.Outcomes.{Outcome}
 use Rattle.clr_office.specs.Outcomes.{command_outcome, first_name, followed_by}
 use Rattle.clr_office_reports.proofs.Outcomes.{parts_are}
-use Rattle.clr_office_reports.proofs.OneOutcome.{IsOne, lost_of, one_equal, one_independence}
+use Rattle.clr_independence.proofs.OneIndependence.{one_independence}
+use Rattle.clr_office_reports.proofs.OneOutcome.{IsOne, lost_of, one_equal}
 
 one_command : (o : Office) (c : Command) → IsOne (IsCommandOutcome o c)
 one_command o c all other one two found found_other =

@@ -32,14 +32,15 @@ IsOnePrint Is = (print other : Printed) → Is print → Is other → FoundMemor
 one_equal : (value : Printed) → IsOnePrint (λ print. print ≡ value)
 one_equal value print other one two found found_other = one ∙ sym two
 
-not_lost : (refused lost : Bool) → status_of refused lost ≢ 3 → lost ≡ false
-not_lost refused true found = absurd (found refl)
-not_lost refused false found = refl
+-- a status other than 3 says that memory was found
+pub found_by_status : (refused lost : Bool) → status_of refused lost ≢ 3 → lost ≡ false
+found_by_status refused true found = absurd (found refl)
+found_by_status refused false found = refl
 
 one_print : (IsRight : Outcome → Type 0) → IsOne IsRight → IsOnePrint (IsPrintOf IsRight)
 one_print IsRight one print other (all, right, is) (second, right_other, is_other) found found_other =
-    let first : all.lost ≡ false = not_lost all.refused all.lost (subst FoundMemory is found) in
-    let later : second.lost ≡ false = not_lost second.refused second.lost (subst FoundMemory is_other found_other) in
+    let first : all.lost ≡ false = found_by_status all.refused all.lost (subst FoundMemory is found) in
+    let later : second.lost ≡ false = found_by_status second.refused second.lost (subst FoundMemory is_other found_other) in
     is ∙ ap (λ (x : Outcome). print_of x.lines x.refused x.lost) (one all second right right_other first later) ∙ sym is_other
 
 -- offices and texts --------------------------------------------------------------------------

@@ -5,8 +5,8 @@ use Rattle.clr_workspaces.specs.Marks.{Name}
 use Rattle.clr_steps.specs.Offices.{Office}
 use Rattle.clr_engine.specs.Drafts.{unheld_in}
 use Rattle.clr_rule_text.specs.declared.faults.TextFault.{TextFault}
-use Rattle.clr_office_reports.specs.declared.faults.RunFault.{RunFault}
-use Rattle.clr_office_reports.specs.declared.faults.RunFault.TheVariants as run_fault
+use Rattle.clr_process_io.specs.declared.faults.RunFault.{RunFault}
+use Rattle.clr_process_io.specs.declared.faults.RunFault.TheVariants as run_fault
 use Rattle.clr_office_reports.specs.declared.outputs.Output.{Output}
 use Rattle.clr_office_reports.specs.Printing.{IsNoPrint, IsOutput, IsPrintIn, IsPrintWhereHeld, IsTextFault, Printed}
 use Rattle.clr_office.specs.NameHints.{AreHintsIn, AreHintsWhereHeld, AreNameHints}

@@ -16,9 +16,9 @@ use Rattle.clr_office.specs.Outcomes.{IsPlanOutcome}
 use Rattle.clr_office.specs.Scripts.{IsScriptPrint}
 use Rattle.clr_office_reports.specs.Printing.{Printed, print_of, IsPrintIn, IsPrintOf, IsTextFault}
 use Rattle.clr_office.specs.Clearances.{IsCheckPrint, IsMergePrint}
-use Rattle.clr_office_reports.specs.declared.faults.RunFault.{RunFault}
-use Rattle.clr_office_reports.specs.declared.faults.RunFault.TheVariants as run_fault
-use Rattle.clr_office_reports.specs.declared.reading.TheConstants.{MOST_INPUT_BYTES}
+use Rattle.clr_process_io.specs.declared.faults.RunFault.{RunFault}
+use Rattle.clr_process_io.specs.declared.faults.RunFault.TheVariants as run_fault
+use Rattle.clr_process_io.specs.declared.reading.TheConstants.{MOST_INPUT_BYTES}
 
 -- the needs of LIVE that no row serves, and whether there are any, also where a rule doesn't hold
 abbrev pub audit_print : Office → Printed

@@ -23,7 +23,7 @@ use Rattle.clr_lines.specs.Reports.{count_line}
 use Rattle.clr_lines.specs.Verdicts.{verdict_text}
 use Rattle.clr_office_reports.specs.Outcomes.{Outcome, dump_text, is_refused, outcome}
 use Rattle.clr_office_reports.specs.Printing.{IsPrintOf, Printed, unheld_print}
-use Rattle.clr_office_reports.specs.declared.faults.RunFault.TheVariants as run_fault
+use Rattle.clr_process_io.specs.declared.faults.RunFault.TheVariants as run_fault
 
 -- verdicts -----------------------------------------------------------------------------------
 

@@ -7,16 +7,18 @@ use Rattle.clr_steps.specs.Offices.{Office}
 use Rattle.clr_steps.specs.Quiet.{MergeSet}
 use Rattle.clr_steps.specs.Steps.{TakesNoMemory, step_or_lost}
 use Rattle.clr_merge_sets.specs.MergeSetNames.{merge_set}
-use Rattle.clr_plan.specs.declared.plans.Plan.{Plan}
+use Rattle.clr_merge_sets.specs.declared.plans.Plan.{Plan}
 use Rattle.clr_plan.specs.Certificates.{IsReadableWhereCleared}
 use Rattle.clr_plan.specs.Plans.{IsPlan}
-use Rattle.clr_plan.specs.Promises.{IsExact, Promises, StaysCleared, is_cleared, is_out_of_memory}
+use Rattle.clr_merge_sets.specs.Plans.{is_cleared, is_out_of_memory}
+use Rattle.clr_plan.specs.Promises.{IsExact, Promises, StaysCleared}
 use Rattle.clr_scripts.specs.declared.steps.Step.{Step}
 use Rattle.clr_scripts.specs.declared.steps.Step.TheVariants.{Act, Report}
 use Rattle.clr_scripts.specs.declared.steps.Word.TheVariants as word
 use Rattle.clr_lines.specs.Replies.{reply_text}
 use Rattle.clr_plan.specs.PlanLines.{plan_text}
-use Rattle.clr_office_reports.specs.Outcomes.{IsIndependenceOutcome, Outcome, is_refused, outcome, shown}
+use Rattle.clr_independence.specs.IndependenceOutcomes.{IsIndependenceOutcome}
+use Rattle.clr_office_reports.specs.Outcomes.{Outcome, is_refused, outcome, shown}
 use Rattle.clr_office_reports.specs.Outcomes.{audit_outcome, changes_outcome, conflicts_outcome, dump_outcome, show_outcome, workspaces_outcome}
 
 -- a command: the line of its reply, which is OutOfMemory where it is lost

@@ -6,8 +6,8 @@ use Rattle.clr_scripts.specs.declared.steps.Step.{Step}
 use Rattle.clr_scripts.specs.Scripts.{script_in_text}
 use Rattle.clr_office.specs.Outcomes.{IsScriptOutcome}
 use Rattle.clr_office_reports.specs.Printing.{IsPrintOf, Printed}
-use Rattle.clr_office_reports.specs.declared.faults.RunFault.{RunFault}
-use Rattle.clr_office_reports.specs.declared.faults.RunFault.TheVariants as run_fault
+use Rattle.clr_process_io.specs.declared.faults.RunFault.{RunFault}
+use Rattle.clr_process_io.specs.declared.faults.RunFault.TheVariants as run_fault
 
 -- the script of a text, performed, or why it can't be read
 abbrev pub ArePrinted : Office → Result (List Step) (ℕ × RecordFault) → Printed → Type 0

@@ -3,11 +3,11 @@ use Rattle.std.specs.Prelude.{◌≡◌, ℕ, List, Bool, true, false, Option, S
 use Rattle.std.specs.Io.KnownBytes.{Appends}
 use Rattle.clr_command_line.specs.declared.asks.Ask.TheVariants as ask
 use Rattle.clr_office.specs.Answers.{IsAnswerWithin}
-use Rattle.clr_office_reports.specs.Input.{GivesInput, GivesTooMuch}
+use Rattle.clr_process_io.specs.Input.{GivesInput, GivesTooMuch}
 use Rattle.clr_office_reports.specs.Printing.{Printed}
 use Rattle.clr_streams.specs.Separator.{around_separator}
-use Rattle.clr_office_reports.specs.declared.faults.RunFault.{RunFault}
-use Rattle.clr_office_reports.specs.declared.faults.RunFault.TheVariants as run_fault
+use Rattle.clr_process_io.specs.declared.faults.RunFault.{RunFault}
+use Rattle.clr_process_io.specs.declared.faults.RunFault.TheVariants as run_fault
 
 -- what is to be printed for the office text and the script that stand on both sides of the separator
 abbrev pub IsSessionOf : Option (List ℕ × List ℕ) → Printed → Type 0

@@ -9,7 +9,7 @@ ghost use Rattle.clr_office_texts.specs.Drafts.{draft_in};
 ghost use Rattle.clr_office.specs.Answers.{IsPrintedAnswer, IsAnswerTo, IsAnswerWithin, IsPlanPrint, audit_of, audit_print};
 ghost use Rattle.clr_office.specs.NameHints.{AreHintsIn, AreHintsOfCase, AreHintsTo};
 ghost use Rattle.clr_office_reports.specs.Printing.{IsOutput, IsPrintIn, print_of};
-ghost use Rattle.clr_office_reports.specs.declared.faults.RunFault.TheVariants as run_fault;
+ghost use Rattle.clr_process_io.specs.declared.faults.RunFault.TheVariants as run_fault;
 
 use crate::certificates::{check_output, fault_output};
 use crate::disposals::Disposal;
@@ -22,7 +22,8 @@ use clr_check::read_case;
 use clr_command_line::Ask;
 use clr_engine::Draft;
 use clr_lines::audit_lines;
-use clr_office_reports::{MOST_INPUT_BYTES, Output, RunFault, draft_of, open_office};
+use clr_office_reports::{Output, draft_of, open_office};
+use clr_process_io::{MOST_INPUT_BYTES, RunFault};
 use clr_rows::{LIVE, Words};
 use clr_streams::Sink;
 use std::alloc::{AllocError, Global};

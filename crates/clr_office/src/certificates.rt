@@ -9,7 +9,8 @@ use crate::disposals::Disposal;
 use clr_cert::Certificate;
 use clr_check::{CaseFault, Verdict, judge_texts};
 use clr_lines::verdict_line;
-use clr_office_reports::{Output, RunFault, texts_of_names, unheld_output};
+use clr_office_reports::{Output, texts_of_names, unheld_output};
+use clr_process_io::RunFault;
 use clr_rows::Schema;
 use std::alloc::{AllocError, Global};
 

@@ -62,11 +62,10 @@ pub use clr_check::{Checked, check_texts};
 pub use clr_clearance::Verdict;
 pub use clr_command_line::{Ask, AskFault, ask_of};
 pub use clr_needs::{Need, VersionId};
-pub use clr_office_reports::{
-    MOST_INPUT_BYTES, Output, RunFault, dump_text, open_office, read_input, texts_of_names,
-};
+pub use clr_office_reports::{Output, dump_text, open_office, texts_of_names};
 pub use clr_office_texts::TextFault;
 pub use clr_plan::Plan;
+pub use clr_process_io::{MOST_INPUT_BYTES, RunFault, read_input};
 pub use clr_rows::{CellId, Names, Words};
 pub use clr_rules::Broken;
 pub use clr_scripts::RecordFault;

@@ -98,7 +98,6 @@ pub fn merge_members(
 ) -> Result<Output, AllocError>
     ensures { IfOk result (λ o. IsMergeOutcome office.old certificate.now names.now (outcome_of o office.new)) }
 {
-    let _rules = office.book();
     let commands = merge_commands(alloc, names)?;
     match perform_cleared(alloc, office, certificate, commands.as_slice()) {
         Ok(run) => Ok(run_output(alloc, office, &run)?),

@@ -2,11 +2,11 @@
 
 ghost use Rattle.std.specs.Prelude.{◌≡◌, ◌≢◌, false, IfErr};
 ghost use Rattle.clr_office.specs.Session.{AnswersRun};
-ghost use Rattle.clr_office_reports.specs.declared.faults.RunFault.TheVariants as run_fault;
+ghost use Rattle.clr_process_io.specs.declared.faults.RunFault.TheVariants as run_fault;
 
 use crate::answers::answer_run;
 use crate::disposals::Disposal;
-use clr_office_reports::{RunFault, read_input};
+use clr_process_io::{RunFault, read_input};
 use clr_streams::{Sink, Source, split_at_separator};
 use std::alloc::Global;
 

@@ -8,10 +8,12 @@ ghost use Rattle.clr_office_reports.specs.Printing.{IsOutput};
 
 use crate::plans::plan_output;
 use clr_engine::Office;
+use clr_independence::independence_output;
 use clr_office_reports::{
-    Output, RunFault, audit_output, changes_output, conflicts_output, dump_output,
-    independence_output, reply_output, rows_output, workspaces_output,
+    Output, audit_output, changes_output, conflicts_output, dump_output, reply_output, rows_output,
+    workspaces_output,
 };
+use clr_process_io::RunFault;
 use clr_rows::{LIVE, Names, Schema, Words};
 use clr_scripts::{RecordFault, Step, Word, read_script};
 use clr_steps::Command;

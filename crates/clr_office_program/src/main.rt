@@ -6,9 +6,9 @@
 #![tactic(auto)]
 
 use clr_office::{Ask, AskFault, Disposal, Port, RunFault, Words, answer, ask_of, run_office};
-use clr_office_reports::{
-    BAD_WORDS, end_run, file_name, has_words, print_fault, print_input_remark,
-    print_parser_message, read_files, text_at, texts_of_words, words,
+use clr_process_io::{
+    BAD_WORDS, end_run, file_name, has_words, print_fault, print_parser_message, put_input_remark,
+    read_files, text_at, texts_of_words, words,
 };
 use std::io::{ErrorKind, IsTerminal, Write, sink};
 use std::process::ExitCode;
@@ -18,7 +18,7 @@ use std::process::ExitCode;
 fn refuse_input(rt: &HostRuntime, name: &str, fault: RunFault) -> u8 {
     let status = print_fault(rt, fault);
     if rt.stderr().is_terminal() {
-        print_input_remark(rt, name, fault);
+        let _ = put_input_remark(rt.alloc(), &mut Port::new(rt.stderr()), name, fault);
     }
     status
 }

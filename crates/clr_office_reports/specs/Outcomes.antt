@@ -1,18 +1,12 @@
 -- What reports print of an office.
-use Rattle.std.specs.Prelude.{◌≡◌, ℕ, Bool, false, true, not, List, ◌++◌, ⊤, codes, if◌then◌else◌, length, nat_lt}
-use Rattle.std.specs.List.{list_any}
+use Rattle.std.specs.Prelude.{ℕ, Bool, false, true, List, ◌++◌, ⊤, codes, if◌then◌else◌, length, nat_lt}
 use Rattle.clr_rules.specs.Needs.{broken_needs}
 use Rattle.clr_workspaces.specs.Marks.{Name}
 use Rattle.clr_steps.specs.declared.commands.Reply.{Reply}
 use Rattle.clr_steps.specs.declared.commands.Reply.TheVariants.{Done, NoWorkspace}
 use Rattle.clr_steps.specs.Names.{is_live}
 use Rattle.clr_steps.specs.Offices.{Office, content_of, stands}
-use Rattle.clr_steps.specs.Quiet.{MergeSet}
 use Rattle.clr_steps.specs.Readings.{changes_in, conflicts_in}
-use Rattle.clr_office_reports.specs.declared.independent_members.Independence.{Independence}
-use Rattle.clr_office_reports.specs.declared.independent_members.Independence.TheVariants as said
-use Rattle.clr_office_reports.specs.Independences.{IsIndependenceOf}
-use Rattle.clr_office_reports.specs.IndependenceLines.{independence_text}
 use Rattle.clr_lines.specs.Replies.{reply_text}
 use Rattle.clr_lines.specs.Reports.{audit_text, changes_text, conflicts_text}
 use Rattle.clr_lines.specs.Rows.{rows_text}
@@ -77,15 +71,3 @@ dump_outcome o = shown (dump_text o) false o
 unfoldable pub by_name : ⊤
 unfolding show_outcome stands content_of is_live
 by_name = tt
-
--- members are unfit, or two of them depend on one another
-abbrev pub has_dependence : Independence → Bool
-has_dependence (said.Unfit v) = true
-has_dependence (said.Pairs pairs) = list_any (λ p. not p.independent) pairs.items
-
--- the lines of the independence of members of a root; a dependent pair counts as a refusal, and so do members that are unfit
-abbrev pub independence_outcome : Office → MergeSet → Independence → Outcome
-independence_outcome o s value = shown (independence_text o.schema s.members s.root value) (has_dependence value) o
-
-abbrev pub IsIndependenceOutcome : Office → MergeSet → Outcome → Type 0
-IsIndependenceOutcome o s all = (value : Independence) × IsIndependenceOf o s value × (all ≡ independence_outcome o s value)

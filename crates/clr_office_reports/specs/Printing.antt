@@ -8,21 +8,9 @@ use Rattle.clr_engine.specs.Drafts.{unheld_in}
 use Rattle.clr_lines.specs.Reports.{unheld_text}
 use Rattle.clr_rule_text.specs.declared.faults.TextFault.{TextFault}
 use Rattle.clr_office_reports.specs.Outcomes.{Outcome}
-use Rattle.clr_office_reports.specs.declared.faults.RunFault.{RunFault}
-use Rattle.clr_office_reports.specs.declared.faults.RunFault.TheVariants as run_fault
+use Rattle.clr_process_io.specs.declared.faults.RunFault.{RunFault}
+use Rattle.clr_process_io.specs.declared.faults.RunFault.TheVariants as run_fault
 use Rattle.clr_office_reports.specs.declared.outputs.Output.{Output}
-
--- the exit status of a run that ended without an answer: 3 for want of memory, else 2
-abbrev pub exit_status : RunFault → ℕ
-exit_status run_fault.OutOfMemory = 3
-exit_status e = 2
-
--- the exit status of a run that ended so, where `closed` says whether nobody reads what it prints any more: then a write that fails is no fault, and
--- the status is the one that a shell gives of a program which the system ends for that
-abbrev pub end_status : Bool → Result ℕ RunFault → ℕ
-end_status closed (Ok status) = status
-end_status true (Err run_fault.WriteFailed) = 141
-end_status closed (Err e) = exit_status e
 
 -- the exit status of what was answered: 3 where something found no memory, else 1 where something was refused, and 0 where all was done
 abbrev pub status_of : Bool → Bool → ℕ

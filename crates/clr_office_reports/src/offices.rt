@@ -4,11 +4,11 @@ ghost use Rattle.clr_engine.specs.Drafts.{unheld_in};
 ghost use Rattle.clr_office_texts.specs.Drafts.{draft_in};
 ghost use Rattle.clr_office_reports.specs.Printing.{IsOutput, IsNoPrint, IsOfficeFault, IsPrintIn, print_of, unheld_print};
 
-use crate::faults::RunFault;
 use crate::outputs::Output;
 use clr_engine::{AdmitFault, Broken, Draft, Office};
 use clr_lines::unheld_line;
 use clr_office_texts::{TextFault, read_office};
+use clr_process_io::RunFault;
 use std::alloc::{AllocError, Global};
 
 /// Reads an office text, in which the rules may not hold. Fails with `BadOffice` where it is no

@@ -5,7 +5,7 @@ use crate::merge_sets::groups_of;
 use crate::plain::{are_dependent, group_of, needs_of};
 use clr_call_test_kit::Dice;
 use clr_engine::Office;
-use clr_office_reports::{Independence, Pair, independence_of};
+use clr_independence::{Independence, Pair, independence_of};
 use clr_office_test_kit::{office_of, perform_script};
 use std::alloc::Global;
 use std::test::Fail;

@@ -4,7 +4,7 @@
 use crate::merge_sets::merge_set_text;
 use clr_call_test_kit::{Hoard, Memory};
 use clr_engine::Office;
-use clr_office_reports::independence_lines;
+use clr_independence::independence_lines;
 use clr_office_test_kit::{office_after, picture};
 use std::alloc::Global;
 use std::test::Fail;

@@ -8,7 +8,7 @@ use crate::scene_texts::scene_text;
 use clr_call_test_kit::Memory;
 use clr_engine::Office;
 use clr_groups::groups;
-use clr_merge_sets::{MergeSetParts, read_merge_set};
+use clr_merge_sets::{MergeSetParts, read_changes, read_merge_set};
 use std::alloc::{AllocError, Global};
 
 /// Returns what is said of the scene that the parts of a merge set make; nothing where two members change one cell.
@@ -38,7 +38,8 @@ pub(crate) fn merge_set_text(
     members: &[&str],
     memory: &mut Memory,
 ) -> Result<String, AllocError> {
-    match read_merge_set(alloc, office, root, &members) {
+    let changes = read_changes(alloc, office, &members)?;
+    match read_merge_set(alloc, office, root, &members, changes.as_slice()) {
         Ok(parts) => text_of_parts(alloc, office, &parts, root, members, memory),
         Err(_) => Ok(String::new(alloc)),
     }
@@ -56,7 +57,10 @@ fn groups_of_parts(alloc: Global, office: &Office, parts: &MergeSetParts) -> Opt
 
 /// Returns the groups of children of LIVE.
 pub(crate) fn groups_of(alloc: Global, office: &Office, members: &[&str]) -> Option<Vec<Vec<u16>>> {
-    match read_merge_set(alloc, office, "LIVE", &members) {
+    let Ok(changes) = read_changes(alloc, office, &members) else {
+        return None;
+    };
+    match read_merge_set(alloc, office, "LIVE", &members, changes.as_slice()) {
         Ok(parts) => groups_of_parts(alloc, office, &parts),
         Err(_) => None,
     }

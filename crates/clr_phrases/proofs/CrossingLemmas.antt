@@ -41,19 +41,18 @@ exact_division S D y divides e =
     (rest_of_multiple D y (int_div S D) (int_rem S D) (quot-rem S D ∙ e)))
 
 -- ---- the common point of two lines, by vectors: u and v along them, w between their beginnings, z from the second's
-crossing_in_x : (ux uy vx vy wx wy zx zy : ℤ) → det ux uy (wx +ℤ zx) (wy +ℤ zy) ≡ pos 0 → det vx vy zx zy ≡ pos 0
-    → det ux uy vx vy *ℤ (wx +ℤ zx) ≡ det wx wy vx vy *ℤ ux
-crossing_in_x ux uy vx vy wx wy zx zy first second =
-    let by_vx = simp expand at (ap (λ (n : ℤ). vx *ℤ n) first) in
-    let by_ux = simp expand at (ap (λ (n : ℤ). ux *ℤ n) second) in
-    simp expand (omega (arith, linear, by_vx, by_ux))
+module _ (ux uy vx vy wx wy zx zy : ℤ) (first : det ux uy (wx +ℤ zx) (wy +ℤ zy) ≡ pos 0) (second : det vx vy zx zy ≡ pos 0) where
+  crossing_in_x : det ux uy vx vy *ℤ (wx +ℤ zx) ≡ det wx wy vx vy *ℤ ux
+  crossing_in_x =
+      let by_vx = simp expand at (ap (λ (n : ℤ). vx *ℤ n) first) in
+      let by_ux = simp expand at (ap (λ (n : ℤ). ux *ℤ n) second) in
+      simp expand (omega (arith, linear, by_vx, by_ux))
 
-crossing_in_y : (ux uy vx vy wx wy zx zy : ℤ) → det ux uy (wx +ℤ zx) (wy +ℤ zy) ≡ pos 0 → det vx vy zx zy ≡ pos 0
-    → det ux uy vx vy *ℤ (wy +ℤ zy) ≡ det wx wy vx vy *ℤ uy
-crossing_in_y ux uy vx vy wx wy zx zy first second =
-    let by_vy = simp expand at (ap (λ (n : ℤ). vy *ℤ n) first) in
-    let by_uy = simp expand at (ap (λ (n : ℤ). uy *ℤ n) second) in
-    simp expand (omega (arith, linear, by_vy, by_uy))
+  crossing_in_y : det ux uy vx vy *ℤ (wy +ℤ zy) ≡ det wx wy vx vy *ℤ uy
+  crossing_in_y =
+      let by_vy = simp expand at (ap (λ (n : ℤ). vy *ℤ n) first) in
+      let by_uy = simp expand at (ap (λ (n : ℤ). uy *ℤ n) second) in
+      simp expand (omega (arith, linear, by_vy, by_uy))
 
 two_ways : (a c p : ℤ) → p -ℤ a ≡ (c -ℤ a) +ℤ (p -ℤ c)
 two_ways a c p = omega (arith, linear)
@@ -70,22 +69,24 @@ in_range_of_part p a b in_a in_b on =
     record { in_x = within p.x a.x b.x in_a.in_x in_b.in_x box.0.0 box.0.1; in_y = within p.y a.y b.y in_a.in_y in_b.in_y box.1.0 box.1.1 }
 
 -- ---- the place on both parts, by its coordinates
-pub crossing_x : (p a b c d : Place) → InRange p → LiesOn p a b → LiesOn p c d → product_of_ways a b c d ≢ pos 0
-    → IsCoordinateAt a.x b.x (product_of_ways a c c d) (product_of_ways a b c d) p.x
-crossing_x p a b c d in_p first second slanted = record {
-  in_range = in_p.in_x;
-  divides = slanted;
-  share = rw (two_ways a.x c.x p.x)
-      (crossing_in_x (b.x -ℤ a.x) (b.y -ℤ a.y) (d.x -ℤ c.x) (d.y -ℤ c.y) (c.x -ℤ a.x) (c.y -ℤ a.y) (p.x -ℤ c.x) (p.y -ℤ c.y)
-      (rw (← two_ways a.x c.x p.x, ← two_ways a.y c.y p.y) (point_on_line p a b first)) (point_on_line p c d second));
-}
+module _ (p a b c d : Place) (in_p : InRange p) (first : LiesOn p a b) (second : LiesOn p c d) (slanted : product_of_ways a b c d ≢ pos 0) where
+  on_first : det (b.x -ℤ a.x) (b.y -ℤ a.y) ((c.x -ℤ a.x) +ℤ (p.x -ℤ c.x)) ((c.y -ℤ a.y) +ℤ (p.y -ℤ c.y)) ≡ pos 0
+  on_first = rw (← two_ways a.x c.x p.x, ← two_ways a.y c.y p.y) (point_on_line p a b first)
 
-pub crossing_y : (p a b c d : Place) → InRange p → LiesOn p a b → LiesOn p c d → product_of_ways a b c d ≢ pos 0
-    → IsCoordinateAt a.y b.y (product_of_ways a c c d) (product_of_ways a b c d) p.y
-crossing_y p a b c d in_p first second slanted = record {
-  in_range = in_p.in_y;
-  divides = slanted;
-  share = rw (two_ways a.y c.y p.y)
-      (crossing_in_y (b.x -ℤ a.x) (b.y -ℤ a.y) (d.x -ℤ c.x) (d.y -ℤ c.y) (c.x -ℤ a.x) (c.y -ℤ a.y) (p.x -ℤ c.x) (p.y -ℤ c.y)
-      (rw (← two_ways a.x c.x p.x, ← two_ways a.y c.y p.y) (point_on_line p a b first)) (point_on_line p c d second));
-}
+  pub crossing_x : IsCoordinateAt a.x b.x (product_of_ways a c c d) (product_of_ways a b c d) p.x
+  crossing_x = record {
+    in_range = in_p.in_x;
+    divides = slanted;
+    share = rw (two_ways a.x c.x p.x)
+        (crossing_in_x (b.x -ℤ a.x) (b.y -ℤ a.y) (d.x -ℤ c.x) (d.y -ℤ c.y) (c.x -ℤ a.x) (c.y -ℤ a.y) (p.x -ℤ c.x) (p.y -ℤ c.y)
+        on_first (point_on_line p c d second));
+  }
+
+  pub crossing_y : IsCoordinateAt a.y b.y (product_of_ways a c c d) (product_of_ways a b c d) p.y
+  crossing_y = record {
+    in_range = in_p.in_y;
+    divides = slanted;
+    share = rw (two_ways a.y c.y p.y)
+        (crossing_in_y (b.x -ℤ a.x) (b.y -ℤ a.y) (d.x -ℤ c.x) (d.y -ℤ c.y) (c.x -ℤ a.x) (c.y -ℤ a.y) (p.x -ℤ c.x) (p.y -ℤ c.y)
+        on_first (point_on_line p c d second));
+  }

@@ -17,8 +17,8 @@ use Rattle.clr_clearance.specs.Plans.{IsBlocked, IsUnfit, of_conflict, of_shared
 use Rattle.clr_clearance.specs.MergeSets.{change_sets, setting_by_position}
 use Rattle.clr_clearance.specs.Verdicts.{first_conflict, first_repeated, member_fault, missing_member, names_fault, repeated_member, root_fault, stray_member}
 use Rattle.clr_merge_sets.specs.Faults.{IsMergeSetFault, of_member, without_memory}
-use Rattle.clr_plan.specs.declared.plans.Plan.{Plan}
-use Rattle.clr_plan.specs.declared.plans.Plan.TheVariants as plan
+use Rattle.clr_merge_sets.specs.declared.plans.Plan.{Plan}
+use Rattle.clr_merge_sets.specs.declared.plans.Plan.TheVariants as plan
 use Rattle.clr_plan.specs.Plans.{IsBlockedIn, IsPlan, IsScenePlan}
 
 -- the faults of names, and of conflicts

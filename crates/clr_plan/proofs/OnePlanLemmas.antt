@@ -5,7 +5,7 @@ use Rattle.clr_cert.specs.declared.certificates.Certificate.{Certificate}
 use Rattle.clr_cert.specs.declared.certificates.Entry.{Entry}
 use Rattle.clr_clearance.proofs.OneAnswerLemmas.{one_blocked, one_cleared, one_kind, one_unfit}
 use Rattle.clr_merge_sets.specs.Certificates.{entries_in, merge_set_of, witnesses_of}
-use Rattle.clr_plan.specs.declared.plans.Plan.TheVariants as plan
+use Rattle.clr_merge_sets.specs.declared.plans.Plan.TheVariants as plan
 use Rattle.clr_plan.specs.OnePlan.{OnePlanLaw}
 
 -- entries with the same witnesses are the same

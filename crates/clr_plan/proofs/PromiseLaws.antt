@@ -18,26 +18,18 @@ use Rattle.clr_clearance.proofs.ClearLemmas.{clear_law}
 use Rattle.clr_clearance.proofs.HeadlineLemmas.{headline}
 use Rattle.clr_clearance.proofs.LastingLemmas.{lasting_reordered}
 use Rattle.clr_clearance.proofs.PlanLemmas as plans
-use Rattle.clr_plan.specs.declared.plans.Plan.{Plan}
-use Rattle.clr_plan.specs.declared.plans.Plan.TheVariants as plan
+use Rattle.clr_merge_sets.specs.declared.plans.Plan.{Plan}
+use Rattle.clr_merge_sets.specs.declared.plans.Plan.TheVariants as plan
 use Rattle.clr_merge_sets.specs.Certificates.{entries_in}
 use Rattle.clr_plan.specs.Plans.{IsPlan}
-use Rattle.clr_plan.specs.Promises.{IsExact, IsUnfitWhere, Promises, StaysCleared, is_cleared, is_out_of_memory}
+use Rattle.clr_merge_sets.specs.Plans.{is_cleared, is_out_of_memory}
+use Rattle.clr_plan.specs.Promises.{IsExact, IsUnfitWhere, Promises, StaysCleared}
 use Rattle.clr_plan.proofs.FaultLaws.{no_name_fault}
 
 not_found : (v : Verdict) → None ≡ Some v → ⊥
 not_found v e = absurd (cc)
 
 module _ (o : Office) (s : MergeSet) where
-  is_there : (b : Bool) (q : Option Verdict) → option_or (cond b None (Some verdict.NotKept)) q ≡ None → b ≡ true
-  is_there true q e = refl
-  is_there false q e = absurd (not_found verdict.NotKept (sym e))
-
-  -- the rules hold in a root that is kept
-  root_holds : HoldsWhereKept o → names_fault o s ≡ None → RootHolds o s
-  unfolding names_fault root_content
-  root_holds holds none = holds s.root (is_there (is_kept o s.root) (option_or (repeated_member s) (option_or (missing_member o s) (stray_member o s))) none)
-
   -- no plan is blocked where a test of names fails
   named : (order : List ℕ) (cause : Verdict) → IsBlocked o s order cause → names_fault o s ≡ None
   named order cause (of_conflict at cell count none first same is) = none
@@ -50,26 +42,24 @@ unfit_law o s (plan.Blocked order cause) h v e = absurd (not_found v (sym (named
 unfit_law o s (plan.Cleared c) h v e = absurd (not_found v (sym (no_name_fault o s h.cleared.free) ∙ e))
 unfit_law o s plan.OutOfMemory h v e = absurd (not_found v (sym h ∙ e))
 
-pub promise_law : (o : Office) (s : MergeSet) (p : Plan) → HoldsWhereKept o → IsPlan o s p → Promises o s p
-promise_law o s (plan.Cleared c) holds h =
+pub promise_law : (o : Office) (s : MergeSet) (p : Plan) → IsPlan o s p → Promises o s p
+promise_law o s (plan.Cleared c) h =
     let covers = plans.cleared_plan o s (entries_in c.entries) h.cleared in
     let clear = (clear_law o s (entries_in c.entries)).1 covers in
-    let root = root_holds o s holds (no_name_fault o s h.cleared.free) in
     record {
       names = h.merge_set;
       covers = covers;
       clear = clear;
-      safe = plans.cleared_safe o s (entries_in c.entries) h.cleared root;
-      headline = headline o s (entries_in c.entries) clear root;
+      safe = plans.cleared_safe o s (entries_in c.entries) h.cleared;
+      headline = headline o s (entries_in c.entries) clear;
     }
-promise_law o s (plan.Blocked order cause) holds h =
-    let root = root_holds o s holds (named o s order.items cause h) in
-    record { refused = plans.blocked_plan o s order.items cause h root; unsafe = λ safe. plans.safe_plan o s order.items cause safe root h }
-promise_law o s (plan.Unfit v) holds h = tt
-promise_law o s plan.OutOfMemory holds h = tt
+promise_law o s (plan.Blocked order cause) h =
+    record { refused = plans.blocked_plan o s order.items cause h; unsafe = λ safe. plans.safe_plan o s order.items cause safe h }
+promise_law o s (plan.Unfit v) h = tt
+promise_law o s plan.OutOfMemory h = tt
 
-pub exact_law : (o : Office) (s : MergeSet) (p : Plan) → HoldsWhereKept o → IsPlan o s p → IsExact o s p
-exact_law o s p holds h none found = by p h found (promise_law o s p holds h)
+pub exact_law : (o : Office) (s : MergeSet) (p : Plan) → IsPlan o s p → IsExact o s p
+exact_law o s p h none found = by p h found (promise_law o s p h)
   where
     by : (p : Plan) → IsPlan o s p → is_out_of_memory p ≡ false → Promises o s p → (is_cleared p ≡ true) ↔ Safe o s
     by (plan.Cleared c) h found proof = (λ e. proof.safe, λ safe. refl)
@@ -85,8 +75,8 @@ stays o s (plan.Unfit v) clear h found = absurd (not_found v (sym (no_name_fault
 stays o s plan.OutOfMemory clear h found = absurd (false≢true (sym found))
 
 pub lasting_law : (o : Office) (s : MergeSet) (p : Plan) → IsPlan o s p → StaysCleared o s p
-lasting_law o s p h first merge_set entries commands lost covers holds quiet later same once found =
-    let clear = lasting_reordered first merge_set entries commands lost covers holds quiet in
+lasting_law o s p h first merge_set entries commands lost covers quiet later same once found =
+    let clear = lasting_reordered first merge_set entries commands lost covers quiet in
     stays o s p (subst (λ now. (other : MergeSet) → NamesTheSame (standing now merge_set) other → repeated_member other ≡ None → StaysClear now other)
     (sym later) clear
     s same once) h found

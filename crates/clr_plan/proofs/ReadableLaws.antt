@@ -49,10 +49,6 @@ use Rattle.clr_plan.specs.Plans.{IsClearance, IsPlan}
 
 -- names --------------------------------------------------------------------------------------------
 
-live_good : is_good_name live_name ≡ true
-unfolding is_good_name
-live_good = refl
-
 found_good : (name : Name) (ws : List Workspace) (w : Workspace) → ((i : ℕ) → i < length ws → is_good_name (workspace_at ws i).name ≡ true)
     → find_name name ws ≡ Some w → is_good_name w.name ≡ true
 found_good name [] w good e = absurd (cc)
@@ -74,12 +70,12 @@ module _ (o : Office) (whole : IsWhole o) where
 
   -- and that of LIVE
   kept_good : (name : Name) → is_kept o name ≡ true → is_good_name name ≡ true
-  unfolding is_kept is_live
+  unfolding is_kept is_live is_good_name
   kept_good name kept = by (is_live name) refl (workspace o name) refl kept
     where
       by : (b : Bool) → is_live name ≡ b → (r : Option Workspace) → workspace o name ≡ r → (b || option_map_or (λ (w : Workspace). w.kept) r false) ≡ true
           → is_good_name name ≡ true
-      by true live r e h = subst (λ (n : Name). is_good_name n ≡ true) (sym ((bytes_decides name live_name).0 live)) live_good
+      by true live r e h = subst (λ (n : Name). is_good_name n ≡ true) (sym ((bytes_decides name live_name).0 live)) refl
       by false live None e h = absurd (false≢true h)
       by false live (Some w) e h = named_good name w e
 

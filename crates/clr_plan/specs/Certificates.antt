@@ -9,8 +9,8 @@ use Rattle.clr_engine.specs.Fitting.{IsAdmitted}
 use Rattle.clr_cert.specs.declared.certificates.Certificate.{Certificate}
 use Rattle.clr_cert.specs.Certificates.{certificate_in}
 use Rattle.clr_cert.specs.Texts.{IsWellFormed, certificate_text}
-use Rattle.clr_plan.specs.declared.plans.Plan.{Plan}
-use Rattle.clr_plan.specs.declared.plans.Plan.TheVariants as plan
+use Rattle.clr_merge_sets.specs.declared.plans.Plan.{Plan}
+use Rattle.clr_merge_sets.specs.declared.plans.Plan.TheVariants as plan
 use Rattle.clr_plan.specs.Plans.{IsPlan}
 
 -- what is so of every office: its tables make a schema, rules and rows fit it, and its workspaces form a tree

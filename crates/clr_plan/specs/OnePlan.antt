@@ -2,10 +2,10 @@
 use Rattle.std.specs.Prelude.{◌≡◌, false}
 use Rattle.clr_steps.specs.Offices.{Office}
 use Rattle.clr_steps.specs.Quiet.{MergeSet}
-use Rattle.clr_plan.specs.declared.plans.Plan.{Plan}
-use Rattle.clr_plan.specs.declared.plans.Plan.TheVariants as plan
+use Rattle.clr_merge_sets.specs.declared.plans.Plan.{Plan}
+use Rattle.clr_merge_sets.specs.declared.plans.Plan.TheVariants as plan
 use Rattle.clr_plan.specs.Plans.{IsPlan}
-use Rattle.clr_plan.specs.Promises.{is_out_of_memory}
+use Rattle.clr_merge_sets.specs.Plans.{is_out_of_memory}
 
 -- two plans say the same: one reason, one order and one cause, or one certificate
 abbrev pub AreAlike : Plan → Plan → Type 0

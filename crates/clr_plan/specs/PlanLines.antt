@@ -7,10 +7,11 @@ use Rattle.clr_workspaces.specs.Marks.{Name}
 use Rattle.clr_clearance.specs.declared.verdicts.Verdict.{Verdict}
 use Rattle.clr_cert.specs.declared.certificates.Certificate.{Certificate}
 use Rattle.clr_cert.specs.Texts.{certificate_text}
-use Rattle.clr_plan.specs.declared.plans.Plan.{Plan}
-use Rattle.clr_plan.specs.declared.plans.Plan.TheVariants as plan
+use Rattle.clr_merge_sets.specs.declared.plans.Plan.{Plan}
+use Rattle.clr_merge_sets.specs.declared.plans.Plan.TheVariants as plan
 use Rattle.clr_lines.specs.Reports.{count_line}
-use Rattle.clr_lines.specs.Verdicts.{member_name, verdict_text}
+use Rattle.clr_lines.specs.Verdicts.{verdict_text}
+use Rattle.clr_member_changes.specs.Names.{member_name}
 
 -- the lines of a cleared plan: how many entries there are, and then the certificate
 abbrev pub cleared_text : List TableDef → Certificate → List ℕ

@@ -11,8 +11,8 @@ use Rattle.clr_clearance.specs.declared.verdicts.Verdict.TheVariants as verdict
 use Rattle.clr_clearance.specs.Plans.{ArePicked, IsBlocked, IsCleared, IsFirstUnpicked, IsUnfit}
 use Rattle.clr_clearance.specs.Verdicts.{names_fault}
 use Rattle.clr_merge_sets.specs.Certificates.{entries_in, merge_set_of}
-use Rattle.clr_plan.specs.declared.plans.Plan.{Plan}
-use Rattle.clr_plan.specs.declared.plans.Plan.TheVariants as plan
+use Rattle.clr_merge_sets.specs.declared.plans.Plan.{Plan}
+use Rattle.clr_merge_sets.specs.declared.plans.Plan.TheVariants as plan
 
 -- the certificate names the members as they are given, and has an entry for each touched need
 pub record IsClearance (o : Office) (s : MergeSet) (c : Certificate) : Type 0 where

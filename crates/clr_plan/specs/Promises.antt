@@ -12,11 +12,12 @@ use Rattle.clr_clearance.specs.Headline.{Headline, NamesTheSame}
 use Rattle.clr_clearance.specs.Plans.{IsUnfit, is_order_refused, members_at, standing}
 use Rattle.clr_clearance.specs.Runs.{AreQuiet}
 use Rattle.clr_clearance.specs.Safety.{Safe}
-use Rattle.clr_clearance.specs.MergeSets.{Covers, RootHolds}
+use Rattle.clr_clearance.specs.MergeSets.{Covers}
 use Rattle.clr_clearance.specs.Verdicts.{IsVerdict, names_fault, repeated_member}
 use Rattle.clr_merge_sets.specs.Certificates.{entries_in, merge_set_of}
-use Rattle.clr_plan.specs.declared.plans.Plan.{Plan}
-use Rattle.clr_plan.specs.declared.plans.Plan.TheVariants as plan
+use Rattle.clr_merge_sets.specs.Plans.{is_cleared, is_out_of_memory}
+use Rattle.clr_merge_sets.specs.declared.plans.Plan.{Plan}
+use Rattle.clr_merge_sets.specs.declared.plans.Plan.TheVariants as plan
 
 -- the certificate covers the members as they are given, so that the verdict on it is clear; and they are safe, as the headline says
 pub record IsProof (o : Office) (s : MergeSet) (c : Certificate) : Type 0 where
@@ -37,18 +38,6 @@ Promises o s (plan.Blocked order cause) = IsRefusedOrder o s order.items
 Promises o s (plan.Unfit v) = Unit {0}
 Promises o s plan.OutOfMemory = Unit {0}
 
-abbrev pub is_cleared : Plan → Bool
-is_cleared (plan.Cleared c) = true
-is_cleared (plan.Blocked order cause) = false
-is_cleared (plan.Unfit v) = false
-is_cleared plan.OutOfMemory = false
-
-abbrev pub is_out_of_memory : Plan → Bool
-is_out_of_memory (plan.Cleared c) = false
-is_out_of_memory (plan.Blocked order cause) = false
-is_out_of_memory (plan.Unfit v) = false
-is_out_of_memory plan.OutOfMemory = true
-
 -- where no test of names fails and memory was found, the plan is cleared exactly where the members are safe
 abbrev pub IsExact : Office → MergeSet → Plan → Type 0
 IsExact o s p = names_fault o s ≡ None → is_out_of_memory p ≡ false → (is_cleared p ≡ true) ↔ Safe o s
@@ -61,7 +50,6 @@ IsUnfitWhere o s p = (v : Verdict) → IsUnfit o s v → p ≡ plan.Unfit v
 abbrev pub StaysCleared : Office → MergeSet → Plan → Type 0
 StaysCleared o s p = (first : Office) (merge_set : MergeSet) (entries : List Entry) (commands : List Command) (lost : ℕ → Bool)
     → Covers first merge_set entries
-    → RootHolds first merge_set
     → AreQuiet first merge_set commands lost
     → o ≡ (run first commands lost).office
     → NamesTheSame (standing o merge_set) s

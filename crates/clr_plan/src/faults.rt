@@ -9,9 +9,8 @@ ghost use Rattle.clr_clearance.specs.Verdicts.{member_fault};
 ghost use Rattle.clr_merge_sets.specs.Faults.{IsMergeSetFault};
 ghost use Rattle.clr_plan.specs.Plans.{IsBlockedIn, IsPlan};
 
-use crate::plans::Plan;
 use clr_clearance::Verdict;
-use clr_merge_sets::verdict_of;
+use clr_merge_sets::{Plan, verdict_of};
 use clr_needs::SceneFault;
 use std::alloc::Global;
 

@@ -13,7 +13,7 @@
 //!   aside, it answers Cleared *exactly* where the members are safe. Once a set is cleared, those
 //!   of its members that stand are cleared after every quiet list, in whichever order they are
 //!   named.
-//! - `Plan::is_cleared` and `Plan::is_out_of_memory` tell which of its answers a plan is.
+//! - `plan_changes` says the same, with the same clauses, of members whose changes were read before; `plan` reads them and does so.
 //! - Where members fall into groups, witnesses are picked in the scene of each group, by
 //!   `groups_split_needs`; the answer is the same, word for word.
 //! - `cleared_plans_are_readable`, which `plan` [`readable`] says of its own answer: the certificate of a plan
@@ -32,10 +32,9 @@ mod laws;
 mod lines;
 mod picked;
 mod planner;
-mod plans;
 mod scene_plans;
 
+pub use clr_merge_sets::Plan;
 pub use laws::{cleared_plans_are_readable, plans_of_a_merge_set_are_alike};
 pub use lines::plan_lines;
-pub use planner::plan;
-pub use plans::Plan;
+pub use planner::{plan, plan_changes};

@@ -3,10 +3,11 @@
 ghost use Rattle.std.specs.Prelude.{◌≡◌, ◌++◌, map, IfOk, OnOk};
 ghost use Rattle.clr_plan.specs.PlanLines.{blocked_text, cleared_text, order_name, order_text, plan_text};
 
-use crate::plans::Plan;
 use clr_cert::{Certificate, write_certificate};
 use clr_clearance::Verdict;
-use clr_lines::{add_count, count_line, member_name, unfit_line, verdict_line};
+use clr_lines::{add_count, count_line, unfit_line, verdict_line};
+use clr_member_changes::member_name;
+use clr_merge_sets::Plan;
 use clr_rows::Schema;
 use std::alloc::{AllocError, Global};
 

@@ -1,6 +1,7 @@
 //! The planner: what is planned for a root and members in an office.
 
-ghost use Rattle.std.specs.Prelude.{map};
+ghost use Rattle.std.specs.Prelude.{◌≡◌, map};
+ghost use Rattle.clr_clearance.specs.MergeSets.{change_sets};
 ghost use Rattle.clr_merge_sets.specs.MergeSetNames.{merge_set};
 ghost use Rattle.clr_merge_sets.specs.MergeSets.{AreParts};
 ghost use Rattle.clr_plan.specs.Certificates.{IsReadableWhereCleared};
@@ -8,10 +9,10 @@ ghost use Rattle.clr_plan.specs.Plans.{IsPlan};
 ghost use Rattle.clr_plan.specs.Promises.{IsExact, IsUnfitWhere, Promises, StaysCleared};
 
 use crate::faults::{plan_fault, plan_shared};
-use crate::plans::Plan;
 use crate::scene_plans::plan_scene;
+use clr_change::ChangeSet;
 use clr_engine::Office;
-use clr_merge_sets::{MergeSetParts, read_merge_set};
+use clr_merge_sets::{MergeSetParts, Plan, fault_without_memory, read_changes, read_merge_set};
 use std::alloc::Global;
 
 /// Returns the plan that the parts of a merge set decide.
@@ -31,6 +32,31 @@ fn plan_parts(
             Err(_) => Plan::OutOfMemory,
         },
         Err(fault) => plan_shared(alloc, fault),
+    }
+}
+
+/// Returns what `plan` does, of members whose changes were read of this office.
+pub fn plan_changes(
+    alloc: Global,
+    office: &Office,
+    root: &str,
+    members: &[&str],
+    changes: &[ChangeSet],
+) -> Plan
+    requires { changes.now ≡ change_sets office.now (merge_set root.now (map (λ name. name.now) members.now)) }
+    ensures plan { IsPlan office.now (merge_set root.now (map (λ name. name.now) members.now)) result }
+    ensures unfit { IsUnfitWhere office.now (merge_set root.now (map (λ name. name.now) members.now)) result }
+    ensures promises { Promises office.now (merge_set root.now (map (λ name. name.now) members.now)) result }
+    ensures exact { IsExact office.now (merge_set root.now (map (λ name. name.now) members.now)) result }
+    ensures lasts { StaysCleared office.now (merge_set root.now (map (λ name. name.now) members.now)) result }
+    ensures readable { IsReadableWhereCleared office.now result }
+{
+    let _rules = office.book();
+    let _tables = office.schema().tables();
+    let _tree = office.len();
+    match read_merge_set(alloc, office, root, &members, changes) {
+        Ok(parts) => plan_parts(alloc, office, &parts, root, members),
+        Err(fault) => plan_fault(alloc, fault),
     }
 }
 
@@ -58,8 +84,8 @@ pub fn plan(alloc: Global, office: &Office, root: &str, members: &[&str]) -> Pla
     let _rules = office.book();
     let _tables = office.schema().tables();
     let _tree = office.len();
-    match read_merge_set(alloc, office, root, &members) {
-        Ok(parts) => plan_parts(alloc, office, &parts, root, members),
-        Err(fault) => plan_fault(alloc, fault),
+    match read_changes(alloc, office, &members) {
+        Ok(changes) => plan_changes(alloc, office, root, members, changes.as_slice()),
+        Err(_) => plan_fault(alloc, fault_without_memory(alloc, office, root, &members)),
     }
 }

@@ -6,14 +6,14 @@ use Rattle.clr_rows.specs.declared.places.Shape.{Shape}
 use Rattle.clr_rows.specs.declared.places.Shape.TheVariants.{Bare, At, Line, Chain}
 use Rattle.clr_steps.specs.Offices.{Office}
 use Rattle.clr_steps.specs.Quiet.{MergeSet}
-use Rattle.clr_plan.specs.declared.plans.Plan.{Plan}
+use Rattle.clr_merge_sets.specs.declared.plans.Plan.{Plan}
 use Rattle.clr_drawing.specs.Paths.{middle_place}
-use Rattle.clr_plan_scenes.specs.declared.causes.Cause.{Cause}
-use Rattle.clr_plan_scenes.specs.declared.causes.CauseRow.{CauseRow}
-use Rattle.clr_plan_scenes.specs.declared.causes.Mark.{Mark}
-use Rattle.clr_plan_scenes.specs.declared.causes.Mark.TheVariants as mark
-use Rattle.clr_plan_scenes.specs.Causes.{IsCauseOf}
-use Rattle.clr_plan_features.specs.declared.places.MarkedPlace.{MarkedPlace}
+use Rattle.clr_map_scenes.specs.declared.shown_causes.Cause.{Cause}
+use Rattle.clr_map_scenes.specs.declared.shown_causes.CauseRow.{CauseRow}
+use Rattle.clr_map_scenes.specs.declared.shown_causes.Mark.{Mark}
+use Rattle.clr_map_scenes.specs.declared.shown_causes.Mark.TheVariants as mark
+use Rattle.clr_plan_causes.specs.PlanCauses.{IsCauseOf}
+use Rattle.clr_plan_features.specs.declared.cause_features.MarkedPlace.{MarkedPlace}
 
 -- the middle of the line between two points
 abbrev pub place_between : Shape → Shape → Option Place

@@ -2,7 +2,8 @@
 use Rattle.std.specs.Prelude.{◌≡◌, ℕ, pos, true, List, [], ◌∷◌, ◌++◌, codes, Option, Some, None, unwrap_or}
 use Rattle.clr_rows.specs.declared.cells.CellId.{CellId}
 use Rattle.clr_rows.specs.declared.places.Shape.TheVariants.{At}
-use Rattle.clr_rows.specs.Contents.{Content, no_rows}
+use Rattle.clr_rows.specs.declared.tables.TableDef.{TableDef}
+use Rattle.clr_rows.specs.Contents.{Changes, Content, no_rows}
 use Rattle.clr_workspaces.specs.Marks.{Name}
 use Rattle.clr_needs.specs.declared.needs.VersionId.{VersionId}
 use Rattle.clr_steps.specs.Offices.{Office, content_of}
@@ -11,12 +12,12 @@ use Rattle.clr_steps.specs.Readings.{if_stands}
 use Rattle.clr_clearance.specs.declared.verdicts.Verdict.{Verdict}
 use Rattle.clr_clearance.specs.declared.verdicts.Verdict.TheVariants as verdict
 use Rattle.clr_clearance.specs.MergeSets.{change_sets}
-use Rattle.clr_plan.specs.declared.plans.Plan.{Plan}
-use Rattle.clr_plan.specs.declared.plans.Plan.TheVariants as plan
+use Rattle.clr_merge_sets.specs.declared.plans.Plan.{Plan}
+use Rattle.clr_merge_sets.specs.declared.plans.Plan.TheVariants as plan
 use Rattle.clr_geojson.specs.declared.features.Feature.{Feature}
 use Rattle.clr_geojson.specs.Collections.{collection_text}
 use Rattle.clr_geojson.specs.Properties.{flag_property, number_property, text_property}
-use Rattle.clr_plan_features.specs.declared.places.MarkedPlace.{MarkedPlace}
+use Rattle.clr_plan_features.specs.declared.cause_features.MarkedPlace.{MarkedPlace}
 use Rattle.clr_plan_features.specs.CausePlaces.{IsPlaceOfPlan}
 use Rattle.clr_plan_features.specs.ChangeFeatures.{changed_features, standing_features}
 
@@ -59,11 +60,13 @@ place_features (Some marked) = place_feature marked ∷ []
 abbrev pub rows_of_root : Office → Name → Content
 rows_of_root o root = unwrap_or (if_stands o root (content_of o root)) no_rows
 
--- what stands and isn't changed, what each member changes, and the place of the cause, if it has one
+-- what stands in a root and isn't changed, what each member changes, and the place of a cause, if there is one
+abbrev pub features_of : List TableDef → List CellId → Name → List Name → List Changes → Content → Option MarkedPlace → List Feature
+features_of tables causes root names sets rows marked =
+    standing_features tables causes root sets rows ++ changed_features tables causes names sets ++ place_features marked
+
 abbrev pub plan_features : Office → MergeSet → Plan → Option MarkedPlace → List Feature
-plan_features o s p marked =
-    standing_features o.schema (cause_cells p) s.root (change_sets o s) (rows_of_root o s.root)
-    ++ changed_features o.schema (cause_cells p) s.members (change_sets o s) ++ place_features marked
+plan_features o s p marked = features_of o.schema (cause_cells p) s.root s.members (change_sets o s) (rows_of_root o s.root) marked
 
 -- the text of these features
 abbrev pub AreFeatures : Office → MergeSet → Plan → Option ℕ → List ℕ → Type 0

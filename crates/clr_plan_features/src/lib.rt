@@ -3,12 +3,12 @@
 //! - `plan_features`: exactly one feature for each row of the root that no design changes, one for each change of each design, with its
 //!   kind, its table, its key and its values, and one for the place of the cause, if the plan is blocked and the cause has a place.
 //! - Whether the cause names a row is told of each by its cell. Where the place is, and what is said of it, is what `cause_of` of
-//!   `clr_plan_scenes` tells: the place of its ring, or the middle between points that are too near.
+//!   `clr_plan_causes` tells: the place of its ring, or the middle between points that are too near.
 #![tactic(auto)]
 
-mod causes;
+mod cause_cells;
+mod cause_features;
 mod changes;
-mod places;
 mod plans;
 mod row_features;
 mod standing;

@@ -3,7 +3,7 @@
 use crate::chips::distance;
 use clr_drawing::samples;
 use clr_map_marks::Marked;
-use clr_plan_scenes::MapScene;
+use clr_map_scenes::MapScene;
 use clr_rows::Row;
 use clr_svg::PagePoint;
 use std::alloc::AllocError;

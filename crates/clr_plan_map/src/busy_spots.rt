@@ -4,7 +4,7 @@ use crate::anchors::APART;
 use clr_change::ChangeSet;
 use clr_drawing::{Labels, samples};
 use clr_map_frames::{frames_of, has_frames};
-use clr_plan_scenes::MapScene;
+use clr_map_scenes::MapScene;
 use clr_rows::Row;
 use std::alloc::AllocError;
 

@@ -4,7 +4,7 @@ use crate::anchors::anchors_of;
 use crate::chips::{Look, add_label};
 use clr_drawing::{Area, Labels, SOFT, Sketch};
 use clr_map_marks::{Marked, marked_spot};
-use clr_plan_scenes::{Cause, CauseRow, MapScene};
+use clr_map_scenes::{Cause, CauseRow, MapScene};
 use clr_svg::{Colour, Pixels};
 use std::alloc::AllocError;
 

@@ -4,7 +4,7 @@ use crate::anchors::{APART, some_of};
 use crate::chips::{Look, add_label};
 use clr_drawing::{Area, Labels, Sketch, samples};
 use clr_map_frames::{frames_of, has_frames, largest};
-use clr_plan_scenes::MapScene;
+use clr_map_scenes::MapScene;
 use clr_rows::Row;
 use clr_svg::{PagePoint, Pixels};
 use std::alloc::AllocError;

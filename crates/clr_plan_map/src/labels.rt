@@ -5,9 +5,10 @@ use crate::cause_labels::add_cause_labels;
 use crate::design_labels::add_design_labels;
 use crate::witness_labels::add_witness_labels;
 use clr_drawing::{Labels, Sketch};
+use clr_engine::Office;
 use clr_map_frames::area_of_scale;
+use clr_map_scenes::MapScene;
 use clr_plan::Plan;
-use clr_plan_scenes::MapScene;
 use clr_svg::Pixels;
 use std::alloc::AllocError;
 
@@ -15,6 +16,7 @@ use std::alloc::AllocError;
 pub(crate) fn add_labels(
     sketch: &mut Sketch,
     scene: &MapScene<'_>,
+    office: &Office,
     plan: &Plan,
 ) -> Result<(), AllocError> {
     let mut labels = Labels::new(scene.field.alloc, scene.frame().grow(Pixels::whole(-4)));
@@ -25,7 +27,7 @@ pub(crate) fn add_labels(
         Some(cause) => add_cause_labels(sketch, &mut labels, scene, cause),
         None => {
             add_design_labels(sketch, &mut labels, scene)?;
-            add_witness_labels(sketch, &mut labels, scene, plan)
+            add_witness_labels(sketch, &mut labels, scene, office, plan)
         }
     }
 }

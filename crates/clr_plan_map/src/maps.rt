@@ -13,8 +13,11 @@ use clr_map_frames::{
     names_text,
 };
 use clr_map_marks::{add_haloes, add_line_marks, add_lines, add_mark, add_point_marks, add_signs};
+use clr_map_scenes::{Cause, Designs, FOOT, Field, MapScene, PAGE_WIDTH};
+use clr_member_changes::MemberChanges;
 use clr_plan::Plan;
-use clr_plan_scenes::{Cause, Designs, FOOT, Field, MapScene, PAGE_WIDTH, cause_of};
+use clr_plan_causes::{cause_of, leaders_of};
+use clr_plan_sentences::Setting;
 use clr_rows::{Schema, Sheet};
 use clr_svg::{Ink, Layer, PagePoint, Pixels, SvgPage, write_page};
 use std::alloc::{AllocError, Global};
@@ -69,33 +72,32 @@ fn inner_layer(scene: &MapScene<'_>) -> Result<Layer, AllocError> {
     Ok(sketch.into_layer_within(scene.frame()))
 }
 
-/// Returns what stands over the map and round it, and below the legend, which goes this far down.
-fn outer_layer(
-    scene: &MapScene<'_>,
-    plan: &Plan,
-    names: &str,
-    sentence: &str,
-    down: Pixels,
-) -> Result<Layer, AllocError> {
-    let mut sketch = Sketch::new(scene.field.alloc);
-    add_axes(&mut sketch, scene)?;
-    add_labels(&mut sketch, scene, plan)?;
-    add_heading(&mut sketch, plan_word(plan), names, sentence)?;
-    add_inset(&mut sketch, scene, down)?;
-    Ok(sketch.into_layer())
-}
-
 /// Returns what is drawn of a plan with this cause, if it has one.
-fn drawn_with(field: Field<'_>, plan: &Plan, cause: Option<&Cause>) -> Result<Drawn, AllocError> {
+fn drawn_with(
+    field: Field<'_>,
+    setting: Setting<'_>,
+    plan: &Plan,
+    cause: Option<&Cause>,
+) -> Result<Drawn, AllocError> {
     let scene = MapScene::new(field, cause);
     let height = scene.frame().bottom + FOOT;
     let names = names_text(field)?;
-    let sentence = plan_sentence(field, plan)?;
+    let sentence = plan_sentence(setting, plan)?;
     let mut layers = Vec::with_capacity(field.alloc, 4)?;
     layers.push(paper(&scene, height)?)?;
     layers.push(inner_layer(&scene)?)?;
     let (legend, down) = legend_of(&scene)?;
-    layers.push(outer_layer(&scene, plan, names.as_str(), sentence.as_str(), down)?)?;
+    let mut outer = Sketch::new(field.alloc);
+    add_axes(&mut outer, &scene)?;
+    add_labels(&mut outer, &scene, setting.office, plan)?;
+    add_heading(
+        &mut outer,
+        plan_word(plan),
+        names.as_str(),
+        sentence.as_str(),
+    )?;
+    add_inset(&mut outer, &scene, down)?;
+    layers.push(outer.into_layer())?;
     layers.push(legend)?;
     Ok(Drawn {
         height,
@@ -103,14 +105,6 @@ fn drawn_with(field: Field<'_>, plan: &Plan, cause: Option<&Cause>) -> Result<Dr
         names,
         sentence,
     })
-}
-
-/// Returns the members that a plan's order names.
-fn leaders_of(plan: &Plan) -> &[usize] {
-    match plan {
-        Plan::Blocked { order, .. } => order.as_slice(),
-        _ => &[],
-    }
 }
 
 /// Returns the rows of a root, or none where it doesn't stand.
@@ -122,25 +116,22 @@ fn rows_of(alloc: Global, office: &Office, root: &str) -> Result<Sheet, AllocErr
 }
 
 /// Returns what is drawn of a plan.
-fn drawn_plan(
-    alloc: Global,
-    office: &Office,
-    root: &str,
-    members: &[&str],
-    plan: &Plan,
-) -> Result<Drawn, AllocError> {
-    let rows = rows_of(alloc, office, root)?;
-    let designs = Designs::read(alloc, office, root, members, leaders_of(plan))?;
-    let field = Field {
+fn drawn_plan(setting: Setting<'_>, plan: &Plan) -> Result<Drawn, AllocError> {
+    let Setting {
         alloc,
         office,
+        members,
+    } = setting;
+    let rows = rows_of(alloc, office, members.root)?;
+    let designs = Designs::new(alloc, members, leaders_of(plan))?;
+    let field = Field {
+        alloc,
         schema: office.schema(),
-        root,
         rows: &rows,
         designs: &designs,
     };
-    let cause = cause_of(field, plan)?;
-    drawn_with(field, plan, cause.as_ref())
+    let cause = cause_of(alloc, office, members, plan)?;
+    drawn_with(field, setting, plan, cause.as_ref())
 }
 
 /// Layers with the word for what a plan says over them.
@@ -160,16 +151,16 @@ fn with_verdict(
 fn page_of(
     alloc: Global,
     schema: &Schema,
-    root: &str,
-    members: &[&str],
+    members: &MemberChanges<'_>,
     plan: &Plan,
     drawn: Drawn,
 ) -> Result<SvgPage, AllocError>
-    ensures { IfOk result (IsMapPage schema.now (map (λ name. name.now) members.now) root.now plan.now) }
+    ensures { IfOk result (IsMapPage schema.now (map (λ name. name.now) members.now.names.now) members.now.root.now plan.now) }
 {
     let title = title_of(alloc, plan, drawn.names.as_str())?;
     let sentence = drawn.sentence.as_str();
-    let description = description_of(alloc, schema, members, root, plan, sentence)?;
+    let (root, names) = (members.root, members.names);
+    let description = description_of(alloc, schema, names, root, plan, sentence)?;
     let layers = with_verdict(alloc, plan, drawn.layers)?;
     Ok(SvgPage {
         width: PAGE_WIDTH,
@@ -186,14 +177,18 @@ fn page_of(
 pub fn plan_map(
     alloc: Global,
     office: &Office,
-    root: &str,
-    members: &[&str],
+    members: &MemberChanges<'_>,
     plan: &Plan,
 ) -> Result<Vec<u8>, AllocError>
-    ensures map { IfOk result (λ text. IsMap office.now.schema (map (λ name. name.now) members.now) root.now plan.now text.items) }
+    ensures map { IfOk result (λ text. IsMap office.now.schema (map (λ name. name.now) members.now.names.now) members.now.root.now plan.now text.items) }
 {
-    let drawn = drawn_plan(alloc, office, root, members, plan)?;
-    let page = page_of(alloc, office.schema(), root, members, plan, drawn)?;
+    let setting = Setting {
+        alloc,
+        office,
+        members,
+    };
+    let drawn = drawn_plan(setting, plan)?;
+    let page = page_of(alloc, office.schema(), members, plan, drawn)?;
     let text = write_page(alloc, &page)?;
     Ok(text)
 }

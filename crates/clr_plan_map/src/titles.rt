@@ -6,8 +6,8 @@ ghost use Rattle.clr_plan_map.specs.Maps.{ShowsFirst, plan_word};
 
 use clr_drawing::{ALARM, CAUTION, CLEAR};
 use clr_map_frames::VERDICT_SIZE;
+use clr_map_scenes::LEFT;
 use clr_plan::{Plan, plan_lines};
-use clr_plan_scenes::LEFT;
 use clr_rows::Schema;
 use clr_svg::{Anchor, Colour, Element, Label, Layer, PagePoint, Pixels, Weight};
 use std::alloc::{AllocError, Global};

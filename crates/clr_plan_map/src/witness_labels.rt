@@ -4,8 +4,9 @@ use crate::anchors::anchors_of;
 use crate::chips::{Look, add_label};
 use clr_cert::Entry;
 use clr_drawing::{Labels, SOFT, Sketch};
-use clr_plan::Plan;
-use clr_plan_scenes::MapScene;
+use clr_engine::Office;
+use clr_map_scenes::MapScene;
+use clr_merge_sets::{Plan, row_of_version};
 use clr_rows::CellId;
 use clr_svg::Pixels;
 use std::alloc::AllocError;
@@ -36,16 +37,17 @@ fn add_witness_label(
     sketch: &mut Sketch,
     labels: &mut Labels,
     scene: &MapScene<'_>,
+    office: &Office,
     entry: &Entry,
 ) -> Result<(), AllocError> {
-    let field = scene.field;
-    let Some(row) = field.designs.members.row_of(field.office, entry.one) else {
+    let designs = scene.field.designs;
+    let Some(row) = row_of_version(office, designs.members, entry.one) else {
         return Ok(());
     };
     let anchors = anchors_of(scene, row, None)?;
     let words = witness_words(scene, entry)?;
-    let colour = match field.designs.changer(entry.one.cell) {
-        Some(at) => field.designs.colours(at).label,
+    let colour = match designs.changer(entry.one.cell) {
+        Some(at) => designs.colours(at).label,
         None => SOFT,
     };
     add_label(
@@ -71,6 +73,7 @@ pub(crate) fn add_witness_labels(
     sketch: &mut Sketch,
     labels: &mut Labels,
     scene: &MapScene<'_>,
+    office: &Office,
     plan: &Plan,
 ) -> Result<(), AllocError> {
     let Plan::Cleared(certificate) = plan else {
@@ -82,7 +85,7 @@ pub(crate) fn add_witness_labels(
     }
     for (at, entry) in entries.iter().enumerate() {
         if !is_repeated(entries, at, entry) {
-            add_witness_label(sketch, labels, scene, entry)?;
+            add_witness_label(sketch, labels, scene, office, entry)?;
         }
     }
     Ok(())

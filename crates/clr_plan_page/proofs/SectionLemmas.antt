@@ -8,7 +8,7 @@ use Rattle.clr_html.specs.declared.texts.InlineText.{InlineText}
 use Rattle.clr_html.specs.Words.{words_of_text}
 use Rattle.clr_steps.specs.Offices.{Office}
 use Rattle.clr_steps.specs.Quiet.{MergeSet}
-use Rattle.clr_plan.specs.declared.plans.Plan.{Plan}
+use Rattle.clr_merge_sets.specs.declared.plans.Plan.{Plan}
 use Rattle.clr_work_orders.specs.declared.trials.Trial.{Trial}
 use Rattle.clr_plan_page.specs.Clashes.{AreDesigns, TellsClashes}
 use Rattle.clr_plan_page.specs.Reasons.{AreReasons, IsWhy, TellsHelp}

@@ -5,8 +5,8 @@ use Rattle.clr_html.specs.declared.blocks.Block.{Block}
 use Rattle.clr_html.specs.declared.blocks.Block.TheVariants as block
 use Rattle.clr_html.specs.declared.tables.Table.{Table}
 use Rattle.clr_html.specs.Words.{words_of_row, words_of_text}
-use Rattle.clr_plan.specs.declared.plans.Plan.{Plan}
-use Rattle.clr_plan.specs.declared.plans.Plan.TheVariants as plan
+use Rattle.clr_merge_sets.specs.declared.plans.Plan.{Plan}
+use Rattle.clr_merge_sets.specs.declared.plans.Plan.TheVariants as plan
 use Rattle.clr_work_orders.specs.declared.trials.Trial.{Trial}
 use Rattle.clr_plan_page.specs.Sections.{ArePlain, IsHeading}
 

@@ -9,8 +9,8 @@ use Rattle.clr_rows.specs.Names.{live_name}
 use Rattle.clr_workspaces.specs.Marks.{Name}
 use Rattle.clr_steps.specs.Offices.{Office}
 use Rattle.clr_steps.specs.Quiet.{MergeSet}
-use Rattle.clr_plan.specs.declared.plans.Plan.{Plan}
-use Rattle.clr_plan.specs.declared.plans.Plan.TheVariants as plan
+use Rattle.clr_merge_sets.specs.declared.plans.Plan.{Plan}
+use Rattle.clr_merge_sets.specs.declared.plans.Plan.TheVariants as plan
 use Rattle.clr_plan.specs.PlanLines.{plan_text}
 use Rattle.clr_html.specs.declared.blocks.Block.{Block}
 use Rattle.clr_html.specs.declared.blocks.Block.TheVariants as block

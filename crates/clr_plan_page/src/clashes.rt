@@ -2,6 +2,7 @@
 
 ghost use Rattle.std.specs.Prelude.{◌≡◌, ◌++◌, Some, false, map, string_bytes, IfOk, OnOk};
 ghost use Rattle.clr_html.specs.declared.blocks.Block.TheVariants as block;
+ghost use Rattle.clr_merge_sets.specs.MemberChanges.{AreMembers, set_of};
 ghost use Rattle.clr_merge_sets.specs.MergeSetNames.{merge_set};
 ghost use Rattle.clr_phrases.specs.Lists.{names_text as listed_names};
 ghost use Rattle.clr_plan_page.specs.Clashes.{AreSetsShown, TellsClashes, TellsFound, TellsSets, first_words, is_lost, set_words};
@@ -10,9 +11,10 @@ ghost use Rattle.clr_plan_page.specs.Sections.{Adds, AddsOne};
 use crate::sections::{Builder, row_of, table_of};
 use clr_clearance::Verdict;
 use clr_html::{Block, Table, TableRow};
-use clr_merge_clashes::{MergeClash, MergeClashes, merge_clashes, names_at};
+use clr_member_changes::MemberChanges;
+use clr_merge_clashes::{MergeClash, MergeClashes, merge_clashes_of, names_at};
 use clr_phrases::add_names;
-use clr_plan_sentences::{PlannedDesigns, Setting};
+use clr_plan_sentences::Setting;
 use std::alloc::{AllocError, Global};
 
 /// Returns names with commas between them.
@@ -24,26 +26,25 @@ fn join_names(alloc: Global, names: &[&str]) -> Result<String, AllocError>
     Ok(text)
 }
 
-/// Returns the row of a set: its members, and why they can't be merged together.
+/// Returns the row of a set: its members, and why they can't be merged together. No member's changes are looked at for that.
 fn clash_row(setting: Setting<'_>, clash: &MergeClash) -> Result<TableRow, AllocError>
     ensures { IfOk result (λ row. first_words row ≡ Some (set_words (map (λ name. name.now) setting.entry.members.now.names.now) clash.now)) }
 {
     let alloc = setting.alloc;
     let names = names_at(alloc, setting.members.names, clash.members.as_slice())?;
-    let members = PlannedDesigns::read(
-        alloc,
-        setting.office,
-        setting.members.root,
-        names.as_slice(),
-    )?;
+    let members = MemberChanges {
+        root: setting.members.root,
+        names: names.as_slice(),
+        changes: Vec::new(alloc),
+    };
     let among = Setting {
         alloc,
         office: setting.office,
         members: &members,
     };
-    let cause = among.cause_words(&clash.cause)?;
+    let reason = among.reason(&clash.cause)?;
     let list = join_names(alloc, names.as_slice())?;
-    row_of(alloc, &[list.as_str(), cause.reason.as_str()])
+    row_of(alloc, &[list.as_str(), reason.as_str()])
 }
 
 /// Adds the rows of sets.
@@ -112,15 +113,17 @@ fn unless_lost(fault: &Verdict) -> Result<(), AllocError>
 /// Adds the smallest sets of members that can't be merged together; nothing where a name is unfit. Where there was no
 /// memory for the sets, this call fails too.
 pub(crate) fn add_clashes(section: &mut Builder, setting: Setting<'_>) -> Result<(), AllocError>
+    requires { AreMembers setting.entry.office.now (set_of setting.entry.members.now) setting.entry.members.now }
     ensures { OnOk result (Adds (TellsClashes setting.entry.office.now
         (merge_set setting.entry.members.now.root.now (map (λ name. name.now) setting.entry.members.now.names.now)))
         section.old.blocks.items section.new.blocks.items) }
 {
-    match merge_clashes(
+    match merge_clashes_of(
         setting.alloc,
         setting.office,
         setting.members.root,
         setting.members.names,
+        setting.members.changes.as_slice(),
     ) {
         Ok(found) => add_found(section, setting, &found),
         Err(fault) => unless_lost(&fault),

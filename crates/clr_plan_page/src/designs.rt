@@ -5,36 +5,16 @@ ghost use Rattle.clr_plan_page.specs.Sections.{Adds, ArePlain};
 
 use crate::sections::{Builder, plain_text, row_of, table_of};
 use clr_change::ChangeSet;
-use clr_drawing::design_colours;
 use clr_html::{Block, Fold, InlineText, Table, TableRow};
+use clr_map_scenes::Designs;
+use clr_member_changes::{Counts, count_rows};
 use clr_phrases::row_words;
-use clr_plan_sentences::{Setting, count_rows};
+use clr_plan_sentences::Setting;
 use clr_rows::{CellId, Change, Row};
-use clr_svg::Colour;
 use std::alloc::AllocError;
 
 /// How many rows of a design are told one by one.
 const MOST_ROWS: usize = 400;
-
-/// Returns the rank of a design in which the map gives out its colours: those that a cause names
-/// come first.
-fn rank_of(leaders: &[usize], at: usize) -> usize {
-    if let Some(rank) = leaders.iter().position(|other| *other == at) {
-        return rank;
-    }
-    let mut rank = leaders.len();
-    for earlier in 0..at {
-        if !leaders.contains(&earlier) {
-            rank = rank.saturating_add(1);
-        }
-    }
-    rank
-}
-
-/// Returns the colour of a design on the map.
-fn colour_of(leaders: &[usize], at: usize) -> Colour {
-    design_colours(rank_of(leaders, at)).line
-}
 
 /// Returns what becomes of the row of a change.
 fn what_becomes(change: &Change) -> &'static str {
@@ -88,18 +68,19 @@ fn changes_table(setting: Setting<'_>, set: &ChangeSet) -> Result<Table, AllocEr
 /// Returns a design, with its rows folded.
 fn fold_of(
     setting: Setting<'_>,
-    leaders: &[usize],
+    designs: &Designs<'_>,
     at: usize,
     set: &ChangeSet,
 ) -> Result<Fold, AllocError> {
-    let counts = count_rows(set);
-    let added = counts.added;
-    let changed = counts.changed;
-    let removed = counts.removed;
+    let Counts {
+        added,
+        changed,
+        removed,
+    } = count_rows(set);
     let words = format!(in setting.alloc; "{added} added, {changed} changed, {removed} removed")?;
-    let name = Vec::from_slice(setting.alloc, setting.members.name(at).as_bytes())?;
+    let name = Vec::from_slice(setting.alloc, designs.name(at).as_bytes())?;
     Ok(Fold {
-        name: InlineText::Named(colour_of(leaders, at), name),
+        name: InlineText::Named(designs.colours(at).line, name),
         words: words.into_bytes(),
         table: changes_table(setting, set)?,
     })
@@ -109,13 +90,13 @@ fn fold_of(
 fn add_design(
     section: &mut Builder,
     setting: Setting<'_>,
-    leaders: &[usize],
+    designs: &Designs<'_>,
     at: usize,
     set: &ChangeSet,
 ) -> Result<(), AllocError>
     ensures { OnOk result (Adds ArePlain section.old.blocks.items section.new.blocks.items) }
 {
-    let fold = fold_of(setting, leaders, at, set)?;
+    let fold = fold_of(setting, designs, at, set)?;
     section.add(Block::Fold(fold))
 }
 
@@ -127,8 +108,9 @@ pub(crate) fn add_designs(
 ) -> Result<(), AllocError>
     ensures { OnOk result (Adds ArePlain section.old.blocks.items section.new.blocks.items) }
 {
+    let designs = Designs::new(setting.alloc, setting.members, leaders)?;
     for (at, set) in setting.members.changes.as_slice().iter().enumerate() {
-        add_design(section, setting, leaders, at, set)?;
+        add_design(section, setting, &designs, at, set)?;
     }
     Ok(())
 }

@@ -7,7 +7,7 @@
 //! - [`back`]: the office is as it was; what is told of a remedy was tried on it. Which other words stand between is tested.
 #![tactic(auto)]
 
-mod causes;
+mod cause_tables;
 mod clashes;
 mod designs;
 mod feet;

@@ -1,13 +1,14 @@
 //! The report of a plan.
 
 ghost use Rattle.std.specs.Prelude.{◌≡◌, map, IfOk, OnOk};
+ghost use Rattle.clr_merge_sets.specs.MemberChanges.{AreMembers, set_of};
 ghost use Rattle.clr_merge_sets.specs.MergeSetNames.{merge_set};
 ghost use Rattle.clr_plan_page.specs.Clashes.{AreDesigns};
 ghost use Rattle.clr_plan_page.specs.Reasons.{AreReasons, IsWhy};
 ghost use Rattle.clr_plan_page.specs.Reports.{AreBetween, IsReport, IsReportPage};
 ghost use Rattle.clr_plan_page.specs.Sections.{Adds};
 
-use crate::causes::add_cause;
+use crate::cause_tables::add_cause;
 use crate::clashes::add_clashes;
 use crate::designs::add_designs;
 use crate::feet::foot_of;
@@ -17,9 +18,11 @@ use crate::remedies::add_remedies;
 use crate::sections::Builder;
 use clr_engine::Office;
 use clr_html::{HtmlPage, Section, write_page};
+use clr_member_changes::MemberChanges;
 use clr_plan::Plan;
+use clr_plan_causes::leaders_of;
 use clr_plan_map::plan_map;
-use clr_plan_sentences::{PlannedDesigns, Setting, answer_words};
+use clr_plan_sentences::{Setting, answer_words};
 use clr_rows::Schema;
 use clr_work_orders::{Trial, try_remedies};
 use std::alloc::{AllocError, Global};
@@ -58,16 +61,9 @@ fn why_of(setting: Setting<'_>, plan: &Plan, trials: &[Trial]) -> Result<Section
     Ok(section.into_section())
 }
 
-/// Returns the members that a plan's order names.
-fn leaders_of(plan: &Plan) -> &[usize] {
-    match plan {
-        Plan::Blocked { order, .. } => order.as_slice(),
-        _ => &[],
-    }
-}
-
 /// Returns the designs, and the smallest sets of them that can't be merged together.
 fn designs_of(setting: Setting<'_>, plan: &Plan) -> Result<Section, AllocError>
+    requires { AreMembers setting.entry.office.now (set_of setting.entry.members.now) setting.entry.members.now }
     ensures { IfOk result (λ section. AreDesigns setting.entry.office.now
         (merge_set setting.entry.members.now.root.now (map (λ name. name.now) setting.entry.members.now.names.now)) section.blocks.items) }
 {
@@ -82,18 +78,18 @@ fn designs_of(setting: Setting<'_>, plan: &Plan) -> Result<Section, AllocError>
 fn sections_between(
     alloc: Global,
     office: &Office,
-    root: &str,
-    members: &[&str],
+    members: &MemberChanges<'_>,
     plan: &Plan,
     trials: &[Trial],
 ) -> Result<Vec<Section>, AllocError>
-    ensures { IfOk result (λ sections. AreBetween office.now (merge_set root.now (map (λ name. name.now) members.now)) plan.now trials.now sections.items) }
+    requires { AreMembers office.now (set_of members.now) members.now }
+    ensures { IfOk result (λ sections. AreBetween office.now (merge_set members.now.root.now (map (λ name. name.now) members.now.names.now))
+        plan.now trials.now sections.items) }
 {
-    let changes = PlannedDesigns::read(alloc, office, root, members)?;
     let setting = Setting {
         alloc,
         office,
-        members: &changes,
+        members,
     };
     let why = why_of(setting, plan, trials)?;
     let designs = designs_of(setting, plan)?;
@@ -127,7 +123,7 @@ fn page_of(
     Ok(HtmlPage { title, sections })
 }
 
-/// Returns the report of a plan of members of a root, as the text of a page of hypertext in one file, which loads nothing. It begins with the
+/// Returns the report of a plan of members whose changes were read of this office, as the text of a page of hypertext in one file, which loads nothing. It begins with the
 /// word for what the plan says and with the map; then it tells why, with the rows of the cause and what was tried to help, or with what
 /// serves each need; what each design changes; and the smallest sets of designs that can't be merged together. It ends with the command of
 /// `clr_office` that prints the lines of the plan, in which DB stands for the office's file, and with these lines. Each text of the office is
@@ -136,25 +132,20 @@ fn page_of(
 pub fn plan_report(
     alloc: Global,
     office: &mut Office,
-    root: &str,
-    members: &[&str],
+    members: &MemberChanges<'_>,
     plan: &Plan,
 ) -> Result<Vec<u8>, AllocError>
-    ensures report { IfOk result (λ text. IsReport office.old (merge_set root.now (map (λ name. name.now) members.now)) plan.now text.items) }
+    requires { AreMembers office.old (set_of members.now) members.now }
+    ensures report { IfOk result (λ text. IsReport office.old (merge_set members.now.root.now (map (λ name. name.now) members.now.names.now))
+        plan.now text.items) }
     ensures back { IfOk result (λ text. office.new ≡ office.old) }
 {
-    let picture = plan_map(alloc, office, root, members, plan)?;
-    let trials = try_remedies(alloc, office, root, members, plan)?;
-    let between = sections_between(alloc, office, root, members, plan, trials.as_slice())?;
-    let page = page_of(
-        alloc,
-        office.schema(),
-        root,
-        members,
-        plan,
-        picture,
-        between,
-    )?;
+    let (root, names) = (members.root, members.names);
+    let picture = plan_map(alloc, office, members, plan)?;
+    let trials = try_remedies(alloc, office, members, plan)?;
+    let between = sections_between(alloc, office, members, plan, trials.as_slice())?;
+    let schema = office.schema();
+    let page = page_of(alloc, schema, root, names, plan, picture, between)?;
     let text = write_page(alloc, &page)?;
     Ok(text)
 }

@@ -1,2 +1,1 @@
-pub mod ServerLemmas
-pub mod VersionLemmas
+pub mod PieceLemmas

@@ -1,4 +1,7 @@
-pub mod Counts
-pub mod Servers
-pub mod NeedPlaces
-pub mod Versions
+pub mod Answers
+pub mod Causes
+pub mod Labels
+pub mod NeedCauses
+pub mod Sentences
+pub mod ServedNeeds
+pub mod ToldRows

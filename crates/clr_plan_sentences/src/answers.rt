@@ -1,59 +1,117 @@
 //! What a plan answers, in sentences.
 
+ghost use Rattle.std.specs.Prelude.{◌≡◌, ◌++◌, IfOk, OnOk, string_bytes};
+ghost use Rattle.clr_plan_sentences.specs.Answers.{answer_text, blocked_text, cleared_text, lasting_text};
+ghost use Rattle.clr_plan_sentences.specs.Answers.{mergeable_text, order_sentence, order_text, refused_text};
+ghost use Rattle.clr_merge_sets.specs.MemberChanges.{set_of};
+
 use crate::settings::Setting;
+use crate::unfit::add_unfit;
+use clr_member_changes::MemberChanges;
+use clr_merge_sets::Plan;
 use clr_phrases::add_names;
-use clr_plan::Plan;
 use std::alloc::AllocError;
 
-/// Adds in which order a merge is refused.
-fn add_order(text: &mut String, setting: Setting<'_>, order: &[usize]) -> Result<(), AllocError> {
-    text.push_str("Merge ")?;
-    for (at, member) in order.iter().enumerate() {
-        if at > 0 {
-            text.push_str(", then ")?;
-        }
-        text.push_str(setting.members.name(*member))?;
+/// Adds members one after another, by their positions.
+fn add_members(
+    text: &mut String,
+    members: &MemberChanges<'_>,
+    order: &[usize],
+) -> Result<(), AllocError>
+    ensures { OnOk result (string_bytes text.new ≡ string_bytes text.old ++ order_text (set_of members.now).members order.now) }
+{
+    let [first, others @ ..] = order else {
+        return Ok(());
+    };
+    text.push_str(members.name(*first))?;
+    for other in others {
+        text.push_str(", then ")?;
+        text.push_str(members.name(*other))?;
     }
-    if order.len() == 1 {
-        text.push_str(": the merge is refused.\n")
+    Ok(())
+}
+
+/// Returns what becomes of so many merges.
+fn refused_words(count: usize) -> &'static str
+    ensures { result.now ≡ refused_text count }
+{
+    if count == 1 {
+        ": the merge is refused.\n"
     } else {
-        text.push_str(", in this order: one of these merges is refused.\n")
+        ", in this order: one of these merges is refused.\n"
     }
+}
+
+/// Adds in which order a merge is refused.
+fn add_order(
+    text: &mut String,
+    members: &MemberChanges<'_>,
+    order: &[usize],
+) -> Result<(), AllocError>
+    ensures { OnOk result (string_bytes text.new ≡ string_bytes text.old ++ order_sentence (set_of members.now).members order.now) }
+{
+    text.push_str("Merge ")?;
+    add_members(text, members, order)?;
+    text.push_str(refused_words(order.len()))
 }
 
 /// Adds the sentence that members are blocked, and in which order.
-fn add_blocked(text: &mut String, setting: Setting<'_>, order: &[usize]) -> Result<(), AllocError> {
-    let root = setting.members.root;
-    add_names(text, setting.members.names)?;
-    write!(text, " can't be merged into {root} in every order.\n")?;
-    add_order(text, setting, order)
+fn add_blocked(
+    text: &mut String,
+    members: &MemberChanges<'_>,
+    order: &[usize],
+) -> Result<(), AllocError>
+    ensures { OnOk result (string_bytes text.new ≡ string_bytes text.old ++ blocked_text (set_of members.now) order.now) }
+{
+    add_names(text, members.names)?;
+    text.push_str(" can't be merged into ")?;
+    text.push_str(members.root)?;
+    text.push_str(" in every order.\n")?;
+    add_order(text, members, order)?;
+    Ok(())
 }
 
 /// Adds the sentence that members can be merged in every order.
-fn add_cleared(text: &mut String, setting: Setting<'_>) -> Result<(), AllocError> {
-    let root = setting.members.root;
-    if setting.members.names.is_empty() {
+fn add_mergeable(text: &mut String, members: &MemberChanges<'_>) -> Result<(), AllocError>
+    ensures { OnOk result (string_bytes text.new ≡ string_bytes text.old ++ mergeable_text (set_of members.now)) }
+{
+    add_names(text, members.names)?;
+    text.push_str(" can be merged into ")?;
+    text.push_str(members.root)?;
+    text.push_str(" in every order, all or some of them.\n")?;
+    Ok(())
+}
+
+/// Adds how long it lasts that members can be merged.
+fn add_lasting(text: &mut String, members: &MemberChanges<'_>) -> Result<(), AllocError>
+    ensures { OnOk result (string_bytes text.new ≡ string_bytes text.old ++ lasting_text (set_of members.now)) }
+{
+    text.push_str("This lasts while nobody edits ")?;
+    text.push_str(members.root)?;
+    text.push_str(" or one of these designs, other than by merging or refreshing them.\n")
+}
+
+/// Adds the sentences that members can be merged in every order, and how long that lasts.
+fn add_cleared(text: &mut String, members: &MemberChanges<'_>) -> Result<(), AllocError>
+    ensures { OnOk result (string_bytes text.new ≡ string_bytes text.old ++ cleared_text (set_of members.now)) }
+{
+    if members.names.is_empty() {
         return text.push_str("Nothing is to be merged.\n");
     }
-    add_names(text, setting.members.names)?;
-    write!(
-        text,
-        " can be merged into {root} in every order, all or some of them.\n"
-    )?;
-    write!(
-        text,
-        "This lasts while nobody edits {root} or one of these designs, other than by merging or refreshing them.\n"
-    )
+    add_mergeable(text, members)?;
+    add_lasting(text, members)
 }
 
 /// Returns what a plan answers, in sentences, each a line: whether the members can be merged, and in which order a merge is
 /// refused; or which name has to be mended first. Nothing is told of a plan that found no memory.
-pub fn answer_words(setting: Setting<'_>, plan: &Plan) -> Result<String, AllocError> {
+pub fn answer_words(setting: Setting<'_>, plan: &Plan) -> Result<String, AllocError>
+    ensures { IfOk result (λ text. string_bytes text ≡ answer_text (set_of setting.entry.members.now) plan.now) }
+{
     let mut text = String::new(setting.alloc);
     match plan {
-        Plan::Cleared(_) => add_cleared(&mut text, setting)?,
-        Plan::Blocked { order, .. } => add_blocked(&mut text, setting, order.as_slice())?,
-        Plan::Unfit(verdict) => setting.add_unfit(&mut text, verdict)?,
+        Plan::Cleared(_) => add_cleared(&mut text, setting.members)?,
+        Plan::Blocked { order, .. } => add_blocked(&mut text, setting.members, order.as_slice())?,
+        Plan::Unfit(verdict) => add_unfit(&mut text, setting.members, verdict)?,
         Plan::OutOfMemory => {}
     }
     Ok(text)

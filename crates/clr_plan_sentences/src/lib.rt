@@ -1,30 +1,31 @@
-//! A plan in words, part by part: the answer, the cause with its rows, where they meet and what stands there, what each member changes,
-//! and what serves each need.
+//! A plan in sentences: what it answers, the cause of a no with its rows, where they meet and what serves there, what each member changes,
+//! and what serves each need until when.
 //!
-//! - `PlannedDesigns::read` [`members`, `names`], `row_of`: each row that is told of a cause is the version that the cause names.
-//! - `rule_of`, `need_place`: the rule of a need, and where a row that serves it would have to stand; a place where rows meet lies on both parts.
-//! - `server_changes`: exactly the changes of members that bring a row which serves a need, or take one away, in order.
-//! - `count_rows`: exactly how many rows a change set adds, changes and removes.
-//! - Which words stand for what is tested.
+//! Each text is exactly the one that a definition prescribes, memory aside:
+//!
+//! - `plan_sentences`: all sentences of what `plan` answers, each a line.
+//! - `answer_words`: whether members can be merged, and in which order a merge is refused; or which name has to be mended.
+//! - `Setting::cause_words`: the cause of a no; each row that it tells is the version that the cause names, and stands where that stands.
+//! - `Setting::reason`: why members are blocked, without the rows; no member's changes are looked at.
+//! - `Setting::need_words`: a need of a certificate, with the rows that serve it.
+//! - `add_label`, `Setting::cell_label`: a cell, as `main 20`.
 //! - `Setting` tells what an office and members are about.
 #![tactic(auto)]
 
 mod answers;
-mod causes;
-mod changes;
-mod members;
-mod need_places;
-mod needs;
-mod rules;
-mod servers;
+mod cause_sentences;
+mod labels;
+mod need_causes;
+mod sentences;
+mod served_needs;
+mod server_words;
 mod settings;
+mod told_rows;
 mod unfit;
 
 pub use answers::answer_words;
-pub use causes::{CauseWords, RowWords};
-pub use changes::{Counts, count_rows};
-pub use members::{PlannedDesigns, Standing};
-pub use need_places::{need_place, rule_of, server_side};
-pub use needs::NeedWords;
-pub use servers::{ServerChange, server_changes};
+pub use labels::add_label;
+pub use sentences::plan_sentences;
+pub use served_needs::NeedWords;
 pub use settings::Setting;
+pub use told_rows::{CauseWords, RowWords};

@@ -1,7 +1,11 @@
 //! What sentences are made of.
 
-use crate::members::PlannedDesigns;
+ghost use Rattle.std.specs.Prelude.{◌≡◌, IfOk, string_bytes};
+ghost use Rattle.clr_plan_sentences.specs.Labels.{cell_label};
+
+use crate::labels::add_label;
 use clr_engine::Office;
+use clr_member_changes::MemberChanges;
 use clr_rows::CellId;
 use std::alloc::{AllocError, Global};
 
@@ -10,14 +14,16 @@ use std::alloc::{AllocError, Global};
 pub struct Setting<'a> {
     pub alloc: Global,
     pub office: &'a Office,
-    pub members: &'a PlannedDesigns<'a>,
+    pub members: &'a MemberChanges<'a>,
 }
 
 impl Setting<'_> {
     /// Returns a cell as `main 20`.
-    pub fn cell_label(&self, cell: CellId) -> Result<String, AllocError> {
-        let table = self.office.schema().name_of_table(cell.table);
-        let key = cell.key;
-        format!(in self.alloc; "{table} {key}")
+    pub fn cell_label(&self, cell: CellId) -> Result<String, AllocError>
+        ensures { IfOk result (λ text. string_bytes text ≡ cell_label self.now.office.now.schema cell) }
+    {
+        let mut text = String::new(self.alloc);
+        add_label(&mut text, self.office.schema(), cell)?;
+        Ok(text)
     }
 }

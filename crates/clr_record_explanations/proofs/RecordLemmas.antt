@@ -6,11 +6,11 @@ use Rattle.clr_rows.specs.declared.tables.TableDef.{TableDef}
 use Rattle.clr_records.specs.Records.{records_in}
 use Rattle.clr_cert.specs.declared.faults.CertFault.{CertFault}
 use Rattle.clr_scripts.specs.declared.faults.RecordFault.{RecordFault}
-use Rattle.clr_record_faults.specs.declared.roles.Role.{Role}
-use Rattle.clr_record_faults.specs.declared.roles.Role.TheVariants.{Text, Step, Edit, ShortApply}
-use Rattle.clr_record_faults.specs.CertificateFaults.{IsFaultOfCertificate}
-use Rattle.clr_record_faults.specs.ScriptFaults.{IsFaultAs, IsFaultOfScript}
-use Rattle.clr_record_faults.specs.FirstFaults.{RecordFields, record_in, record_numbered}
+use Rattle.clr_record_explanations.specs.declared.roles.Role.{Role}
+use Rattle.clr_record_explanations.specs.declared.roles.Role.TheVariants.{Text, Step, Edit, ShortApply}
+use Rattle.clr_record_explanations.specs.CertificateFaults.{IsFaultOfCertificate}
+use Rattle.clr_record_explanations.specs.ScriptFaults.{IsFaultAs, IsFaultOfScript}
+use Rattle.clr_record_explanations.specs.FirstFaults.{RecordFields, record_in, record_numbered}
 use Rattle.clr_record_explanations.specs.RecordRemarks.{IsRecordPlace, record_place}
 
 abbrev record_of : Option (List RecordFields) → ℕ → Option RecordFields

@@ -1,2 +1,9 @@
+pub mod CertificateFaults
+pub mod EditSlips
+pub mod EntrySlips
 pub mod FaultWords
+pub mod FirstFaults
 pub mod RecordRemarks
+pub mod RecordSlips
+pub mod ScriptFaults
+pub mod StepSlips

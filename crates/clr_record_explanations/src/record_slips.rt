@@ -1,6 +1,7 @@
 //! What is wrong with a record.
 
-ghost use Rattle.std.specs.Prelude.{◌≡◌, None, string_bytes, IfOk};
+ghost use Rattle.std.specs.Prelude.{◌≡◌, None, IfOk};
+ghost use Rattle.clr_record_explanations.specs.RecordSlips.{said};
 
 use std::alloc::{AllocError, Global};
 
@@ -26,8 +27,7 @@ impl RecordSlip {
 
     /// Returns a slip with these words as its sentence, without a hint.
     pub fn of_words(alloc: Global, field: usize, sentence: &str) -> Result<RecordSlip, AllocError>
-        ensures field { IfOk result (λ slip. slip.field ≡ field) }
-        ensures sentence { IfOk result (λ slip. string_bytes slip.sentence ≡ sentence.now) }
+        ensures said { IfOk result (λ slip. said slip ≡ (field, sentence.now)) }
         ensures hint { IfOk result (λ slip. slip.hint ≡ None) }
     {
         Ok(RecordSlip::new(field, String::from_str(alloc, sentence)?))

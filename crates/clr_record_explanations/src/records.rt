@@ -1,11 +1,10 @@
 //! What is said of a record of a script or of a certificate.
-ghost use Rattle.std.specs.Prelude.{◌≡◌, ◌≤◌, [], length, string_bytes, IfOk};
+ghost use Rattle.std.specs.Prelude.{◌≡◌, ◌≤◌, [], codes, length, string_bytes, IfOk};
 ghost use Rattle.clr_record_explanations.specs.RecordRemarks.{record_place};
 
 use crate::record_slips::RecordSlip;
-use clr_fault_lines::Remark;
 use clr_hints::{blank_lines_hint, encoding_fault};
-use clr_text_positions::field_at;
+use clr_text_positions::{Remark, field_at};
 use std::alloc::{AllocError, Global};
 
 /// Returns where a field of a record begins, or else the record, or else the text.
@@ -40,6 +39,7 @@ pub fn remark_on_record(
 ) -> Result<Remark, AllocError>
     ensures within { IfOk result (λ remark. remark.offset ≤ length text.now) }
     ensures place { IfOk result (λ remark. string_bytes remark.place ≡ record_place number) }
+    ensures sentence { IfOk result (λ remark. remark.sentence ≡ slip.sentence) }
 {
     let RecordSlip {
         field,
@@ -61,6 +61,7 @@ pub fn remark_on_record(
 pub fn remark_on_encoding(alloc: Global, text: &[u8]) -> Result<Remark, AllocError>
     ensures within { IfOk result (λ remark. remark.offset ≤ length text.now) }
     ensures place { IfOk result (λ remark. string_bytes remark.place ≡ []) }
+    ensures sentence { IfOk result (λ remark. string_bytes remark.sentence ≡ codes "a byte that isn't UTF-8") }
 {
     let offset = match encoding_fault(text) {
         Some(offset) => offset,

@@ -1,5 +1,14 @@
 //! Records of a script that are steps of their own.
+ghost use Rattle.std.specs.Prelude.{◌≡◌, ◌≤◌, count_by, decimal, length, map, option_map, string_bytes, IfOk};
+ghost use Rattle.std.specs.List.{find};
+ghost use Rattle.std.specs.Option.{option_copied};
+ghost use Rattle.std.specs.Str.{bytes_eq};
+ghost use Rattle.csv.specs.Records.{fields_of};
+ghost use Rattle.clr_record_explanations.specs.RecordSlips.{said};
+ghost use Rattle.clr_record_explanations.specs.StepSlips.{comma_cut_of, count_of, is_comma, number_place, pattern_of, short_apply_slip, step_slip, word_of};
+ghost use Rattle.clr_record_explanations.specs.StepSlips.{step_count_sentence, unknown_word, wrong_step_count, wrong_step_word};
 
+use crate::numbers::no_number;
 use crate::record_slips::RecordSlip;
 use crate::tables::no_table;
 use clr_hints::name_hint;
@@ -38,21 +47,49 @@ const PATTERNS: &[&str] = &[
     "independenceunder,ROOT,NAME",
 ];
 
-fn word_of(pattern: &'static str) -> &'static str {
-    match pattern.split_once(',') {
+/// Returns what stands before and behind the first comma of a text.
+#[tactic(auto, unfolding(crate::specs::StepSlips::comma_cut_of))]
+fn cut(text: &str) -> Option<(&str, &str)>
+    ensures { option_map (λ parts. (parts.0.now, parts.1.now)) result ≡ comma_cut_of text.now }
+{
+    text.split_once(',')
+}
+
+/// Returns the word that a pattern begins with.
+fn word_of(pattern: &'static str) -> &'static str
+    ensures { result.now ≡ word_of pattern.now }
+{
+    match cut(pattern) {
         Some((word, _)) => word,
         None => pattern,
     }
 }
 
-/// Returns the step that begins with a word, or no text.
-fn pattern_of(word: &str) -> &'static str {
-    for pattern in PATTERNS {
-        if word_of(*pattern) == word {
-            return *pattern;
-        }
+/// Returns the first of some patterns that begins with a word, as it stands among them, if any.
+fn find_lent(patterns: &[&'static str], word: &str) -> Option<&'static str>
+    ensures { option_copied result ≡ option_copied (find (λ pattern. bytes_eq (word_of pattern.now) word.now) patterns.now) }
+{
+    patterns
+        .iter()
+        .find(|pattern| word_of(**pattern) == word)
+        .copied()
+}
+
+/// Returns the first of some patterns that begins with a word, if any.
+fn find_pattern(patterns: &[&'static str], word: &str) -> Option<&'static str>
+    ensures { option_copied result ≡ find (λ pattern. bytes_eq (word_of pattern) word.now) (map (λ pattern. pattern.now) patterns.now) }
+{
+    find_lent(patterns, word)
+}
+
+/// Returns the pattern of the steps that begin with a word, or no text.
+fn pattern_of(word: &str) -> &'static str
+    ensures { result.now ≡ pattern_of word.now }
+{
+    match find_pattern(PATTERNS, word) {
+        Some(pattern) => pattern,
+        None => "",
     }
-    ""
 }
 
 /// Returns the words that a step can begin with.
@@ -65,7 +102,9 @@ fn all_words(alloc: Global) -> Result<Vec<&'static str>, AllocError> {
 }
 
 /// Returns the slip that a word isn't known where it stands.
-fn bad_word(alloc: Global, fields: &StringRecord) -> Result<RecordSlip, AllocError> {
+fn bad_word(alloc: Global, fields: &StringRecord) -> Result<RecordSlip, AllocError>
+    ensures { IfOk result (λ slip. said slip ≡ wrong_step_word (fields_of fields.now)) }
+{
     match field(fields, 0) {
         "merge" => RecordSlip::of_words(alloc, 2, "the third field of a merge is keep or remove"),
         "resolve" => RecordSlip::of_words(
@@ -83,38 +122,85 @@ fn bad_word(alloc: Global, fields: &StringRecord) -> Result<RecordSlip, AllocErr
 }
 
 /// Returns the slip that no step begins with a word.
-fn unknown_word(alloc: Global, word: &str) -> Result<RecordSlip, AllocError> {
+fn unknown_word(alloc: Global, word: &str) -> Result<RecordSlip, AllocError>
+    ensures { IfOk result (λ slip. said slip ≡ unknown_word word.now) }
+{
     let words = all_words(alloc)?;
     let sentence = format!(in alloc; "no step begins with '{word}'")?;
     let hint = name_hint(alloc, word, words.as_slice())?;
     Ok(RecordSlip::new(0, sentence).with_hint(hint))
 }
 
-/// Returns how many fields a step has.
-fn count_of(pattern: &str) -> usize {
-    pattern.split(',').count()
+fn is_comma(byte: u8) -> bool
+    ensures { result ≡ is_comma byte }
+{
+    byte == b','
+}
+
+/// Returns how many commas stand in a text.
+fn count_commas(text: &str) -> usize
+    ensures value { result ≡ count_by is_comma text.now }
+    ensures bound { result ≤ length text.now }
+{
+    text.as_bytes()
+        .iter()
+        .filter(|byte| is_comma(**byte))
+        .count()
+}
+
+/// Returns how many fields a step of a pattern has.
+fn count_of(pattern: &str) -> usize
+    ensures { result ≡ count_of pattern.now }
+{
+    count_commas(pattern) + 1
+}
+
+/// Returns the digits of a number.
+fn digits(alloc: Global, number: usize) -> Result<String, AllocError>
+    ensures { IfOk result (λ digits. string_bytes digits ≡ decimal number) }
+{
+    let digits = format!(in alloc; "{number}")?;
+    Ok(digits)
+}
+
+/// Returns what is said of a step of a pattern, which must have so many fields and has another count.
+fn count_sentence(
+    alloc: Global,
+    word: &str,
+    wanted: usize,
+    count: usize,
+    pattern: &str,
+) -> Result<String, AllocError>
+    ensures { IfOk result (λ sentence. string_bytes sentence ≡ step_count_sentence word.now wanted count pattern.now) }
+{
+    let wanted = digits(alloc, wanted)?;
+    let count = digits(alloc, count)?;
+    let mut sentence = String::from_str(alloc, word)?;
+    sentence.push_str(" has ")?;
+    sentence.push_str(wanted.as_str())?;
+    sentence.push_str(" fields, and here are ")?;
+    sentence.push_str(count.as_str())?;
+    sentence.push_str(": ")?;
+    sentence.push_str(pattern)?;
+    Ok(sentence)
 }
 
 /// Returns the slip that a step has another count of fields than its word asks for.
-fn bad_count(alloc: Global, fields: &StringRecord) -> Result<RecordSlip, AllocError> {
+fn bad_count(alloc: Global, fields: &StringRecord) -> Result<RecordSlip, AllocError>
+    ensures { IfOk result (λ slip. said slip ≡ wrong_step_count (fields_of fields.now)) }
+{
     let word = field(fields, 0);
-    let count = fields.len();
     let pattern = pattern_of(word);
-    let wanted = count_of(pattern);
-    let sentence = format!(in alloc;
-        "{word} has {wanted} fields, and here are {count}: {pattern}"
-    )?;
+    let sentence = count_sentence(alloc, word, count_of(pattern), fields.len(), pattern)?;
     Ok(RecordSlip::new(0, sentence))
 }
 
-/// Returns the slip that the number of a step isn't one.
-fn bad_number(alloc: Global, fields: &StringRecord) -> Result<RecordSlip, AllocError> {
-    let at = if field(fields, 0) == "resolve" { 3 } else { 2 };
-    let text = field(fields, at);
-    let sentence = format!(in alloc;
-        "'{text}' is no whole number of 64 bits in its one form, without + or zeros in front"
-    )?;
-    Ok(RecordSlip::new(at, sentence))
+/// Returns which field of a step must be a number: the key of a `resolve`, and the count of an
+/// `apply`.
+fn number_place(fields: &StringRecord) -> usize
+    ensures { result ≡ number_place (fields_of fields.now) }
+{
+    if field(fields, 0) == "resolve" { 3 } else { 2 }
 }
 
 /// Returns what is wrong with a record that is read as a step of its own, for the fault that it has.
@@ -123,17 +209,21 @@ pub fn explain_step(
     schema: &Schema,
     fields: &StringRecord,
     fault: RecordFault,
-) -> Result<RecordSlip, AllocError> {
+) -> Result<RecordSlip, AllocError>
+    ensures { IfOk result (λ slip. said slip ≡ step_slip fault (fields_of fields.now)) }
+{
     match fault {
         RecordFault::FieldCount => bad_count(alloc, fields),
         RecordFault::NoTable => no_table(alloc, schema, fields, TABLE_OF_RESOLVE),
-        RecordFault::BadNumber => bad_number(alloc, fields),
+        RecordFault::BadNumber => no_number(alloc, fields, number_place(fields)),
         _ => bad_word(alloc, fields),
     }
 }
 
 /// Returns the slip that an `apply` asks for more edits than records stand behind it.
-pub fn explain_short_apply(alloc: Global, fields: &StringRecord) -> Result<RecordSlip, AllocError> {
+pub fn explain_short_apply(alloc: Global, fields: &StringRecord) -> Result<RecordSlip, AllocError>
+    ensures { IfOk result (λ slip. said slip ≡ short_apply_slip (fields_of fields.now)) }
+{
     let wanted = field(fields, 2);
     let sentence = format!(in alloc; "apply asks for {wanted} edits, and fewer records follow")?;
     Ok(RecordSlip::new(2, sentence))

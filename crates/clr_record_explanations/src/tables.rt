@@ -1,8 +1,8 @@
 //! Names of tables in records.
 
-ghost use Rattle.std.specs.Prelude.{◌≡◌, ◌++◌, codes, string_bytes, IfOk};
+ghost use Rattle.std.specs.Prelude.{◌≡◌, IfOk};
 ghost use Rattle.csv.specs.Records.{fields_of};
-ghost use Rattle.clr_records.specs.Records.{field_of};
+ghost use Rattle.clr_record_explanations.specs.RecordSlips.{no_table, said};
 
 use crate::record_slips::RecordSlip;
 use clr_hints::{name_hint, table_names};
@@ -18,8 +18,7 @@ pub fn no_table(
     fields: &StringRecord,
     at: usize,
 ) -> Result<RecordSlip, AllocError>
-    ensures field { IfOk result (λ slip. slip.field ≡ at) }
-    ensures sentence { IfOk result (λ slip. string_bytes slip.sentence ≡ codes "no table is called '" ++ field_of (fields_of fields.now) at ++ codes "'") }
+    ensures { IfOk result (λ slip. said slip ≡ no_table at (fields_of fields.now)) }
 {
     let name = field(fields, at);
     let names = table_names(alloc, schema)?;

@@ -4,3 +4,4 @@ pub mod RecordTurns
 pub mod RecordsAgain
 pub mod Turns
 pub mod Utf8
+pub mod ValuesAgain

@@ -204,7 +204,7 @@ is_broken_there rules content b o =
     }
 
 -- a need that no row serves is listed
-unmet_listed : (rules : List Rule) (content : Content) (ask : Ask) (s : Held) (t : Option Held) → IsNeed rules (row_at content) ask s t
+pub unmet_listed : (rules : List Rule) (content : Content) (ask : Ask) (s : Held) (t : Option Held) → IsNeed rules (row_at content) ask s t
     → IsMet rules (row_at content) ask s t ⊎ Among (broken_at ask s t) (broken_needs rules content)
 unfolding broken_needs
 unmet_listed rules content ask s t need = go (list_any (serves rules ask s t) (rows_in content)) refl
@@ -323,21 +323,21 @@ not_greater Greater e = absurd (cc)
 not_before_itself : (b : Broken) → is_gt (broken_cmp b b) ≡ false
 not_before_itself b = ap is_gt (tied_itself broken_total b)
 
-first_is : (rules : List Rule) (content : Content) (bs : List Broken) → broken_needs rules content ≡ bs → IsFirstBroken rules (row_at content) (slice_get bs 0)
+pub at_least : (b : Broken) (bs : List Broken) (c : Broken) → Among c (b ∷ bs) → IsStrictlySortedBy broken_cmp (b ∷ bs) → is_gt (broken_cmp b c) ≡ false
 unfolding IsStrictlySortedBy
+at_least b bs c (inl same) p = subst (λ (d : Broken). is_gt (broken_cmp b d) ≡ false) same (not_before_itself b)
+at_least b bs c (inr h) p = not_greater (broken_cmp b c) (each_of (λ d. broken_cmp b d ≡ Less) c bs p.0 h)
+
+first_is : (rules : List Rule) (content : Content) (bs : List Broken) → broken_needs rules content ≡ bs → IsFirstBroken rules (row_at content) (slice_get bs 0)
 first_is rules content [] e = λ ask s t need. elim (unmet_listed rules content ask s t need) [
   | inl m ↦ m
   | inr a ↦ absurd (subst (λ (l : List Broken). Among (broken_at ask s t) l) e a)
 ]
 first_is rules content (b ∷ bs) e = record {
   broken = listed_broken rules content b (subst (λ (l : List Broken). Among b l) (sym e) (inl refl));
-  least = λ c h. at_least c (subst (λ (l : List Broken). Among c l) e (broken_listed rules content c h)) (subst (IsStrictlySortedBy broken_cmp) e
+  least = λ c h. at_least b bs c (subst (λ (l : List Broken). Among c l) e (broken_listed rules content c h)) (subst (IsStrictlySortedBy broken_cmp) e
       (broken_rises rules content));
 }
-  where
-    at_least : (c : Broken) → Among c (b ∷ bs) → IsStrictlySortedBy broken_cmp (b ∷ bs) → is_gt (broken_cmp b c) ≡ false
-    at_least c (inl same) p = subst (λ (d : Broken). is_gt (broken_cmp b d) ≡ false) same (not_before_itself b)
-    at_least c (inr h) p = not_greater (broken_cmp b c) (each_of (λ d. broken_cmp b d ≡ Less) c bs p.0 h)
 
 pub lists_broken : BrokenLaw
 lists_broken rules content = record {

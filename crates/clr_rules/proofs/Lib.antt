@@ -7,4 +7,5 @@ pub mod Elements
 pub mod FieldLemmas
 pub mod Fits
 pub mod FittingLemmas
+pub mod NewlyBroken
 pub mod RoleLemmas

@@ -12,12 +12,24 @@ use Rattle.clr_rules.specs.declared.rules.Rule.TheVariants.{Crossing}
 use Rattle.clr_rules.specs.declared.sides.Side.{Side}
 use Rattle.clr_rules.specs.Books.{FitsCell}
 use Rattle.clr_rules.specs.Calls.{are_subjects, is_server}
-use Rattle.clr_rules.specs.Needs.{IsAudit, broken_needs}
+use Rattle.clr_rules.specs.Needs.{Holds, BreaksNoMore, IsAudit, IsNewAudit, View, broken_needs, newly_broken_needs}
 use Rattle.clr_rules.specs.Sides.{Segment, is_of_side, are_of_sides, has_role_in, point_of}
 
 -- a content's broken needs are listed exactly, ascending, each once
 abbrev pub BrokenLaw : Type 0
 BrokenLaw = (rules : List Rule) (content : Content) → IsAudit rules (row_at content) (broken_needs rules content)
+
+-- the needs that one content breaks and another doesn't are listed exactly, ascending, each once
+abbrev pub NewlyBrokenLaw : Type 0
+NewlyBrokenLaw = (rules : List Rule) (before after : Content) → IsNewAudit rules (row_at before) (row_at after) (newly_broken_needs rules before after)
+
+-- where every rule holds before and nothing more is broken after, every rule holds after, and the newly broken needs are all that there are
+pub record WhereHeld (rules : List Rule) (before : Content) : Type 0 where
+  pub holds : (after : View) → BreaksNoMore rules (row_at before) after → Holds rules after
+  pub all : (after : Content) → newly_broken_needs rules before after ≡ broken_needs rules after
+
+abbrev pub HeldBeforeLaw : Type 0
+HeldBeforeLaw = (rules : List Rule) (before : Content) → Holds rules (row_at before) → WhereHeld rules before
 
 -- crossings ----------------------------------------------------------------------------------
 

@@ -4,14 +4,15 @@ use Rattle.std.specs.Prelude.{MatchOption, ⊤, Contains, map, filter, length, s
 use Rattle.std.specs.List.{list_any, flat_map}
 use Rattle.std.specs.List.Sorted.{IsStrictlySortedBy}
 use Rattle.std.specs.Option.{option_map, option_cmp}
-use Rattle.std.specs.Ordering.{nat_cmp, ordering_then, is_lt, is_gt}
+use Rattle.std.specs.Ordering.{nat_cmp, ordering_then, is_eq, is_lt, is_gt}
 use Rattle.std.specs.declared.cmp.Ordering.{Ordering}
 use Rattle.std.specs.declared.cmp.Ordering.TheVariants.{Less}
 use Rattle.std.specs.FinMap as finite
 use Rattle.clr_rows.specs.declared.cells.CellId.{CellId}
 use Rattle.clr_rows.specs.declared.rows.Row.{Row}
 use Rattle.clr_rows.specs.Cells.{cell_cmp}
-use Rattle.clr_rows.specs.Contents.{Content}
+use Rattle.clr_rows.specs.Contents.{Content, row_at}
+use Rattle.clr_rows.specs.Same.{same}
 use Rattle.clr_rows.specs.Held.{Held}
 use Rattle.clr_rules.specs.declared.needs.Ask.{Ask}
 use Rattle.clr_rules.specs.declared.needs.Broken.{Broken}
@@ -43,6 +44,16 @@ IsMet rules view ask first second = (server : Held) × Stands view server × (se
 -- every need of every rule is met
 abbrev pub Holds : List Rule → View → Type 0
 Holds rules view = (ask : Ask) (first : Held) (second : Option Held) → IsNeed rules view ask first second → IsMet rules view ask first second
+
+-- needs that are broken anew ------------------------------------------------------------------
+
+-- where the subjects stand and call the rule, some row that stands serves them
+abbrev pub IsKept : List Rule → View → Ask → Held → Option Held → Type 0
+IsKept rules view ask first second = IsNeed rules view ask first second → IsMet rules view ask first second
+
+-- the rows after break no need but those that the rows before break too, with the same subjects
+abbrev pub BreaksNoMore : List Rule → View → View → Type 0
+BreaksNoMore rules before after = (ask : Ask) (first : Held) (second : Option Held) → IsKept rules before ask first second → IsKept rules after ask first second
 
 -- broken needs -------------------------------------------------------------------------------
 
@@ -94,6 +105,30 @@ pub record IsAudit (rules : List Rule) (view : View) (list : List Broken) : Type
   pub exactly : (b : Broken) → Contains list b ↔ IsBroken rules view b
   pub first : IsFirstBroken rules view (slice_get list 0)
 
+-- a need that the rows after break, and the rows before don't
+pub record IsNewlyBroken (rules : List Rule) (before after : View) (b : Broken) : Type 0 where
+  pub first : Held
+  pub second : Option Held
+  pub need : IsNeed rules after (ask_of b) first second
+  pub unmet : IsMet rules after (ask_of b) first second → ⊥
+  pub kept : IsKept rules before (ask_of b) first second
+  pub named : b ≡ broken_at (ask_of b) first second
+
+-- a newly broken need that no other comes before
+pub record IsLeastNewlyBroken (rules : List Rule) (before after : View) (b : Broken) : Type 0 where
+  pub broken : IsNewlyBroken rules before after b
+  pub least : (c : Broken) → IsNewlyBroken rules before after c → is_gt (broken_cmp b c) ≡ false
+
+-- nothing more is broken where none is listed first, and else the first is the least
+abbrev pub IsFirstNewlyBroken : List Rule → View → View → Option Broken → Type 0
+IsFirstNewlyBroken rules before after first = MatchOption first (BreaksNoMore rules before after) (IsLeastNewlyBroken rules before after)
+
+-- exactly the newly broken needs, ascending, each once
+pub record IsNewAudit (rules : List Rule) (before after : View) (list : List Broken) : Type 0 where
+  pub ascending : IsStrictlySortedBy broken_cmp list
+  pub exactly : (b : Broken) → Contains list b ↔ IsNewlyBroken rules before after b
+  pub first : IsFirstNewlyBroken rules before after (slice_get list 0)
+
 -- broken needs, listed -----------------------------------------------------------------------
 
 -- the row at a greater cell
@@ -132,3 +167,20 @@ rows_in content = finite.entries content
 -- all broken needs of a content
 unfoldable pub broken_needs : List Rule → Content → List Broken
 broken_needs rules content = broken_below rules (length rules) (rows_in content)
+
+-- broken needs of one content that another hasn't --------------------------------------------
+
+-- the same row, or none, stands at the cell of a second subject, if there is one
+abbrev pub same_beside : Content → Content → Option CellId → Bool
+same_beside before after None = true
+same_beside before after (Some cell) = same (row_at before cell) (row_at after cell)
+
+-- a broken need is listed, too, for the content before, and both have the same rows at the cells of its subjects
+abbrev pub was_broken : List Rule → Content → Content → Broken → Bool
+was_broken rules before after b =
+    list_any (λ c. is_eq (broken_cmp c b)) (broken_needs rules before)
+    && (same (row_at before b.first) (row_at after b.first) && same_beside before after b.second)
+
+-- all needs that the content after breaks, and the content before doesn't
+unfoldable pub newly_broken_needs : List Rule → Content → Content → List Broken
+newly_broken_needs rules before after = filter (λ b. not (was_broken rules before after b)) (broken_needs rules after)

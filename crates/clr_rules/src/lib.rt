@@ -10,6 +10,8 @@
 //!   and `end_in` look at one side and one shape. Laws, among them `crossing_subjects_have_common_points` and
 //!   `crossing_servers_are_common_points`: a CROSSING is what its definition with shares of
 //!   segments says.
+//! - `newly_broken_needs_are_listed`: the needs that one content breaks, and another doesn't with the same rows, are listed exactly.
+//!   `newly_broken_needs_are_all_where_rules_held`: where every rule held before, these are all that are broken.
 #![tactic(auto)]
 
 mod books;
@@ -27,7 +29,8 @@ pub use books::{RuleBook, RuleFault};
 pub use columns::{Col, ColumnList};
 pub use laws::{
     broken_needs_are_listed, crossing_servers_are_common_points,
-    crossing_subjects_have_common_points, servers_have_roles, subjects_have_roles,
+    crossing_subjects_have_common_points, newly_broken_needs_are_all_where_rules_held,
+    newly_broken_needs_are_listed, servers_have_roles, subjects_have_roles,
 };
 pub use limits::{LEAST_DISTANCE, MOST_RULES, limits_of_books};
 pub use needs::{Ask, Broken};

@@ -1,9 +1,8 @@
 //! Scenes of members of LIVE or of a kept workspace.
 
 ghost use Rattle.std.specs.Prelude.{◌≡◌, ◌<◌, IfOk, length, map};
-ghost use Rattle.clr_rows.specs.Contents.{row_at};
-ghost use Rattle.clr_rules.specs.Needs.{Holds};
-ghost use Rattle.clr_foot.specs.Scenes.{IsReady, model_of};
+ghost use Rattle.clr_needs.specs.Settings.{DoChange};
+ghost use Rattle.clr_foot.specs.Scenes.{IsReady, model_of, setting_of};
 ghost use Rattle.clr_steps.specs.Quiet.{MergeSet};
 ghost use Rattle.clr_merge_sets.specs.MergeSetNames.{merge_set};
 ghost use Rattle.clr_merge_sets.specs.MergeSets.{AreOfMergeSet, AreParts, IsSceneOf};
@@ -14,7 +13,7 @@ use clr_call_test_kit::Memory;
 use clr_engine::{Broken, Office};
 use clr_foot::Scene;
 use clr_grid::{RowFinder, SpotIndex};
-use clr_merge_sets::{MergeSetParts, read_merge_set};
+use clr_merge_sets::{MergeSetParts, read_changes, read_merge_set};
 use clr_needs::SceneFault;
 use clr_rows::RowView;
 use clr_tree::View;
@@ -90,7 +89,8 @@ pub(crate) fn merge_set_lines(
     members: &[&str],
     memory: &mut Memory,
 ) -> Result<String, AllocError> {
-    match read_merge_set(alloc, office, root, &members) {
+    let changes = read_changes(alloc, office, &members)?;
+    match read_merge_set(alloc, office, root, &members, changes.as_slice()) {
         Ok(parts) => lines_of_parts(alloc, office, &parts, memory),
         Err(_) => Err(AllocError),
     }
@@ -141,7 +141,8 @@ pub(crate) fn are_independent(
     if usize::from(pair.0) >= members.len() || usize::from(pair.1) >= members.len() {
         return Err(AllocError);
     }
-    match read_merge_set(alloc, office, "LIVE", &members) {
+    let changes = read_changes(alloc, office, &members)?;
+    match read_merge_set(alloc, office, "LIVE", &members, changes.as_slice()) {
         Ok(parts) => { are_parts_independent(alloc, office, &parts, "LIVE", members, pair, memory) }
         Err(_) => Err(AllocError),
     }
@@ -154,7 +155,7 @@ fn first_broken_of_scene<V: RowView, F: RowFinder>(
 ) -> Result<Option<Broken>, AllocError>
     requires ready { IsReady F.settled (model_of V.content scene.now) }
     requires one { length (model_of V.content scene.now).sets ≡ 1 }
-    requires holds { Holds (model_of V.content scene.now).rules (row_at (model_of V.content scene.now).root) }
+    requires changes { DoChange (setting_of (model_of V.content scene.now)) }
 {
     memory.answer(|| scene.first_broken())
 }
@@ -171,7 +172,6 @@ fn first_broken_of_parts(
     requires parts { AreParts office.now (merge_set root.now (map (λ name. name.now) members.now)) parts.now }
     requires one { length members.now ≡ 1 }
 {
-    let _book = office.book();
     let _root = root;
     let _members = members;
     match scene_of(alloc, office, parts, memory) {
@@ -189,7 +189,8 @@ pub(crate) fn first_broken(
     memory: &mut Memory,
 ) -> Result<Option<Broken>, AllocError> {
     let members = [member];
-    match read_merge_set(alloc, office, root, &members.as_slice()) {
+    let changes = read_changes(alloc, office, &members.as_slice())?;
+    match read_merge_set(alloc, office, root, &members.as_slice(), changes.as_slice()) {
         Ok(parts) => first_broken_of_parts(alloc, office, &parts, root, &members, memory),
         Err(_) => Err(AllocError),
     }

@@ -9,10 +9,8 @@ use Rattle.clr_rows.specs.declared.places.Place.{Place}
 use Rattle.clr_rows.specs.declared.places.Shape.{Shape}
 use Rattle.clr_rows.specs.declared.places.Shape.TheVariants.{Bare, At, Line, Chain}
 use Rattle.clr_rows.specs.declared.rows.Value.{Value}
-use Rattle.clr_rows.specs.declared.rows.Value.TheVariants.{Int, Words}
 use Rattle.clr_rows.specs.declared.rows.Row.{Row}
 use Rattle.clr_rows.specs.declared.tables.Kind.{Kind}
-use Rattle.clr_rows.specs.declared.tables.Kind.TheVariants as kind
 use Rattle.clr_rows.specs.declared.tables.Form.{Form}
 use Rattle.clr_rows.specs.declared.tables.Form.TheVariants as form
 use Rattle.clr_rows.specs.declared.tables.TableDef.{TableDef}
@@ -26,6 +24,7 @@ use Rattle.clr_scripts.specs.declared.edits.Verb.TheVariants.{Insert, Update, De
 use Rattle.clr_records.specs.Decimals.{number_of}
 use Rattle.clr_readings.specs.Readings.{◌>>=◌, or_fault}
 use Rattle.clr_records.specs.Records.{field_of, at_record, in_turn}
+use Rattle.clr_records.specs.Values.{value_of_kind}
 use Rattle.clr_scripts.specs.Records.{records_or_fault}
 
 -- what an edit does, by the word that it begins with
@@ -61,8 +60,7 @@ can_have_fields Update table n = row_can_have_fields table n
 can_have_fields Delete table n = n == 3
 
 abbrev pub value_of : Kind → List ℕ → Result Value RecordFault
-value_of kind.Int text = whole_number text >>= λ n. Ok (Int n)
-value_of kind.Words text = Ok (Words text)
+value_of kind text = or_fault BadNumber (value_of_kind kind text)
 
 -- a value for each column, in the fields from a position on
 abbrev pub values_of : List (List ℕ × Kind) → List (List ℕ) → ℕ → Result (List Value) RecordFault

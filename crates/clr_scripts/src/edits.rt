@@ -11,7 +11,7 @@ ghost use Rattle.clr_scripts.specs.Edits.{value_of, values_of, verb_of, vertices
 use crate::faults::RecordFault;
 use crate::records::{records_in_text, with_number};
 use clr_change::{Edit, Edits};
-use clr_records::{field, read_number};
+use clr_records::{field, read_number, read_value};
 use clr_rows::{
     CellId, Form, Kind, LEAST_VERTICES, MOST_VERTICES, Place, Row, Schema, Shape, TableDef, Value,
     Values, Vertices, Words,
@@ -50,10 +50,7 @@ pub(crate) fn number(text: &str) -> Result<i64, RecordFault>
 fn value(alloc: Global, kind: Kind, text: &str) -> Result<Value, RecordFault>
     ensures { Gives record_lacks_memory (λ x. x) result (value_of kind text.now) }
 {
-    match kind {
-        Kind::Int => Ok(Value::Int(number(text)?)),
-        Kind::Words => Ok(Value::Words(Words::from_str(alloc, text)?)),
-    }
+    read_value(alloc, kind, text)?.ok_or(RecordFault::BadNumber)
 }
 
 /// Returns the values of a row, which are the fields from the fourth on.

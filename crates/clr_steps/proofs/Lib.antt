@@ -1,13 +1,16 @@
+pub mod ComparedLemmas
 pub mod EffectLemmas
 pub mod ExampleLemmas
 pub mod FindLemmas
 pub mod FirstLemmas
 pub mod FitLemmas
 pub mod KeptLemmas
+pub mod LiveLemmas
 pub mod MarkLemmas
 pub mod MemoryLemmas
 pub mod ModifyLemmas
 pub mod NeedLemmas
+pub mod NothingNew
 pub mod QuietLemmas
 pub mod RefusalLemmas
 pub mod RuleLemmas

@@ -12,7 +12,7 @@ use Rattle.clr_workspaces.specs.Workspaces.{Workspace}
 use Rattle.clr_steps.specs.Names.{is_live}
 use Rattle.clr_steps.specs.Offices.{Office, workspace, stands}
 use Rattle.clr_steps.specs.Effects.{edited_content, effect}
-use Rattle.clr_steps.specs.Refusals.{is_full, is_deep, when, first_of, bad_edit, in_conflict, edit_refusal, conflict, first_broken, broken_where, breaks}
+use Rattle.clr_steps.specs.Refusals.{is_full, is_deep, when, first_of, bad_edit, in_conflict, edit_refusal, conflict, first_newly_broken, broken_where, breaks, hold_breaks, refresh_breaks}
 use Rattle.clr_steps.specs.Refusals.{name_in, refusals_of, refusal_on, refusal}
 use Rattle.clr_steps.specs.Steps.{refused_or_done, step, is_lost}
 use Rattle.clr_steps.specs.Laws.{MemoryLaw}
@@ -38,13 +38,21 @@ of_first [] h = tt
 of_first (None ∷ rs) h = of_first rs h.1
 of_first (Some reply ∷ rs) h = h.0
 
-of_broken : (kept : Bool) (book : List Rule) (content : Content) → IsNoLoss (broken_where kept book content)
-of_broken true book content = of_map RuleBroken (λ b. refl) (first_broken book content)
-of_broken false book content = tt
+of_broken : (kept : Bool) (book : List Rule) (before content : Content) → IsNoLoss (broken_where kept book before content)
+of_broken true book before content = of_map RuleBroken (λ b. refl) (first_newly_broken book before content)
+of_broken false book before content = tt
 
 of_breaks : (o : Office) (n : _) (content : Content) → IsNoLoss (breaks o n content)
 unfolding breaks
-of_breaks o n content = of_broken _ o.book content
+of_breaks o n content = of_broken _ o.book _ content
+
+of_refresh : (o : Office) (w : Workspace) → IsNoLoss (refresh_breaks o w)
+unfolding refresh_breaks
+of_refresh o w = of_broken _ o.book _ _
+
+of_hold : (o : Office) (w : Workspace) → IsNoLoss (hold_breaks o w)
+unfolding hold_breaks
+of_hold o w = of_broken _ o.book _ _
 
 of_conflict : (o : Office) (w : Workspace) → IsNoLoss (conflict o w)
 unfolding conflict
@@ -63,10 +71,10 @@ of_workspace o w (command.Mark n s) = (of_when _ _ refl, (of_when _ _ refl, (of_
 of_workspace o w (command.Unmark n s) = (of_when _ _ refl, tt)
 of_workspace o w (command.RollTo n s) = (of_when _ _ refl, (of_when _ _ refl, (of_breaks o _ _, tt)))
 of_workspace o w (command.RollAll n) = (of_when _ _ refl, (of_breaks o _ _, tt))
-of_workspace o w (command.Refresh n) = (of_conflict o w, (of_breaks o _ _, tt))
+of_workspace o w (command.Refresh n) = (of_conflict o w, (of_refresh o w, tt))
 of_workspace o w (command.Merge n gone) = (of_when _ _ refl, (of_conflict o w, (of_breaks o _ _, tt)))
 of_workspace o w (command.Resolve n cell keep) = (of_when _ _ refl, (of_breaks o _ _, tt))
-of_workspace o w (command.Hold n) = (of_broken _ o.book w.current, tt)
+of_workspace o w (command.Hold n) = (of_hold o w, tt)
 of_workspace o w (command.Release n) = tt
 
 below_live : (o : Office) (c : Command) → IsNoLoss (refusal_on o c)

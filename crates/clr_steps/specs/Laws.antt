@@ -1,17 +1,23 @@
 -- What holds of steps by their definitions, whatever the code does.
-use Rattle.std.specs.Prelude.{◌≡◌, ◌↔◌, true, false, List, [], ◌∷◌, ◌++◌, Option, Some, None, is_some}
+use Rattle.std.specs.Prelude.{◌≡◌, ◌↔◌, true, false, List, [], ◌∷◌, ◌++◌, Option, Some, None, if◌then◌else◌, is_some}
+use Rattle.std.specs.Option.{option_map_or}
 use Rattle.clr_rows.specs.declared.tables.TableDef.{TableDef}
+use Rattle.clr_rows.specs.Contents.{Content, no_rows, row_at}
 use Rattle.clr_rules.specs.declared.rules.Rule.{Rule}
+use Rattle.clr_rows.specs.Held.{Held}
+use Rattle.clr_rules.specs.declared.needs.Ask.{Ask}
+use Rattle.clr_rules.specs.Needs.{BreaksNoMore, IsKept, View}
 use Rattle.clr_workspaces.specs.Marks.{Name}
 use Rattle.clr_workspaces.specs.Workspaces.{Workspace, find}
 use Rattle.clr_workspaces.specs.Soundness.{IsSound}
 use Rattle.clr_steps.specs.declared.commands.Command.{Command}
+use Rattle.clr_steps.specs.declared.commands.Command.TheVariants as command
 use Rattle.clr_steps.specs.declared.commands.Reply.{Reply}
 use Rattle.clr_steps.specs.declared.commands.Reply.TheVariants.{Done, OutOfMemory}
-use Rattle.clr_steps.specs.Names.{is_live}
+use Rattle.clr_steps.specs.Names.{is_live, same_name}
 use Rattle.clr_steps.specs.Offices.{Office, office_of, workspace, stands, content_of, is_kept}
 use Rattle.clr_steps.specs.Effects.{effect}
-use Rattle.clr_steps.specs.Refusals.{refusal, depth}
+use Rattle.clr_steps.specs.Refusals.{above_or, refusal, depth}
 use Rattle.clr_steps.specs.Positions.{is_top, below_top, content_at, kept_at, depth_at, refusal_at, effect_at}
 use Rattle.clr_steps.specs.Steps.{refused_or_done, step, is_lost, IsAnswer, AreAnswers, run, lost_in}
 use Rattle.clr_steps.specs.Invariants.{HoldsWhereKept, OfficeFits, first_unheld}
@@ -76,6 +82,47 @@ SchemaLaw = (o : Office) (c : Command) → ((step o c).office.schema ≡ o.schem
 -- a step leaves every rule holding where it is to hold
 abbrev pub RulesLaw : Type 0
 RulesLaw = (o : Office) (c : Command) → HoldsWhereKept o → HoldsWhereKept (step o c).office
+
+-- rows break no need that none of the kept contents of an office breaks, with the same rows
+abbrev pub BreaksNoMoreThanKept : Office → View → Type 0
+BreaksNoMoreThanKept o view = (ask : Ask) (first : Held) (second : Option Held)
+    → ((name : Name) → is_kept o name ≡ true → IsKept o.book (row_at (content_of o name)) ask first second)
+    → IsKept o.book view ask first second
+
+-- what is broken in LIVE or a kept workspace after a step was broken in one of them before, with the same rows
+abbrev pub KeptLaw : Type 0
+KeptLaw = (o : Office) (c : Command) (name : Name) → is_kept (step o c).office name ≡ true
+    → BreaksNoMoreThanKept o (row_at (content_of (step o c).office name))
+
+-- a step breaks no need in LIVE but those that are broken there already, with the same rows
+abbrev pub LiveLaw : Type 0
+LiveLaw = (o : Office) (c : Command) → BreaksNoMore o.book (row_at o.live) (row_at (step o c).office.live)
+
+-- the content with which that of a workspace after a command is compared: after a refresh of it, what its parent has, if that is kept; after hold the same,
+-- or else no rows; and what it had itself, if it was kept, and after every other command
+abbrev pub compared_with : Office → Command → Name → Content
+compared_with o (command.Refresh n) name =
+    if same_name n name then option_map_or (λ w. above_or o w w.current) (workspace o name) no_rows else content_of o name
+compared_with o (command.Hold n) name =
+    if same_name n name then option_map_or (λ w. if w.kept then w.current else above_or o w no_rows) (workspace o name) no_rows else content_of o name
+compared_with o _ name = content_of o name
+
+-- after a command that isn't refused a kept content breaks no need but those that the content breaks with which it is compared, with the same rows
+abbrev pub ComparedLaw : Type 0
+ComparedLaw = (o : Office) (c : Command) (name : Name) → refusal o c ≡ None → is_kept (step o c).office name ≡ true
+    → BreaksNoMore o.book (row_at (compared_with o c name)) (row_at (content_of (step o c).office name))
+
+-- an office after commands breaks nothing that wasn't broken before, with the same rows: LIVE no need but those that LIVE broke, and a kept workspace no
+-- need that no kept content broke; where every rule held where it is to hold, it goes on holding there
+pub record BreaksNothingNew (before after : Office) : Type 0 where
+  pub book : after.book ≡ before.book
+  pub rules : HoldsWhereKept before → HoldsWhereKept after
+  pub live : BreaksNoMore before.book (row_at before.live) (row_at after.live)
+  pub kept : (name : Name) → is_kept after name ≡ true → BreaksNoMoreThanKept before (row_at (content_of after name))
+
+-- commands break nothing new, whatever they are answered
+abbrev pub NothingNewLaw : Type 0
+NothingNewLaw = (o : Office) (commands : List Command) (replies : List Reply) (left : Office) → AreAnswers o commands replies left → BreaksNothingNew o left
 
 -- every rule holds where it is to hold exactly where no workspace of the tree is unheld
 abbrev pub UnheldLaw : Type 0

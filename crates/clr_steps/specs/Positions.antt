@@ -49,6 +49,10 @@ depth_at ws position = option_map_or (depth_of ws) position 0
 abbrev pub has_child_at : List Workspace → ℕ → Bool
 has_child_at ws at = nat_lt 0 (children_of ws (workspace_at ws at).name)
 
+-- the content of the parent where every rule is to hold in it, or else this content
+abbrev pub above_or_at : List Workspace → ℕ → Content → Content
+above_or_at ws at content = if kept_at ws (parent_of ws at) then content_at ws (parent_of ws at) else content
+
 -- refusals ------------------------------------------------------------------------------------------------
 
 -- the refusals of a command on the workspace at a position under LIVE, in order
@@ -66,27 +70,27 @@ refusals_at book ws at (command.RollTo name savepoint) =
     let position = find_mark w.marks savepoint in
     when (is_none position) NoSavepoint
     ∷ when (option_map_or (is_held w.marks) position false) SavepointHeld
-    ∷ broken_where w.kept book (rolled_content w savepoint)
+    ∷ broken_where w.kept book w.current (rolled_content w savepoint)
     ∷ []
 refusals_at book ws at (command.RollAll name) =
     let w = workspace_at ws at in
-    when (has_child_at ws at) NotLeaf ∷ broken_where w.kept book w.base ∷ []
+    when (has_child_at ws at) NotLeaf ∷ broken_where w.kept book w.current w.base ∷ []
 refusals_at book ws at (command.Refresh name) =
     let w = workspace_at ws at in
     let above = content_at ws (parent_of ws at) in
-    conflict_with above w ∷ broken_where w.kept book (taken_over above (own_changes w)) ∷ []
+    conflict_with above w ∷ broken_where w.kept book (above_or_at ws at w.current) (taken_over above (own_changes w)) ∷ []
 refusals_at book ws at (command.Merge name remove) =
     let w = workspace_at ws at in
     let above = content_at ws (parent_of ws at) in
     when (remove && has_child_at ws at) NotLeaf
     ∷ conflict_with above w
-    ∷ broken_where (kept_at ws (parent_of ws at)) book (taken_over above (own_changes w))
+    ∷ broken_where (kept_at ws (parent_of ws at)) book above (taken_over above (own_changes w))
     ∷ []
 refusals_at book ws at (command.Resolve name cell keep) =
     let w = workspace_at ws at in
     let above = content_at ws (parent_of ws at) in
-    when (not (is_in_conflict_with above w cell)) NotInConflict ∷ broken_where w.kept book (keep_row cell keep above w).current ∷ []
-refusals_at book ws at (command.Hold name) = let w = workspace_at ws at in broken_where (not w.kept) book w.current ∷ []
+    when (not (is_in_conflict_with above w cell)) NotInConflict ∷ broken_where w.kept book w.current (keep_row cell keep above w).current ∷ []
+refusals_at book ws at (command.Hold name) = let w = workspace_at ws at in broken_where (not w.kept) book (above_or_at ws at no_rows) w.current ∷ []
 refusals_at book ws at _ = []
 
 -- the refusal of a command where the position is none, LIVE's, or one under LIVE
@@ -110,7 +114,7 @@ refusal_at schema book ws (command.Apply name edits) =
     first_of (
     when (is_none position) NoWorkspace
     ∷ option_map bad_edit (first_bad_edit schema content 1 edits)
-    ∷ broken_where (kept_at ws position) book (after_edits content edits)
+    ∷ broken_where (kept_at ws position) book content (after_edits content edits)
     ∷ []
     )
 refusal_at schema book ws c = refusal_below (find ws (name_in c)) (λ at. refusals_at book ws at c)

@@ -4,14 +4,14 @@ use Rattle.std.specs.Prelude.{[], ◌∷◌, Option, Some, None, if◌then◌els
 use Rattle.std.specs.List.{list_any}
 use Rattle.std.specs.Option.{option_or, option_map, option_map_or}
 use Rattle.clr_rows.specs.declared.cells.CellId.{CellId}
-use Rattle.clr_rows.specs.Contents.{Content, is_changed, change_of, is_conflict, conflicts, least_and_count}
+use Rattle.clr_rows.specs.Contents.{Content, no_rows, is_changed, change_of, is_conflict, conflicts, least_and_count}
 use Rattle.clr_rows.specs.Names.{is_good_name}
 use Rattle.clr_change.specs.declared.edits.Edit.{Edit}
 use Rattle.clr_change.specs.declared.edits.EditFault.{EditFault}
 use Rattle.clr_change.specs.Edits.{first_bad_edit}
 use Rattle.clr_rules.specs.declared.needs.Broken.{Broken}
 use Rattle.clr_rules.specs.declared.rules.Rule.{Rule}
-use Rattle.clr_rules.specs.Needs.{broken_needs}
+use Rattle.clr_rules.specs.Needs.{broken_needs, newly_broken_needs}
 use Rattle.clr_workspaces.specs.Marks.{find_mark, is_held, saved_count, Name}
 use Rattle.clr_workspaces.specs.Workspaces.{Workspace}
 use Rattle.clr_workspaces.specs.Operations.{own_changes}
@@ -84,13 +84,30 @@ is_in_conflict o w cell = is_in_conflict_with (content_of o w.parent) w cell
 unfoldable pub first_broken : List Rule → Content → Option Broken
 first_broken book content = slice_get (broken_needs book content) 0
 
--- where every rule is to hold, the least need that the content breaks
-abbrev pub broken_where : Bool → List Rule → Content → Option Reply
-broken_where kept book content = if kept then option_map RuleBroken (first_broken book content) else None
+-- the least need that a content breaks, and the content before doesn't
+unfoldable pub first_newly_broken : List Rule → Content → Content → Option Broken
+first_newly_broken book before content = slice_get (newly_broken_needs book before content) 0
 
--- the least need that a content breaks, where it would stand in LIVE or a workspace that is kept
+-- where every rule is to hold, the least need that the content breaks, and the content before doesn't
+abbrev pub broken_where : Bool → List Rule → Content → Content → Option Reply
+broken_where kept book before content = if kept then option_map RuleBroken (first_newly_broken book before content) else None
+
+-- the least need that a content would break anew in LIVE or a workspace that is kept
 unfoldable pub breaks : Office → Name → Content → Option Reply
-breaks o name content = broken_where (is_kept o name) o.book content
+breaks o name content = broken_where (is_kept o name) o.book (content_of o name) content
+
+-- the content of the parent where every rule is to hold in it, or else this content
+abbrev pub above_or : Office → Workspace → Content → Content
+above_or o w content = if is_kept o w.parent then content_of o w.parent else content
+
+-- the least need that a refresh would break anew in a workspace that is kept: the parent, where it is kept, doesn't break it, and else the workspace
+-- doesn't now
+unfoldable pub refresh_breaks : Office → Workspace → Option Reply
+refresh_breaks o w = broken_where (is_kept o w.name) o.book (above_or o w w.current) (merged_content o w)
+
+-- the least need that is broken in a workspace that isn't kept yet: the parent, where it is kept, doesn't break it
+unfoldable pub hold_breaks : Office → Workspace → Option Reply
+hold_breaks o w = broken_where (not w.kept) o.book (above_or o w no_rows) w.current
 
 -- refusals ---------------------------------------------------------------------------------------------
 
@@ -109,10 +126,10 @@ refusals_of o w (command.RollTo ws name) =
     ∷ breaks o w.name (rolled_content w name)
     ∷ []
 refusals_of o w (command.RollAll ws) = when (has_child o w.name) NotLeaf ∷ breaks o w.name w.base ∷ []
-refusals_of o w (command.Refresh ws) = conflict o w ∷ breaks o w.name (merged_content o w) ∷ []
+refusals_of o w (command.Refresh ws) = conflict o w ∷ refresh_breaks o w ∷ []
 refusals_of o w (command.Merge ws remove) = when (remove && has_child o w.name) NotLeaf ∷ conflict o w ∷ breaks o w.parent (merged_content o w) ∷ []
 refusals_of o w (command.Resolve ws cell keep) = when (not (is_in_conflict o w cell)) NotInConflict ∷ breaks o w.name (resolved_content o w cell keep) ∷ []
-refusals_of o w (command.Hold ws) = broken_where (not w.kept) o.book w.current ∷ []
+refusals_of o w (command.Hold ws) = hold_breaks o w ∷ []
 refusals_of o w _ = []
 
 -- the name of the workspace that a command is on; for Create it is the parent's

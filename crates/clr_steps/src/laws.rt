@@ -1,7 +1,7 @@
 //! Laws of steps, each proved by a function that does nothing.
 
 ghost use Rattle.clr_steps.specs.Examples.{LevelExample, NameExample, RollExample, SavepointExample};
-ghost use Rattle.clr_steps.specs.Laws.{AnswerLaw, EffectLaw, FitLaw, MemoryLaw, MoreLaw, NameLaw};
+ghost use Rattle.clr_steps.specs.Laws.{AnswerLaw, ComparedLaw, EffectLaw, FitLaw, KeptLaw, LiveLaw, MemoryLaw, MoreLaw, NameLaw, NothingNewLaw};
 ghost use Rattle.clr_steps.specs.Laws.{QuietLaw, RefusalLaw, RulesLaw, RunLaw, SchemaLaw, StepLaw, UnheldLaw};
 ghost use Rattle.clr_steps.specs.WorkspaceLaws.{ConflictLaw, ChangesAfterMergeLaw, ChangesAfterRefreshLaw, ResolveLaw, RollAllLaw};
 
@@ -27,11 +27,19 @@ pub fn answers_make_a_run()
 {}
 
 /// No command changes the schema or the rules. Where every rule holds in LIVE and in each workspace
-/// that is kept, this is so after each command. Where each row fits the schema, also in the base
-/// and the savepoints of each workspace, this is so after each command.
+/// that is kept, this is so after each command. No command breaks a need in LIVE but those that are
+/// broken there already, with the same rows: so no new error comes in, and what is mended stays
+/// mended. A kept workspace breaks no more than it broke itself, or after its refresh and `hold` than
+/// its parent, if that is kept. So what LIVE or a kept workspace breaks, one of them broke before. This is
+/// so of lists of commands too, also of those that find no memory. Where each row fits the schema,
+/// also in the base and the savepoints of each workspace, this is so after each command.
 pub fn steps_keep_offices_sound()
     ensures schema { SchemaLaw }
     ensures rules { RulesLaw }
+    ensures live { LiveLaw }
+    ensures kept { KeptLaw }
+    ensures compared { ComparedLaw }
+    ensures nothing_new { NothingNewLaw }
     ensures fit { FitLaw }
 {}
 

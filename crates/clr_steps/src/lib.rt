@@ -5,8 +5,9 @@
 //!
 //! - `steps_by_position`: for all twelve commands, a command by name is the operation of the tree
 //!   by position.
-//! - `steps_keep_offices_sound`: every rule goes on holding in LIVE and in each kept workspace;
-//!   rows go on fitting.
+//! - `steps_keep_offices_sound`: every rule goes on holding in LIVE and in each kept workspace, if
+//!   it held there; what LIVE breaks after a step it broke before, with the same rows, and what any
+//!   kept content breaks, one of them broke before; rows go on fitting.
 //! - `quiet_commands_leave_the_merge_set`: a quiet command that is no merge or refresh of a member
 //!   leaves the root and the members.
 //! - `answers_make_a_run`, `none_is_unheld_where_rules_hold`, `changes_after_commands` and

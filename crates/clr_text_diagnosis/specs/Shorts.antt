@@ -3,8 +3,8 @@ use Rattle.std.specs.Prelude.{◌≡◌, ℕ, List}
 use Rattle.clr_rows.specs.declared.tables.TableDef.{TableDef}
 use Rattle.clr_cert.specs.declared.faults.CertFault.{CertFault}
 use Rattle.clr_rule_text.specs.declared.faults.TextFault.{TextFault}
-use Rattle.clr_fault_lines.specs.FaultLines.{short_line}
-use Rattle.clr_fault_lines.specs.declared.remarks.Remark.{Remark}
+use Rattle.clr_text_positions.specs.FaultLines.{short_line}
+use Rattle.clr_text_positions.specs.declared.remarks.Remark.{Remark}
 use Rattle.clr_text_diagnosis.specs.Whys.{IsRemarkedCertificateFault, IsRemarkedOfficeFault}
 
 -- the file, the line, the column and the sentence of a remark on the fault that the text has

@@ -11,13 +11,13 @@ use Rattle.clr_engine.specs.Drafts.{unheld_in}
 use Rattle.clr_office_texts.specs.Drafts.{draft_in}
 use Rattle.clr_office_reading.specs.Offices.{office_in}
 use Rattle.clr_rule_text.specs.declared.faults.TextFault.{TextFault}
-use Rattle.clr_fault_lines.specs.FaultLines.{AreFaultLines}
-use Rattle.clr_fault_lines.specs.declared.remarks.Remark.{Remark}
+use Rattle.clr_text_positions.specs.FaultLines.{AreFaultLines}
+use Rattle.clr_text_positions.specs.declared.remarks.Remark.{Remark}
 use Rattle.clr_explanations.specs.FaultWords.{office_fault_words}
 use Rattle.clr_explanations.specs.Remarks.{IsOfficeRemark}
 use Rattle.clr_explanations.specs.Standing.{IsStandingRemark}
 use Rattle.clr_record_explanations.specs.FaultWords.{certificate_fault_words, script_fault_words}
-use Rattle.clr_record_explanations.specs.RecordRemarks.{IsRecordRemark}
+use Rattle.clr_record_explanations.specs.RecordRemarks.{IsCertificateRemark, IsScriptRemark}
 use Rattle.clr_text_diagnosis.specs.Needs.{unheld_lines}
 use Rattle.clr_text_diagnosis.specs.declared.whys.Why.{Why}
 use Rattle.clr_text_diagnosis.specs.declared.whys.Why.TheVariants.{NoFault, Unheld, Faulty}
@@ -34,10 +34,11 @@ IsRemarkedOfficeFault text e remark = (draft_in text ≡ Err e) × IsRemark text
 
 -- the fault of a script over a schema, and a remark on its record
 abbrev pub IsRemarkedScriptFault : List TableDef → List ℕ → RecordFault → Remark → Type 0
-IsRemarkedScriptFault tables text e remark = (number : ℕ) × (script_in_text tables text ≡ Err (number, e)) × IsRecordRemark text number remark
+IsRemarkedScriptFault tables text e remark = (number : ℕ) × (script_in_text tables text ≡ Err (number, e)) × IsScriptRemark tables text number e remark
 
 abbrev pub IsRemarkedCertificateFault : List TableDef → List ℕ → CertFault → Remark → Type 0
-IsRemarkedCertificateFault tables text e remark = (number : ℕ) × (certificate_in tables text ≡ Err (number, e)) × IsRecordRemark text number remark
+IsRemarkedCertificateFault tables text e remark =
+    (number : ℕ) × (certificate_in tables text ≡ Err (number, e)) × IsCertificateRemark tables text number e remark
 
 -- lines --------------------------------------------------------------------------------------
 

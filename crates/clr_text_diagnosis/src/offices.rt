@@ -8,8 +8,8 @@ use crate::needs::unheld_lines;
 use crate::whys::Why;
 use clr_engine::{AdmitFault, Draft};
 use clr_explanations::{OfficeFault, explain_office, explain_standing, office_fault_words};
-use clr_fault_lines::fault_lines;
 use clr_office_texts::{TextFault, read_office};
+use clr_text_positions::fault_lines;
 use std::alloc::{AllocError, Global};
 
 /// Returns the fault of the workspaces of a text that can be read, and what is said of it, or none where

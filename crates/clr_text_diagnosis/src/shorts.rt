@@ -2,15 +2,15 @@
 ghost use Rattle.std.specs.Prelude.{◌≡◌, Err, IfNone, IfOk, IfSome, IsOk};
 ghost use Rattle.clr_cert.specs.Certificates.{certificate_in};
 ghost use Rattle.clr_office_texts.specs.Drafts.{draft_in};
-ghost use Rattle.clr_record_explanations.specs.RecordRemarks.{IsRecordRemark};
+ghost use Rattle.clr_record_explanations.specs.RecordRemarks.{IsCertificateRemark};
 ghost use Rattle.clr_text_diagnosis.specs.Shorts.{IsShortCertificateFault, IsShortOfficeFault};
 ghost use Rattle.clr_text_diagnosis.specs.Whys.{IsRemarkedOfficeFault};
 
 use crate::offices::draft_or_fault;
 use clr_explanations::OfficeFault;
-use clr_fault_lines::short_line;
 use clr_record_explanations::{ExplainedCertificateFault, explain_certificate};
 use clr_rows::Schema;
+use clr_text_positions::short_line;
 use std::alloc::{AllocError, Global};
 
 /// Returns the line of the fault of an office text.
@@ -36,7 +36,7 @@ fn certificate_line(
     found: &ExplainedCertificateFault,
 ) -> Result<Vec<u8>, AllocError>
     requires told { certificate_in schema.now text.now ≡ Err (found.now.number, found.now.fault) }
-    requires at { IsRecordRemark text.now found.now.number found.now.remark }
+    requires at { IsCertificateRemark schema.now text.now found.now.number found.now.fault found.now.remark }
     ensures { IfOk result (λ line. IsShortCertificateFault schema.now text.now file.now line.items) }
 {
     let _schema = schema;

@@ -2,19 +2,19 @@
 ghost use Rattle.std.specs.Prelude.{◌≡◌, Err, IfOk, Ok};
 ghost use Rattle.clr_cert.specs.Certificates.{certificate_in};
 ghost use Rattle.clr_office_texts.specs.Drafts.{draft_in};
-ghost use Rattle.clr_record_explanations.specs.RecordRemarks.{IsRecordRemark};
+ghost use Rattle.clr_record_explanations.specs.RecordRemarks.{IsCertificateRemark, IsScriptRemark};
 ghost use Rattle.clr_scripts.specs.Scripts.{script_in_text};
 ghost use Rattle.clr_text_diagnosis.specs.Whys.{AreCertificateLines, AreScriptLines, IsCertificateWhy, IsScriptWhy};
 
 use crate::offices::{draft_or_fault, office_lines};
 use crate::whys::Why;
 use clr_engine::Draft;
-use clr_fault_lines::fault_lines;
 use clr_record_explanations::{
     ExplainedCertificateFault, ExplainedScriptFault, certificate_fault_words, explain_certificate,
     explain_script, script_fault_words,
 };
 use clr_rows::Schema;
+use clr_text_positions::fault_lines;
 use std::alloc::{AllocError, Global};
 
 /// Returns the lines of the fault of a script.
@@ -25,7 +25,7 @@ fn script_lines(
     found: &ExplainedScriptFault,
 ) -> Result<Vec<u8>, AllocError>
     requires told { script_in_text schema.now text.now ≡ Err (found.now.number, found.now.fault) }
-    requires at { IsRecordRemark text.now found.now.number found.now.remark }
+    requires at { IsScriptRemark schema.now text.now found.now.number found.now.fault found.now.remark }
     ensures { IfOk result (λ lines. AreScriptLines schema.now text.now lines.items) }
 {
     let _schema = schema;
@@ -41,7 +41,7 @@ fn certificate_lines(
     found: &ExplainedCertificateFault,
 ) -> Result<Vec<u8>, AllocError>
     requires told { certificate_in schema.now text.now ≡ Err (found.now.number, found.now.fault) }
-    requires at { IsRecordRemark text.now found.now.number found.now.remark }
+    requires at { IsCertificateRemark schema.now text.now found.now.number found.now.fault found.now.remark }
     ensures { IfOk result (λ lines. AreCertificateLines schema.now text.now lines.items) }
 {
     let _schema = schema;

@@ -4,7 +4,7 @@ use crate::networks::schema;
 use crate::questions::check;
 use crate::texts::unfold;
 use clr_cert::CertFault;
-use clr_record_faults::{Role, find_certificate_fault, find_script_fault};
+use clr_record_explanations::{Role, find_certificate_fault, find_script_fault};
 use clr_scripts::RecordFault;
 use csv::StringRecord;
 use std::alloc::Global;

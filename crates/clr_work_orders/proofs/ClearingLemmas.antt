@@ -14,11 +14,12 @@ use Rattle.clr_clearance.proofs.NameLemmas.{has_is}
 use Rattle.clr_clearance.proofs.PlanLemmas.{safe_order}
 use Rattle.clr_clearance.proofs.RefusedLemmas.{names_part}
 use Rattle.clr_merge_sets.specs.MergeSetNames.{merge_set}
-use Rattle.clr_plan.specs.declared.plans.Plan.{Plan}
-use Rattle.clr_plan.specs.declared.plans.Plan.TheVariants as plan
+use Rattle.clr_merge_sets.specs.declared.plans.Plan.{Plan}
+use Rattle.clr_merge_sets.specs.declared.plans.Plan.TheVariants as plan
 use Rattle.clr_plan.specs.OnePlan.{AreAlike}
 use Rattle.clr_plan.specs.Plans.{IsPlan}
-use Rattle.clr_plan.specs.Promises.{IsRefusedOrder, Promises, is_cleared, is_out_of_memory}
+use Rattle.clr_merge_sets.specs.Plans.{is_cleared, is_out_of_memory}
+use Rattle.clr_plan.specs.Promises.{IsRefusedOrder, Promises}
 use Rattle.clr_plan.proofs.OnePlanLemmas.{one_plan}
 use Rattle.clr_plan.proofs.PromiseLaws.{promise_law}
 use Rattle.clr_work_orders.specs.Making.{is_blocked}
@@ -63,11 +64,11 @@ module _ (o : Office) (s : MergeSet) where
   part_blocked part plan.OutOfMemory within promised e = absurd (false≢true e)
 
   -- no plan is cleared where an order is refused
-  pub told_refused : HoldsWhereKept o → HasRefusedOrder o s → TellsIfCleared o s false
-  told_refused holds (order, is) = record { told = not_cleared; reason = inr (order, is) }
+  pub told_refused : HasRefusedOrder o s → TellsIfCleared o s false
+  told_refused (order, is) = record { told = not_cleared; reason = inr (order, is) }
     where
       not_cleared : (p : Plan) → IsPlan o s p → is_out_of_memory p ≡ false → false ≡ is_cleared p
-      not_cleared (plan.Cleared c) h found = absurd (is.unsafe (promise_law o s (plan.Cleared c) holds h).safe)
+      not_cleared (plan.Cleared c) h found = absurd (is.unsafe (promise_law o s (plan.Cleared c) h).safe)
       not_cleared (plan.Blocked others cause) h found = refl
       not_cleared (plan.Unfit v) h found = refl
       not_cleared plan.OutOfMemory h found = refl

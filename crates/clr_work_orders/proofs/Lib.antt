@@ -3,6 +3,5 @@ pub mod FreeKeys
 pub mod KeyLemmas
 pub mod RemedyLemmas
 pub mod Savepoints
-pub mod SentenceLemmas
 pub mod SuspectLemmas
 pub mod TrialLemmas

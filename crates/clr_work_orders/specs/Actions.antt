@@ -6,10 +6,10 @@ use Rattle.clr_rows.specs.declared.tables.TableDef.{TableDef}
 use Rattle.clr_change.specs.declared.edits.Edit.{Edit}
 use Rattle.clr_change.specs.declared.edits.Edit.TheVariants as edit
 use Rattle.clr_workspaces.specs.Marks.{Name}
-use Rattle.clr_lines.specs.Verdicts.{member_name}
+use Rattle.clr_member_changes.specs.Names.{member_name}
 use Rattle.clr_phrases.specs.Places.{place_text}
+use Rattle.clr_plan_sentences.specs.Labels.{cell_label}
 use Rattle.clr_work_orders.specs.declared.actions.Action.{Action}
-use Rattle.clr_work_orders.specs.Labels.{cell_label}
 use Rattle.clr_work_orders.specs.declared.actions.Action.TheVariants as action
 
 -- where a row is brought

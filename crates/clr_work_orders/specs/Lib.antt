@@ -1,9 +1,7 @@
 pub mod Actions
 pub mod Keys
-pub mod Labels
 pub mod Laws
 pub mod Making
 pub mod Remedies
-pub mod Sentences
 pub mod Trials
 pub mod WorkOrders

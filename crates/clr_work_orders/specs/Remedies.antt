@@ -28,18 +28,17 @@ use Rattle.clr_steps.specs.Quiet.{MergeSet}
 use Rattle.clr_clearance.specs.MergeSets.{change_sets}
 use Rattle.clr_clearance.specs.declared.verdicts.Verdict.{Verdict}
 use Rattle.clr_clearance.specs.declared.verdicts.Verdict.TheVariants as verdict
-use Rattle.clr_lines.specs.Verdicts.{member_name}
-use Rattle.clr_plan.specs.declared.plans.Plan.{Plan}
-use Rattle.clr_plan.specs.declared.plans.Plan.TheVariants as plan
+use Rattle.clr_member_changes.specs.Names.{member_name}
+use Rattle.clr_merge_sets.specs.declared.plans.Plan.{Plan}
+use Rattle.clr_merge_sets.specs.declared.plans.Plan.TheVariants as plan
 use Rattle.clr_phrases.specs.declared.meetings.Meeting.{Meeting}
 use Rattle.clr_phrases.specs.declared.meetings.Meeting.TheVariants as meeting
-use Rattle.clr_plan_sentences.specs.declared.servers.ServerChange.{ServerChange}
-use Rattle.clr_plan_sentences.specs.NeedPlaces.{rule_in}
-use Rattle.clr_plan_sentences.specs.Servers.{server_changes}
-use Rattle.clr_plan_sentences.specs.Versions.{set_row}
+use Rattle.clr_serving_rows.specs.declared.servers.ServerChange.{ServerChange}
+use Rattle.clr_serving_rows.specs.NeedPlaces.{IsPlaceIn, rule_in}
+use Rattle.clr_serving_rows.specs.Servers.{server_changes}
+use Rattle.clr_member_changes.specs.Versions.{set_row}
 use Rattle.clr_work_orders.specs.declared.actions.Action.{Action}
 use Rattle.clr_work_orders.specs.declared.actions.Action.TheVariants as action
-use Rattle.clr_work_orders.specs.Labels.{IsPlaceOfCause}
 use Rattle.clr_work_orders.specs.Keys.{all_names, greatest_key, key_among}
 
 -- a row is given up -----------------------------------------------------------------------------------
@@ -135,6 +134,11 @@ for_cause o s sets order place _ = []
 -- one of several members is left out
 abbrev pub leaving_out : MergeSet → List ℕ → List Action
 leaving_out s order = if nat_lt 1 (length s.members) then map action.LeaveOut order else []
+
+-- where a row that serves the need of a cause would have to stand; another cause asks for no place
+abbrev pub IsPlaceOfCause : Office → MergeSet → Verdict → Meeting → Type 0
+IsPlaceOfCause o s (verdict.Uncovered need) place = IsPlaceIn o s need place
+IsPlaceOfCause o s _ place = place ≡ meeting.NoParts
 
 -- what may clear members that are blocked in this order for this cause: it is taken away, or a member left out
 abbrev pub AreForCause : Office → MergeSet → List Changes → List ℕ → Verdict → List Action → Type 0

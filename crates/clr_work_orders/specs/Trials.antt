@@ -13,9 +13,10 @@ use Rattle.clr_steps.specs.Steps.{answer, step}
 use Rattle.clr_clearance.specs.declared.verdicts.Verdict.{Verdict}
 use Rattle.clr_clearance.specs.Plans.{IsUnfit}
 use Rattle.clr_merge_sets.specs.MergeSetNames.{merge_set}
-use Rattle.clr_plan.specs.declared.plans.Plan.{Plan}
+use Rattle.clr_merge_sets.specs.declared.plans.Plan.{Plan}
 use Rattle.clr_plan.specs.Plans.{IsPlan}
-use Rattle.clr_plan.specs.Promises.{IsExact, IsRefusedOrder, Promises, is_cleared, is_out_of_memory}
+use Rattle.clr_merge_sets.specs.Plans.{is_cleared, is_out_of_memory}
+use Rattle.clr_plan.specs.Promises.{IsExact, IsRefusedOrder, Promises}
 use Rattle.clr_work_orders.specs.declared.actions.Action.{Action}
 use Rattle.clr_work_orders.specs.declared.actions.Action.TheVariants as action
 use Rattle.clr_work_orders.specs.declared.trials.Trial.{Trial}

@@ -3,12 +3,12 @@ use Rattle.std.specs.Prelude.{◌≡◌, ◌++◌, ◌==◌, ℕ, Bool, true, fa
 use Rattle.std.specs.List.{flat_map}
 use Rattle.clr_steps.specs.Offices.{Office}
 use Rattle.clr_steps.specs.Quiet.{MergeSet}
-use Rattle.clr_plan.specs.declared.plans.Plan.{Plan}
-use Rattle.clr_plan.specs.Promises.{is_cleared, is_out_of_memory}
+use Rattle.clr_merge_sets.specs.declared.plans.Plan.{Plan}
+use Rattle.clr_merge_sets.specs.Plans.{is_cleared, is_out_of_memory}
 use Rattle.clr_plan.specs.PlanLines.{plan_text}
+use Rattle.clr_plan_sentences.specs.Sentences.{IsSentences}
 use Rattle.clr_work_orders.specs.declared.trials.Trial.{Trial}
 use Rattle.clr_work_orders.specs.declared.work_orders.WorkOrder.{WorkOrder}
-use Rattle.clr_work_orders.specs.Sentences.{IsSentences}
 use Rattle.clr_work_orders.specs.Trials.{AreTrialsOf, IsAnswered}
 
 -- what the planner says of a trial, as a line ends with it

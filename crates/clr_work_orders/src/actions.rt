@@ -2,12 +2,12 @@
 
 ghost use Rattle.std.specs.Prelude.{◌≡◌, ◌++◌, IfOk, OnOk, map, string_bytes};
 ghost use Rattle.clr_work_orders.specs.Actions.{action_text, brought_text, edit_text};
-ghost use Rattle.clr_work_orders.specs.Labels.{cell_label};
 
 use clr_change::Edit;
-use clr_lines::member_name;
+use clr_member_changes::member_name;
 use clr_phrases::At;
-use clr_rows::{CellId, Schema, Shape, Words};
+use clr_plan_sentences::add_label;
+use clr_rows::{Schema, Shape, Words};
 use std::alloc::{AllocError, Global};
 
 /// Something that may clear a set of members. Members are numbered by position.
@@ -38,16 +38,6 @@ pub(crate) fn copy_action(action: &Action) -> Result<Action, AllocError>
         Action::LeaveOut(member) => Ok(Action::LeaveOut(*member)),
         Action::Make(member, edit) => Ok(Action::Make(*member, copy_edit(edit)?)),
     }
-}
-
-/// Adds a cell as `main 20`.
-fn add_label(text: &mut String, schema: &Schema, cell: CellId) -> Result<(), AllocError>
-    ensures { OnOk result (string_bytes text.new ≡ string_bytes text.old ++ cell_label schema.now cell) }
-{
-    let key = cell.key;
-    text.push_str(schema.name_of_table(cell.table))?;
-    text.push_str(" ")?;
-    write!(text, "{key}")
 }
 
 /// Adds where a row is brought, as ` at (30.000, 4.000)`, or nothing of a row that isn't at a place.

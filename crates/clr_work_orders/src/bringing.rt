@@ -3,7 +3,7 @@
 ghost use Rattle.std.specs.Prelude.{◌≡◌, ◌++◌, IfOk, OnOk, map, slice_get};
 ghost use Rattle.std.specs.List.{enumerate_from, flat_map};
 ghost use Rattle.std.specs.Option.{option_copied};
-ghost use Rattle.clr_work_orders.specs.Labels.{set_of};
+ghost use Rattle.clr_merge_sets.specs.MemberChanges.{set_of};
 ghost use Rattle.clr_work_orders.specs.Remedies.{bringing, bringing_by, bringing_edit, bringing_to, empty_value, serving, serving_row, wanted_in, wanted_value};
 
 use crate::actions::Action;

@@ -51,7 +51,6 @@ pub(crate) fn are_cleared<'a>(
 ) -> Result<bool, AllocError>
     ensures { IfOk result (TellsIfCleared office.now (merge_set root.now (map (λ name. name.now) names.now))) }
 {
-    let _rules = office.book();
     if are_suspects_blocked(alloc, office, root, names, suspects.as_slice())? {
         return Ok(false);
     }

@@ -8,7 +8,7 @@ ghost use Rattle.clr_work_orders.specs.Keys.{all_names, greater_key, greatest_in
 
 use clr_change::ChangeSet;
 use clr_engine::Office;
-use clr_plan_sentences::PlannedDesigns;
+use clr_merge_sets::read_member_changes;
 use clr_rows::{CellId, GREATEST_KEY, Sheet};
 use std::alloc::{AllocError, Global};
 
@@ -99,7 +99,7 @@ fn greatest_key(
 {
     let rows = office.rows(root)?;
     let standing = standing_key(&rows, table);
-    let all = PlannedDesigns::read(alloc, office, root, names)?;
+    let all = read_member_changes(alloc, office, root, names)?;
     Ok(greatest_in(standing, all.changes.as_slice(), table))
 }
 

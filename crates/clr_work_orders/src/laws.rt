@@ -3,7 +3,7 @@
 ghost use Rattle.std.specs.Prelude.{◌≡◌, true, codes};
 ghost use Rattle.clr_rows.specs.Names.{is_good_name};
 ghost use Rattle.clr_work_orders.specs.Laws.{TipsAreFree, TipsDiffer};
-ghost use Rattle.clr_work_orders.specs.declared.sentences.TheConstants.{MOST_NEEDS};
+ghost use Rattle.clr_plan_sentences.specs.declared.sentences.TheConstants.{MOST_NEEDS};
 ghost use Rattle.clr_work_orders.specs.declared.trials.TheConstants.{BEFORE_TRIAL};
 
 /// No two workspaces are told one key of a table for rows that they are to bring, neither at once nor after one of them followed

@@ -15,7 +15,6 @@ mod clearing;
 mod keys;
 mod laws;
 mod remedies;
-mod sentences;
 mod suspects;
 mod trial_lines;
 mod trials;

@@ -2,11 +2,9 @@
 
 ghost use Rattle.std.specs.Prelude.{◌≡◌, ◌++◌, IfOk, OnOk, map};
 ghost use Rattle.std.specs.Option.{option_copied};
-ghost use Rattle.clr_merge_sets.specs.MergeSetNames.{merge_set};
-ghost use Rattle.clr_plan_sentences.specs.NeedPlaces.{IsPlaceIn};
-ghost use Rattle.clr_plan_sentences.specs.Versions.{AreMembers};
-ghost use Rattle.clr_work_orders.specs.Labels.{IsPlaceOfCause, set_of};
-ghost use Rattle.clr_work_orders.specs.Remedies.{AreForCause, AreRemedies, for_cause, for_need, leaving_out, server_of};
+ghost use Rattle.clr_serving_rows.specs.NeedPlaces.{IsPlaceIn};
+ghost use Rattle.clr_merge_sets.specs.MemberChanges.{AreMembers, set_of};
+ghost use Rattle.clr_work_orders.specs.Remedies.{AreForCause, AreRemedies, IsPlaceOfCause, for_cause, for_need, leaving_out, server_of};
 ghost use Rattle.clr_phrases.specs.declared.meetings.Meeting.{Meeting as Met};
 
 use crate::actions::Action;
@@ -14,12 +12,12 @@ use crate::bringing::add_serving;
 use crate::undoings::{add_giving_up, add_giving_up_any, add_keeping, add_undoing};
 use clr_clearance::Verdict;
 use clr_engine::Office;
+use clr_member_changes::MemberChanges;
 use clr_needs::Need;
 use clr_plan::Plan;
-use clr_plan_sentences::{
-    PlannedDesigns, Setting, need_place, rule_of, server_changes, server_side,
-};
+use clr_plan_sentences::Setting;
 use clr_rules::Side;
+use clr_serving_rows::{need_place, rule_of, server_changes, server_side};
 use std::alloc::{AllocError, Global};
 
 /// Returns the side whose rows serve a need, if any can.
@@ -84,7 +82,7 @@ fn add_for_cause(
 /// Adds that one of several members is left out.
 fn add_leaving_out(
     list: &mut Vec<Action>,
-    members: &PlannedDesigns<'_>,
+    members: &MemberChanges<'_>,
     order: &[usize],
 ) -> Result<(), AllocError>
     ensures { OnOk result (list.new.items ≡ list.old.items ++ leaving_out (set_of members.now) order.now) }
@@ -114,24 +112,23 @@ fn remedies_for(
     Ok(list)
 }
 
-/// Returns what may clear members of a root that this plan says are blocked, to be tried one by one; nothing of any other plan.
+/// Returns what may clear members that this plan says are blocked, to be tried one by one; nothing of any other plan.
 pub(crate) fn plan_remedies(
     alloc: Global,
     office: &Office,
-    root: &str,
-    names: &[&str],
+    members: &MemberChanges<'_>,
     plan: &Plan,
 ) -> Result<Vec<Action>, AllocError>
-    ensures { IfOk result (λ list. AreRemedies office.now (merge_set root.now (map (λ name. name.now) names.now)) plan.now list.items) }
+    ensures { IfOk result (λ list. AreMembers office.now (set_of members.now) members.now
+        → AreRemedies office.now (set_of members.now) plan.now list.items) }
 {
     let Plan::Blocked { order, cause } = plan else {
         return Ok(Vec::new(alloc));
     };
-    let members = PlannedDesigns::read(alloc, office, root, names)?;
     let setting = Setting {
         alloc,
         office,
-        members: &members,
+        members,
     };
     remedies_for(setting, order.as_slice(), cause)
 }

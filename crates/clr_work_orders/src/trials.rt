@@ -2,6 +2,7 @@
 
 ghost use Rattle.std.specs.Prelude.{◌≡◌, ◌<◌, ◌∷◌, [], length, map, remove, IfOk, OnOk};
 ghost use Rattle.clr_steps.specs.declared.commands.Command.TheVariants as command;
+ghost use Rattle.clr_merge_sets.specs.MemberChanges.{AreMembers, set_of};
 ghost use Rattle.clr_merge_sets.specs.MergeSetNames.{merge_set};
 ghost use Rattle.clr_work_orders.specs.declared.trials.TheConstants.{BEFORE_TRIAL as SAVEPOINT};
 ghost use Rattle.clr_work_orders.specs.Actions.{action_text};
@@ -14,6 +15,7 @@ use crate::remedies::plan_remedies;
 use crate::suspects::first_suspects;
 use clr_change::{Edit, Edits};
 use clr_engine::Office;
+use clr_member_changes::MemberChanges;
 use clr_plan::Plan;
 use clr_rows::Words;
 use clr_steps::{Command, Reply};
@@ -252,21 +254,22 @@ fn try_all<'a>(
     Ok(trials)
 }
 
-/// Tries what may clear members of a root that this plan says are blocked, each remedy by itself, and returns what `plan` answers of each;
+/// Tries what may clear members that this plan says are blocked, each remedy by itself, and returns what `plan` answers of each;
 /// nothing is tried of any other plan. A remedy is a member left out, or a row brought or given up. One that can't be tried isn't
 /// told, nor is an edit in a workspace that has a savepoint `before_trial` or as many savepoints as there may be. The office is left as it
 /// was, unless memory runs out.
 pub fn try_remedies(
     alloc: Global,
     office: &mut Office,
-    root: &str,
-    names: &[&str],
+    members: &MemberChanges<'_>,
     plan: &Plan,
 ) -> Result<Vec<Trial>, AllocError>
-    ensures tried { IfOk result (λ trials. AreTrialsOf office.old (merge_set root.now (map (λ name. name.now) names.now)) plan.now trials.items) }
+    ensures tried { IfOk result (λ trials. AreMembers office.old (set_of members.now) members.now
+        → AreTrialsOf office.old (set_of members.now) plan.now trials.items) }
     ensures back { IfOk result (λ trials. office.new ≡ office.old) }
 {
-    let actions = plan_remedies(alloc, office, root, names, plan)?;
+    let (root, names) = (members.root, members.names);
+    let actions = plan_remedies(alloc, office, members, plan)?;
     let suspects = first_suspects(alloc, names, plan)?;
     try_all(alloc, office, root, names, suspects, actions.as_slice())
 }

@@ -3,14 +3,15 @@
 ghost use Rattle.std.specs.Prelude.{◌≡◌, ◌++◌, IfOk, OnOk};
 ghost use Rattle.std.specs.List.{flat_map};
 ghost use Rattle.std.specs.Option.{option_copied};
-ghost use Rattle.clr_plan_sentences.specs.Versions.{set_row};
+ghost use Rattle.clr_member_changes.specs.Versions.{set_row};
 ghost use Rattle.clr_work_orders.specs.Remedies.{giving_up, giving_up_any, keeping, undoing, undoing_edit};
 
 use crate::actions::Action;
 use clr_change::Edit;
+use clr_member_changes::MemberChanges;
 use clr_needs::VersionId;
-use clr_plan_sentences::{PlannedDesigns, ServerChange};
 use clr_rows::{CellId, Row};
+use clr_serving_rows::ServerChange;
 use std::alloc::AllocError;
 
 /// Returns the edit by which a cell has again the row that was taken over, where it has a row then or now.
@@ -32,7 +33,7 @@ fn undoing_edit(
 /// Adds the action by which a member leaves a cell as it took it over, if it changes it.
 pub(crate) fn add_undoing(
     list: &mut Vec<Action>,
-    members: &PlannedDesigns<'_>,
+    members: &MemberChanges<'_>,
     member: usize,
     cell: CellId,
 ) -> Result<(), AllocError>
@@ -48,7 +49,7 @@ pub(crate) fn add_undoing(
 /// Adds the action by which the member that brings a version doesn't bring it.
 pub(crate) fn add_giving_up(
     list: &mut Vec<Action>,
-    members: &PlannedDesigns<'_>,
+    members: &MemberChanges<'_>,
     version: VersionId,
 ) -> Result<(), AllocError>
     ensures { OnOk result (list.new.items ≡ list.old.items ++ giving_up members.now.changes.items version) }
@@ -65,7 +66,7 @@ pub(crate) fn add_giving_up(
 /// Adds the action by which the member that brings a version doesn't bring it, if there is a version.
 pub(crate) fn add_giving_up_any(
     list: &mut Vec<Action>,
-    members: &PlannedDesigns<'_>,
+    members: &MemberChanges<'_>,
     version: Option<VersionId>,
 ) -> Result<(), AllocError>
     ensures { OnOk result (list.new.items ≡ list.old.items ++ giving_up_any members.now.changes.items version) }
@@ -79,7 +80,7 @@ pub(crate) fn add_giving_up_any(
 /// Adds the action by which a member leaves a row that serves a need where it stands.
 fn add_kept(
     list: &mut Vec<Action>,
-    members: &PlannedDesigns<'_>,
+    members: &MemberChanges<'_>,
     change: &ServerChange,
 ) -> Result<(), AllocError>
     ensures { OnOk result (list.new.items ≡ list.old.items ++ keeping members.now.changes.items change.now) }
@@ -94,7 +95,7 @@ fn add_kept(
 /// Adds the actions by which members leave the rows that serve a need where they stand.
 pub(crate) fn add_keeping(
     list: &mut Vec<Action>,
-    members: &PlannedDesigns<'_>,
+    members: &MemberChanges<'_>,
     changes: &[ServerChange],
 ) -> Result<(), AllocError>
     ensures { OnOk result (list.new.items ≡ list.old.items ++ flat_map (keeping members.now.changes.items) changes.now) }

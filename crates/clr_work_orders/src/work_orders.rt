@@ -4,11 +4,12 @@ ghost use Rattle.std.specs.Prelude.{◌≡◌, ◌++◌, codes, map, IfOk};
 ghost use Rattle.clr_merge_sets.specs.MergeSetNames.{merge_set};
 ghost use Rattle.clr_work_orders.specs.WorkOrders.{IsWorkOrder, trials_text};
 
-use crate::sentences::plan_sentences;
 use crate::trial_lines::add_trials;
 use crate::trials::{Trial, try_remedies};
 use clr_engine::Office;
-use clr_plan::{plan, plan_lines};
+use clr_merge_sets::read_member_changes;
+use clr_plan::{plan_changes, plan_lines};
+use clr_plan_sentences::{Setting, plan_sentences};
 use std::alloc::{AllocError, Global};
 
 /// A plan in words: the text, whether the members are cleared, and whether the plan found no memory.
@@ -52,10 +53,16 @@ pub fn work_order(
     ensures order { IfOk result (IsWorkOrder office.old (merge_set root.now (map (λ name. name.now) names.now))) }
     ensures back { IfOk result (λ order. office.new ≡ office.old) }
 {
-    let planned = plan(alloc, office, root, names);
+    let members = read_member_changes(alloc, office, root, names)?;
+    let planned = plan_changes(alloc, office, root, names, members.changes.as_slice());
     let lines = plan_lines(alloc, office.schema(), names, root, &planned)?;
-    let sentences = plan_sentences(alloc, office, root, names, &planned)?;
-    let trials = try_remedies(alloc, office, root, names, &planned)?;
+    let setting = Setting {
+        alloc,
+        office,
+        members: &members,
+    };
+    let sentences = plan_sentences(setting, &planned)?;
+    let trials = try_remedies(alloc, office, &members, &planned)?;
     let text = order_text(
         alloc,
         sentences.as_str(),

@@ -2,7 +2,7 @@ use Rattle.std.proofs.Common.{refl}
 use Rattle.clr_clearance.specs.declared.verdicts.Verdict.TheVariants as verdict
 use Rattle.clr_clearance.proofs.RunLemmas.{cleared_run}
 use Rattle.clr_merge_sets.specs.Certificates.{entries_in, merge_set_of}
-use Rattle.clr_check.proofs.AnswerLemmas.{clear_holds, clear_refused, clear_verdict}
+use Rattle.clr_check.proofs.AnswerLemmas.{clear_refused, clear_verdict}
 use Rattle.clr_check.proofs.runs.perform_cleared.Goals as goal
 
 pub returns-in_default-with_capacity-clause-refused : goal.returns-in_default-with_capacity-clause-refused
@@ -23,5 +23,4 @@ returns-clause-run c =
     let entries = entries_in certificate.entries in
     let clear = c.in-Clear.ensures.answer in
     cleared_run o s entries c.args.commands.now c.perform_quiet.result.replies.items c.perform_quiet.new.office c.perform_quiet.result.stopped
-    (clear_verdict o s entries verdict.Clear clear refl)
-    (clear_holds o s entries clear c.in-Clear.ensures.admitted) c.perform_quiet.ensures
+    (clear_verdict o s entries verdict.Clear clear refl) c.perform_quiet.ensures

@@ -2,7 +2,7 @@ use Rattle.std.proofs.Common.{◌≡◌, ◌∙◌, ◌||◌, Ok, false, length,
 use Rattle.std.specs.List.{list_any}
 use Rattle.std.proofs.lemmas.Bool.{le-ltb}
 use Rattle.clr_office.specs.Answers.{is_too_long}
-use Rattle.clr_desk_answers.specs.Printing.{Printout, is_lost_ending, status_by, unless_lost}
+use Rattle.clr_desk_prints.specs.Printing.{Printout, is_lost_ending, status_by, unless_lost}
 use Rattle.clr_desk.specs.Answers.{IsDeskAnswerIf, IsDeskAnswerWithin, is_too_long_layer}
 use Rattle.clr_desk.proofs.answers.answer.Goals as goal
 

@@ -1,7 +1,7 @@
 use Rattle.clr_check.specs.Cases.{case_of}
 use Rattle.clr_desk.specs.Checks.{IsCheckPrint}
-use Rattle.clr_desk_answers.specs.Printing.{of_case}
-use Rattle.clr_desk_answers.proofs.PrintLemmas.{case_fault}
+use Rattle.clr_desk_prints.specs.Printing.{of_case}
+use Rattle.clr_desk_prints.proofs.PrintLemmas.{case_fault}
 use Rattle.clr_desk.proofs.checks.answer_check.Goals as goal
 
 pub returns-in_ok-print_of_verdict-in-Ok : goal.returns-in_ok-print_of_verdict-in-Ok

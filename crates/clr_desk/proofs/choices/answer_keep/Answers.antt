@@ -1,9 +1,9 @@
 use Rattle.std.proofs.Common.{◌∷◌}
 use Rattle.clr_office_texts.specs.Drafts.{draft_in}
 use Rattle.clr_desk.specs.Choices.{IsChoicePrint}
-use Rattle.clr_desk_answers.specs.NameHints.{IsHinted}
-use Rattle.clr_desk_answers.specs.Printing.{of_office, printed}
-use Rattle.clr_desk_answers.proofs.PrintLemmas.{office_fault}
+use Rattle.clr_desk_prints.specs.NameHints.{IsHinted}
+use Rattle.clr_desk_prints.specs.Printing.{of_office, printed}
+use Rattle.clr_desk_prints.proofs.PrintLemmas.{office_fault}
 use Rattle.clr_desk.proofs.choices.answer_keep.Goals as goal
 
 pub returns-in_ok-with_hints-in-Ok : goal.returns-in_ok-with_hints-in-Ok

@@ -1,6 +1,6 @@
 use Rattle.std.proofs.Common.{◌≡◌, List, rules, subst}
 use Rattle.clr_workspaces.specs.Marks.{Name}
-use Rattle.clr_desk_answers.specs.Members.{members_or_children}
+use Rattle.clr_desk_prints.specs.Members.{members_or_children}
 use Rattle.clr_choices.specs.Progress.{IsChosen}
 use Rattle.clr_desk.proofs.Trying.{choice_printed}
 use Rattle.clr_desk.proofs.choices.print_of_choice.Goals as goal

@@ -2,12 +2,12 @@ use Rattle.std.proofs.Common.{◌≡◌, [], List, false, map, rules, subst, sym
 use Rattle.std.proofs.lemmas.Result.{IfOk-weaker}
 use Rattle.clr_workspaces.specs.Marks.{Name}
 use Rattle.clr_merge_sets.specs.MergeSetNames.{merge_set}
-use Rattle.clr_plan.specs.declared.plans.Plan.{Plan}
-use Rattle.clr_plan.specs.Promises.{is_cleared}
+use Rattle.clr_merge_sets.specs.declared.plans.Plan.{Plan}
+use Rattle.clr_merge_sets.specs.Plans.{is_cleared}
 use Rattle.clr_choices.specs.Clearable.{IsPlanOf}
 use Rattle.clr_desk.specs.Certificates.{plan_print}
 use Rattle.clr_desk.specs.Choices.{of_nobody}
-use Rattle.clr_desk_answers.specs.Printing.{printed}
+use Rattle.clr_desk_prints.specs.Printing.{printed}
 use Rattle.clr_desk.proofs.choices.print_of_names.Goals as goal
 
 pub returns : goal.returns

@@ -1,9 +1,9 @@
 use Rattle.std.proofs.Common.{◌≡◌, ◌∙◌, IfOk, List, map, rules, subst}
 use Rattle.clr_workspaces.specs.Marks.{Name}
 use Rattle.clr_merge_sets.specs.MergeSetNames.{merge_set}
-use Rattle.clr_desk_answers.specs.Members.{members_or_children}
+use Rattle.clr_desk_prints.specs.Members.{members_or_children}
 use Rattle.clr_desk.specs.Clashes.{IsMergeSetPrint}
-use Rattle.clr_desk_answers.specs.Printing.{printed}
+use Rattle.clr_desk_prints.specs.Printing.{printed}
 use Rattle.clr_desk.proofs.clashes.print_of_names.Goals as goal
 
 pub returns : goal.returns

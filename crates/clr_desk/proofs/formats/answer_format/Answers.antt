@@ -1,7 +1,7 @@
 use Rattle.clr_office_texts.specs.Drafts.{draft_in}
 use Rattle.clr_desk.specs.Formats.{IsFormatPrint}
-use Rattle.clr_desk_answers.specs.Printing.{of_office}
-use Rattle.clr_desk_answers.proofs.PrintLemmas.{office_fault}
+use Rattle.clr_desk_prints.specs.Printing.{of_office}
+use Rattle.clr_desk_prints.proofs.PrintLemmas.{office_fault}
 use Rattle.clr_desk.proofs.formats.answer_format.Goals as goal
 
 pub returns-in_ok-format_print-in-Ok : goal.returns-in_ok-format_print-in-Ok

@@ -3,9 +3,9 @@ use Rattle.clr_workspaces.specs.Marks.{Name}
 use Rattle.clr_check.specs.Cases.{case_of}
 use Rattle.clr_desk.specs.Merges.{IsHintedMerge}
 use Rattle.clr_office.specs.NameHints.{AreNameHints}
-use Rattle.clr_desk_answers.specs.NameHints.{with_lines}
-use Rattle.clr_desk_answers.specs.Printing.{of_case, printed}
-use Rattle.clr_desk_answers.proofs.PrintLemmas.{case_fault}
+use Rattle.clr_desk_prints.specs.NameHints.{with_lines}
+use Rattle.clr_desk_prints.specs.Printing.{of_case, printed}
+use Rattle.clr_desk_prints.proofs.PrintLemmas.{case_fault}
 use Rattle.clr_desk.proofs.merges.answer_merge.Goals as goal
 
 pub returns-in_ok-with_notes-in-Ok : goal.returns-in_ok-with_notes-in-Ok

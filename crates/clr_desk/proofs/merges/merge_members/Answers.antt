@@ -21,7 +21,7 @@ returns-in-Ok c =
     let run = c.in-Ok.run' in
     let performed = c.in-Ok.ensures in
     let are : c.as_slice.result.now ≡ merges names = c.as_slice.ensures.value ∙ c.in_ok-commands.ensures in
-    let promised = clear_promises o (merge_set_of certificate) (entries_in certificate.entries) c.book-rules.ensures.admitted verdict.Clear
+    let promised = clear_promises o (merge_set_of certificate) (entries_in certificate.entries) verdict.Clear
     (of_answer performed.clear) refl in
     let all : AreMerged o certificate names run.replies.items run.stopped left = record {
       clear = performed.clear;

@@ -1,9 +1,9 @@
 use Rattle.std.proofs.Common.{◌≡◌, ◌∷◌, subst}
 use Rattle.clr_office_texts.specs.Drafts.{draft_in}
-use Rattle.clr_desk_answers.specs.NameHints.{IsHinted, with_lines}
+use Rattle.clr_desk_prints.specs.NameHints.{IsHinted, with_lines}
 use Rattle.clr_desk.specs.Orders.{IsOrderPrint}
-use Rattle.clr_desk_answers.specs.Printing.{of_office, printed}
-use Rattle.clr_desk_answers.proofs.PrintLemmas.{office_fault}
+use Rattle.clr_desk_prints.specs.Printing.{of_office, printed}
+use Rattle.clr_desk_prints.proofs.PrintLemmas.{office_fault}
 use Rattle.clr_desk.proofs.orders.answer_work_order.Goals as goal
 
 pub returns-in_ok-with_notes-in-Ok : goal.returns-in_ok-with_notes-in-Ok

@@ -9,6 +9,7 @@ use Rattle.clr_steps.specs.declared.commands.Reply.TheVariants.{RuleBroken}
 use Rattle.clr_workspaces.specs.Operations.{after_write, with_current}
 use Rattle.clr_engine.specs.Fitting.{FitBoth}
 use Rattle.clr_engine.proofs.Answered.{edits_break, ends}
+use Rattle.clr_engine.proofs.Changed.{changes_change}
 use Rattle.clr_engine.proofs.Contents.{reached}
 use Rattle.clr_engine.proofs.Fits.{fit_edited}
 use Rattle.clr_engine.proofs.Kept.{other_content}
@@ -24,6 +25,13 @@ prepare-requires-clause-fit c =
     subst (FitBoth c.args.judge.now content) (sym (reached content (after_edits content edits) c.in-Ok.changed changed))
     (fit_edited c.args.schema.now c.args.judge.now c.args.tree.now.list c.requires.fit c.args.at edits passed)
 
+pub prepare-requires-clause-changes : goal.prepare-requires-clause-changes
+prepare-requires-clause-changes c =
+    let content = (workspace_at c.args.tree.now.list c.args.at).current in
+    let edits = c.args.edits.now in
+    changes_change content (after_edits content edits) c.in-Ok.changed
+    (c.in-Ok.ensures.changes ∙ ap (λ (m : Content). changes m (after_edits m edits)) c.view.ensures)
+
 pub returns-in-Ok-None-clause-performed : goal.returns-in-Ok-None-clause-performed
 returns-in-Ok-None-clause-performed c =
     let ws = c.args.tree.now.list in
@@ -32,7 +40,7 @@ returns-in-Ok-None-clause-performed c =
     let changed = c.in-Ok.ensures.changes ∙ ap (λ (m : Content). changes m (after_edits m edits)) c.view.ensures in
     let passed = sym (ap (λ (m : Content). first_bad_edit c.args.schema.now m 1 edits) c.view.ensures) ∙ c.in-Ok.ensures.passed in
     ends _ ws _ c.write_all-done.new.self.list c.write_all-done.result c.finish.result
-    (edits_break _ w.kept w.kept c.args.judge.now (after_edits w.current edits) _ c.in-Ok-None.field-0 passed refl
+    (edits_break _ w.kept w.kept c.args.judge.now w.current (after_edits w.current edits) _ c.in-Ok-None.field-0 passed refl
     (reached w.current (after_edits w.current edits) c.in-Ok.changed changed) c.in-Ok-None.ensures.judged
     ∙ ap (option_map RuleBroken) c.in-Ok-None.field-0-is)
     (on_ok c.write_all-done.result _ _ (λ is. is ∙ ap (after_write ws c.args.at) changed) c.write_all-done.ensures.ok) c.write_all-done.ensures.err
@@ -46,7 +54,7 @@ returns-in-Ok-Some-clause-performed c =
     let changed = c.in-Ok.ensures.changes ∙ ap (λ (m : Content). changes m (after_edits m edits)) c.view.ensures in
     let passed = sym (ap (λ (m : Content). first_bad_edit c.args.schema.now m 1 edits) c.view.ensures) ∙ c.in-Ok.ensures.passed in
     refused
-    (edits_break _ w.kept w.kept c.args.judge.now (after_edits w.current edits) _ c.in-Ok-Some.field-0 passed refl
+    (edits_break _ w.kept w.kept c.args.judge.now w.current (after_edits w.current edits) _ c.in-Ok-Some.field-0 passed refl
     (reached w.current (after_edits w.current edits) c.in-Ok.changed changed) c.in-Ok-Some.ensures.judged
     ∙ ap (option_map RuleBroken) c.in-Ok-Some.field-0-is) refl
 

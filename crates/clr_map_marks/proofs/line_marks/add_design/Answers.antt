@@ -2,7 +2,7 @@ use Rattle.std.proofs.Common.{Option, OnOk, subst}
 use Rattle.clr_rows.specs.Contents.{Changes}
 use Rattle.clr_drawing.specs.Palette.{colours_of}
 use Rattle.clr_drawing.specs.declared.palette.DesignColours.{DesignColours}
-use Rattle.clr_plan_scenes.specs.Designs.{rank_of}
+use Rattle.clr_map_scenes.specs.Designs.{rank_of}
 use Rattle.clr_map_marks.specs.Lines.{Kinds, kinds_of_lines}
 use Rattle.clr_map_marks.specs.LineMarks.{DrawsLines, DrawsSet}
 use Rattle.clr_map_marks.proofs.line_marks.add_design.Goals as goal

@@ -1,6 +1,6 @@
 use Rattle.std.proofs.Common.{◌≡◌, take}
 use Rattle.std.specs.Prelude.{min, sum_by}
-use Rattle.clr_plan_scenes.specs.Designs.{sets_of}
+use Rattle.clr_map_scenes.specs.Designs.{sets_of}
 use Rattle.clr_map_marks.specs.Points.{most_marks, points_by}
 use Rattle.clr_map_marks.proofs.point_marks.marks_at.Given as goal
 

@@ -20,7 +20,7 @@ returns-in-Ok c =
     let are : c.as_slice.result.now ≡ merges c.args.names.now = c.as_slice.ensures.value ∙ c.in_ok-commands.ensures in
     let o = c.args.office.now in
     let certificate = c.args.certificate.now in
-    let promised = clear_promises o (merge_set_of certificate) (entries_in certificate.entries) c.book-rules.ensures.admitted verdict.Clear
+    let promised = clear_promises o (merge_set_of certificate) (entries_in certificate.entries) verdict.Clear
     (of_verdict performed.clear) refl in
     merged o c.perform_cleared.new.office certificate c.args.names.now c.as_slice.result.now run.replies.items run.stopped output
     are performed.clear performed.start performed.run promised.3 made.lines made.refused made.lost

@@ -5,8 +5,8 @@ use Rattle.clr_plan_map.proofs.maps.plan_map.Goals as goal
 
 pub returns : goal.returns
 returns c =
-    let members = map (λ name. name.now) c.args.members.now in
-    let root = c.args.root.now in
+    let members = map (λ name. name.now) c.args.members.now.names.now in
+    let root = c.args.members.now.root.now in
     let page = c.in_ok-page.page in
     record {
       map = (

@@ -1,5 +1,5 @@
 use Rattle.std.proofs.Common.{subst}
-use Rattle.clr_fault_lines.specs.FaultLines.{AreFaultLines}
+use Rattle.clr_text_positions.specs.FaultLines.{AreFaultLines}
 use Rattle.clr_text_diagnosis.proofs.offices.office_lines.Goals as goal
 
 pub returns : goal.returns

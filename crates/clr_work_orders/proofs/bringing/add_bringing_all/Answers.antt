@@ -1,5 +1,5 @@
 use Rattle.std.proofs.Common.{map}
-use Rattle.clr_work_orders.specs.Labels.{set_of}
+use Rattle.clr_merge_sets.specs.MemberChanges.{set_of}
 use Rattle.clr_work_orders.specs.Remedies.{bringing_by}
 use Rattle.clr_work_orders.proofs.RemedyLemmas.{more_listed}
 use Rattle.clr_work_orders.proofs.bringing.add_bringing_all.Goals as goal

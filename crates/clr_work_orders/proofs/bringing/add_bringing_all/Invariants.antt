@@ -1,6 +1,6 @@
 use Rattle.std.proofs.Common.{◌≡◌, ◌++◌, map, take}
 use Rattle.std.specs.List.{flat_map}
-use Rattle.clr_work_orders.specs.Labels.{set_of}
+use Rattle.clr_merge_sets.specs.MemberChanges.{set_of}
 use Rattle.clr_work_orders.specs.Remedies.{bringing_by}
 use Rattle.clr_work_orders.proofs.bringing.add_bringing_all.Given as goal
 

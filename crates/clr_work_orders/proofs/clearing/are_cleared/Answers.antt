@@ -8,7 +8,7 @@ pub returns-then-branch : goal.returns-then-branch
 returns-then-branch c =
     let s = merge_set c.args.root.now (map (λ name. name.now) c.args.names.now) in
     let blocked : c.in_ok-are_suspects_blocked.field-0 ≡ true = search rules in
-    told_refused c.args.office.now s c.book-rules.ensures.admitted.holds (c.in_ok-are_suspects_blocked.ensures blocked)
+    told_refused c.args.office.now s (c.in_ok-are_suspects_blocked.ensures blocked)
 
 pub returns : goal.returns
 returns c =

@@ -2,9 +2,9 @@ use Rattle.std.proofs.Common.{◌∙◌, ◌++◌, List, Option, ap}
 use Rattle.std.specs.List.{flat_map}
 use Rattle.std.proofs.lemmas.Result.{on_ok_weaker}
 use Rattle.clr_rules.specs.declared.sides.Side.{Side}
-use Rattle.clr_plan_sentences.specs.declared.servers.ServerChange.{ServerChange}
-use Rattle.clr_plan_sentences.specs.Servers.{server_changes}
-use Rattle.clr_work_orders.specs.Labels.{set_of}
+use Rattle.clr_serving_rows.specs.declared.servers.ServerChange.{ServerChange}
+use Rattle.clr_serving_rows.specs.Servers.{server_changes}
+use Rattle.clr_merge_sets.specs.MemberChanges.{set_of}
 use Rattle.clr_work_orders.specs.Remedies.{giving_up, giving_up_any, keeping, server_of, serving}
 use Rattle.clr_work_orders.proofs.RemedyLemmas.{behind_four}
 use Rattle.clr_work_orders.proofs.remedies.add_for_need.Goals as goal

@@ -1,6 +1,6 @@
 use Rattle.std.proofs.Common.{◌∙◌, ◌++◌, List, ap}
 use Rattle.clr_work_orders.specs.declared.actions.Action.{Action}
-use Rattle.clr_work_orders.specs.Labels.{set_of}
+use Rattle.clr_merge_sets.specs.MemberChanges.{set_of}
 use Rattle.clr_work_orders.specs.Remedies.{for_cause, leaving_out}
 use Rattle.clr_work_orders.proofs.remedies.remedies_for.Goals as goal
 

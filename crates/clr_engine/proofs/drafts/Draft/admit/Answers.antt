@@ -1,6 +1,5 @@
 use Rattle.std.proofs.Common.{List, ap, subst, sym, ◌∙◌}
 use Rattle.std.specs.Result.{result_err}
-use Rattle.clr_steps.proofs.UnheldLemmas.{unheld_law}
 use Rattle.clr_workspaces.specs.Workspaces.{Workspace}
 use Rattle.clr_steps.specs.Offices.{office_of}
 use Rattle.clr_engine.specs.Fitting.{IsAdmitted}
@@ -15,8 +14,6 @@ of_parts-requires c =
     let same = sym c.sweep.ensures.contents in
     let admitted : IsAdmitted (office_of inside.schema inside.judge inside.tree.list) = record {
       fit = c.self.invariant;
-      holds = (unheld_law inside.schema inside.judge inside.tree.list c.finders.ensures.sound).0 (sym c.in-Ok-Ok.ensures.first
-          ∙ ap result_err c.in-Ok-Ok.field-0-is);
     } in
     let are : AreFinders inside.judge (kept_contents inside.tree.list) c.in-Ok-Ok.finders = rw c.in-Ok-Ok.field-0-is at c.in-Ok-Ok.ensures.finders in
     record {

@@ -7,6 +7,7 @@ use Rattle.clr_steps.specs.Refusals.{broken_where}
 use Rattle.clr_steps.specs.declared.commands.Reply.TheVariants.{RuleBroken}
 use Rattle.clr_engine.specs.KeptContents.{IsPrepared}
 use Rattle.clr_engine.specs.Fitting.{FitBoth}
+use Rattle.clr_engine.proofs.Changed.{changes_change}
 use Rattle.clr_engine.proofs.Contents.{reached}
 use Rattle.clr_engine.proofs.Fits.{fit_base}
 use Rattle.clr_engine.proofs.Prepared.{not_kept}
@@ -23,11 +24,16 @@ prepare-requires-clause-fit c =
     subst (FitBoth c.args.self.now w.current) (sym (reached w.current (w.base) c.in_ok-changed.changed c.in_ok-changed.ensures))
     (fit_base c.args.self.now ws c.requires.served.fit c.args.at c.requires.child)
 
+pub prepare-requires-clause-changes : goal.prepare-requires-clause-changes
+prepare-requires-clause-changes c =
+    let w = workspace_at c.args.tree.now.list c.args.at in
+    changes_change w.current (w.base) c.in_ok-changed.changed c.in_ok-changed.ensures
+
 pub returns-clause-judged : goal.returns-clause-judged
 returns-clause-judged c =
     let ws = c.args.tree.now.list in
     let w = workspace_at ws c.args.at in
-    subst (λ (m : Content). IfOk c.prepare.result (λ need. option_map RuleBroken need ≡ broken_where w.kept c.args.self.now m))
+    subst (λ (m : Content). IfOk c.prepare.result (λ need. option_map RuleBroken need ≡ broken_where w.kept c.args.self.now w.current m))
     (reached w.current (w.base) c.in_ok-changed.changed c.in_ok-changed.ensures) c.prepare.ensures.judged
 
 pub returns-clause-prepared : goal.returns-clause-prepared

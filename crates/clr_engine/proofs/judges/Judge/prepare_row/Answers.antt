@@ -8,7 +8,9 @@ use Rattle.clr_steps.specs.Refusals.{broken_where}
 use Rattle.clr_steps.specs.declared.commands.Reply.TheVariants.{RuleBroken}
 use Rattle.clr_engine.specs.KeptContents.{IsPrepared}
 use Rattle.clr_engine.specs.Fitting.{FitBoth}
-use Rattle.clr_engine.proofs.Contents.{set_one}
+use Rattle.clr_rows.specs.Contents.{set_cell}
+use Rattle.clr_engine.proofs.Changed.{changes_change}
+use Rattle.clr_engine.proofs.Contents.{changes_one, set_one}
 use Rattle.clr_engine.proofs.Prepared.{not_kept}
 use Rattle.clr_engine.proofs.judges.Judge.prepare_row.Goals as goal
 
@@ -23,12 +25,19 @@ prepare-requires-clause-fit c =
     ∙ (λ i. set_change (c.new-changed.ensures i) c.args.cell (c.read.ensures i) (option_copied c.args.row))) in
     subst (FitBoth c.args.self.now w.current) (sym is) c.requires.fit
 
+pub prepare-requires-clause-changes : goal.prepare-requires-clause-changes
+prepare-requires-clause-changes c =
+    let w = workspace_at c.args.tree.now.list c.args.at in
+    changes_change w.current (set_cell w.current c.args.cell (option_copied c.args.row)) c.set.new.self
+    (changes_one w.current c.args.cell (option_copied c.args.row) c.set.new.self (c.in_ok-set.ensures.ok
+    ∙ (λ i. set_change (c.new-changed.ensures i) c.args.cell (c.read.ensures i) (option_copied c.args.row))))
+
 pub returns-clause-judged : goal.returns-clause-judged
 returns-clause-judged c =
     let w = workspace_at c.args.tree.now.list c.args.at in
     let is = set_one w.current c.args.cell (option_copied c.args.row) c.set.new.self (c.in_ok-set.ensures.ok
     ∙ (λ i. set_change (c.new-changed.ensures i) c.args.cell (c.read.ensures i) (option_copied c.args.row))) in
-    subst (λ (m : Content). IfOk c.prepare.result (λ need. option_map RuleBroken need ≡ broken_where w.kept c.args.self.now m)) is c.prepare.ensures.judged
+    subst (λ (m : Content). IfOk c.prepare.result (λ need. option_map RuleBroken need ≡ broken_where w.kept c.args.self.now w.current m)) is c.prepare.ensures.judged
 
 pub returns-clause-prepared : goal.returns-clause-prepared
 returns-clause-prepared c =

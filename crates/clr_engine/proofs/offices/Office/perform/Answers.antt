@@ -1,12 +1,13 @@
-use Rattle.std.proofs.Common.{List, subst, sym}
+use Rattle.std.proofs.Common.{List, [], ◌∷◌, refl, subst, sym}
 use Rattle.clr_workspaces.specs.Workspaces.{Workspace}
 use Rattle.clr_steps.specs.Offices.{Office, office_of}
 use Rattle.clr_steps.specs.Steps.{IsAnswer}
+use Rattle.clr_steps.proofs.NothingNew.{nothing_new_law}
 use Rattle.clr_steps.proofs.StepLemmas.{answer_law}
 use Rattle.clr_engine.specs.Fitting.{IsAdmitted}
 use Rattle.clr_grid.specs.Finders.{AreFinders}
 use Rattle.clr_engine.specs.KeptContents.{kept_contents}
-use Rattle.clr_engine.proofs.Steps.{fits_after, holds_after}
+use Rattle.clr_engine.proofs.Steps.{fits_after}
 use Rattle.clr_engine.proofs.offices.Office.perform.Goals as goal
 
 pub invariant_of-self : goal.invariant_of-self
@@ -19,7 +20,6 @@ invariant_of-self c =
     c.perform-reply.ensures.performed in
     let admitted : IsAdmitted left = record {
       fit = fits_after o c.args.command.now c.perform-reply.result left c.self.invariant.0.fit answered;
-      holds = holds_after o c.args.command.now c.perform-reply.result left c.self.invariant.0.holds answered;
     } in
     let same = sym c.sweep.ensures.contents in (
       subst (λ (ws : List Workspace). IsAdmitted (office_of inside.schema inside.judge ws)) same admitted,
@@ -36,3 +36,7 @@ returns-clause-answer c =
     subst (λ (o : Office). IsAnswer o c.args.command.now c.perform-reply.result (office_of inside.schema inside.judge c.sweep.new.self.list)) c.self.view_is
     (subst (λ (ws : List Workspace). IsAnswer (office_of inside.schema inside.judge inside.tree.list) c.args.command.now c.perform-reply.result
     (office_of inside.schema inside.judge ws)) (sym c.sweep.ensures.contents) answered)
+
+pub returns-clause-nothing_new : goal.returns-clause-nothing_new
+returns-clause-nothing_new c =
+    nothing_new_law c.args.self.now (c.args.command.now ∷ []) (c.perform-reply.result ∷ []) _ (_, returns-clause-answer c, refl)

@@ -6,6 +6,7 @@ use Rattle.std.proofs.lemmas.List.{take_more}
 use Rattle.clr_steps.specs.declared.commands.Command.{Command}
 use Rattle.clr_steps.specs.declared.commands.Reply.{Reply}
 use Rattle.clr_steps.specs.Steps.{AreAnswers}
+use Rattle.clr_steps.proofs.NothingNew.{nothing_new_law}
 use Rattle.clr_steps.proofs.RunLemmas.{more_law, run_law}
 use Rattle.clr_engine.proofs.offices.Office.perform_all.Goals as goal
 
@@ -36,3 +37,8 @@ returns-clause-run c =
     run_law c.args.self.now commands c.loop-command.replies.items c.loop-command.self
     (subst (λ (cs : List Command). AreAnswers c.args.self.now cs c.loop-command.replies.items c.loop-command.self) (ap (λ n. take n commands) all
     ∙ take-length commands) c.loop-command.invariant.answers)
+
+pub returns-clause-nothing_new : goal.returns-clause-nothing_new
+returns-clause-nothing_new c =
+    nothing_new_law c.args.self.now (take c.loop-command.command-index c.args.commands.now) c.loop-command.replies.items c.loop-command.self
+    c.loop-command.invariant.answers

@@ -27,13 +27,13 @@ returns-then-branch g c =
     let scene = c.args.self.now in
     let read = c.deref-need-items.result.now in
     let k = c.loop-need.need-index in
-    first_is_least scene.book.now (g.V.RowView.content scene.root.now) (sets_of scene.members.sets.items) c.requires.one true c.requires.holds
+    first_is_least scene.book.now (g.V.RowView.content scene.root.now) (sets_of scene.members.sets.items) c.requires.one true c.requires.changes
     c.in_ok-needs.needs.items read k c.in_ok-needs.ensures c.deref-need-items.ensures.value c.loop-need.invariant (get_or read k unread) unread
     c.in_ok-is_broken.field-0 c.broken_of.result c.loop-need-test.true refl c.in_ok-is_broken.ensures c.if-branch.true c.broken_of.ensures
 
 pub returns : goal.returns
 returns g c =
     let scene = c.args.self.now in
-    none_is_broken scene.book.now (g.V.RowView.content scene.root.now) (sets_of scene.members.sets.items) c.requires.one true c.requires.holds
+    none_is_broken scene.book.now (g.V.RowView.content scene.root.now) (sets_of scene.members.sets.items) c.requires.one true c.requires.changes
     c.in_ok-needs.needs.items c.deref-need-items.result.now c.loop-need.need-index c.in_ok-needs.ensures c.deref-need-items.ensures.value
     c.loop-need.invariant c.loop-need-test.false

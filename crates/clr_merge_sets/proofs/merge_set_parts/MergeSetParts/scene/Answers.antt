@@ -1,4 +1,4 @@
-use Rattle.std.proofs.Common.{◌≡◌, ◌∙◌, ap, subst, sym}
+use Rattle.std.proofs.Common.{◌≡◌, ◌∙◌, ap, map, subst, sym}
 use Rattle.clr_finders.specs.Sharing.{IsSettledFor}
 use Rattle.clr_needs.specs.Members.{AreApart, setting}
 use Rattle.clr_foot.specs.Scenes.{IsReady, setting_of}
@@ -14,14 +14,14 @@ new-requires-clause-fit c =
     let o = c.args.office.now in
     let s = c.requires.0 in
     let parts = c.requires.1 in
-    let sets = c.in_ok-sets.ensures ∙ c.as_slice.ensures.value ∙ parts.sets in
+    let sets = ap (map (λ set. set.now)) (c.in_ok-sets.ensures.items ∙ c.as_slice.ensures.value) ∙ parts.sets in
     subst FitsSetting (sym (λ i. setting (c.book.ensures.value i) (parts.rows i) (sets i))) (merge_set_fits o c.book.ensures.admitted s)
 
 pub returns-clause-scene : goal.returns-clause-scene
 returns-clause-scene c =
     let o = c.args.office.now in
     made_with _ _ _ _ c.new.result c.new.ensures.model c.new.ensures.apart (λ scene model apart s parts.
-    (let sets = c.in_ok-sets.ensures ∙ c.as_slice.ensures.value ∙ parts.sets in
+    (let sets = ap (map (λ set. set.now)) (c.in_ok-sets.ensures.items ∙ c.as_slice.ensures.value) ∙ parts.sets in
     let whole : setting c.book.result.now c.args.self.now.rows _ ≡ setting_by_position o s = λ i. setting (c.book.ensures.value i) (parts.rows i) (sets i) in
     record {
       setting = ap setting_of model ∙ whole;

@@ -1,5 +1,0 @@
-use Rattle.clr_desk_answers.proofs.LayersAgain.{printed_layers}
-use Rattle.clr_desk_answers.proofs.laws.printed_layers_change_nothing.Goals as goal
-
-pub returns : goal.returns
-returns c = printed_layers

@@ -1,9 +1,0 @@
-//! The law of layers that are printed and given back, proved by a function that does nothing.
-
-ghost use Rattle.clr_desk_answers.specs.ReadBack.{PrintedLayersLaw};
-
-/// Layers that are printed of LIVE, each of another table, change nothing when they are given back, read with any options: the design of them
-/// sees LIVE's content, the script that makes it has no edit, and the office whose LIVE has their rows is the office itself.
-pub fn printed_layers_change_nothing()
-    ensures { PrintedLayersLaw }
-{}

@@ -1,0 +1,3 @@
+pub mod LayerLemmas
+pub mod LayersAgain
+pub mod ScriptLemmas

@@ -1,0 +1,4 @@
+pub mod Designs
+pub mod LayerFaultLines
+pub mod Layers
+pub mod ReadBack

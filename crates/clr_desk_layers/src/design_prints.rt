@@ -1,0 +1,133 @@
+//! What is printed of an opened office and layers.
+
+ghost use Rattle.std.specs.Prelude.{◌≡◌, IfOk};
+ghost use Rattle.clr_rows.specs.Schemas.{FitsSchema};
+ghost use Rattle.clr_desk_prints.specs.Printing.{printed};
+ghost use Rattle.clr_desk_layers.specs.Designs.{IsDesignPrint, IsDesignScriptPrint, IsOfficePrint};
+ghost use Rattle.clr_desk_layers.specs.Designs.{IsPrintOfDesign, IsPrintOfLive, IsPrintOfScript, faulty_layer_printout, refusal_print};
+
+use crate::layer_fault_lines::fault_line;
+use clr_designs::{make_design, replace_live, write_design_script};
+use clr_desk_prints::{Ending, Print};
+use clr_engine::Office;
+use clr_layer_changes::{FaultyLayer, GivenLayer, LayerOptions, edits_between, wanted_content};
+use clr_lines::reply_line;
+use clr_office_reports::dump_text;
+use clr_rows::{LIVE, Schema, Sheet};
+use clr_steps::Reply;
+use std::alloc::{AllocError, Global};
+
+/// Returns the line of the first layer with a fault as the only note, without a text.
+fn print_of_fault(
+    alloc: Global,
+    layers: &[GivenLayer],
+    faulty: &FaultyLayer,
+) -> Result<Print, AllocError>
+    ensures { IfOk result (λ p. printed p ≡ faulty_layer_printout layers.now faulty.now) }
+{
+    Ok(Print {
+        text: Vec::new(alloc),
+        notes: fault_line(alloc, layers, faulty)?,
+        ending: Ending::Unread,
+    })
+}
+
+/// Returns the line of a refusal as the only note, without a text.
+fn print_of_refusal(alloc: Global, schema: &Schema, reply: &Reply) -> Result<Print, AllocError>
+    ensures { IfOk result (λ p. printed p ≡ refusal_print schema.now reply.now) }
+{
+    let line = reply_line(alloc, schema, reply)?;
+    Ok(Print::new(Vec::new(alloc), line, true, false))
+}
+
+/// Makes the design that has a content, and returns the text of the office, or why the design's workspace can't be created.
+fn print_of_design(
+    alloc: Global,
+    office: &mut Office,
+    name: &str,
+    content: &Sheet,
+) -> Result<Print, AllocError>
+    requires { FitsSchema office.old.schema content.now }
+    ensures { IfOk result (λ p. IsPrintOfDesign name.now office.old content.now (printed p)) }
+{
+    match make_design(alloc, office, name, content)? {
+        None => Ok(Print::of_text(alloc, dump_text(alloc, office)?)),
+        Some(reply) => print_of_refusal(alloc, office.schema(), &reply),
+    }
+}
+
+/// Makes the design that has a content, and returns the script that makes it, or why the design's workspace can't be created.
+fn print_of_script(
+    alloc: Global,
+    office: &mut Office,
+    name: &str,
+    content: &Sheet,
+) -> Result<Print, AllocError>
+    requires { FitsSchema office.old.schema content.now }
+    ensures { IfOk result (λ p. IsPrintOfScript name.now office.old content.now (printed p)) }
+{
+    if let Some(reply) = make_design(alloc, office, name, content)? {
+        return print_of_refusal(alloc, office.schema(), &reply);
+    }
+    let edits = edits_between(alloc, office.live(), content)?;
+    let text = write_design_script(alloc, office.schema(), name, LIVE, edits.as_slice())?;
+    Ok(Print::of_text(alloc, text))
+}
+
+/// Puts a content in place of LIVE's, and returns the text of the office, or the least need that the content breaks.
+fn print_of_live(alloc: Global, office: &mut Office, content: &Sheet) -> Result<Print, AllocError>
+    requires { FitsSchema office.old.schema content.now }
+    ensures { IfOk result (λ p. IsPrintOfLive office.old content.now (printed p)) }
+{
+    match replace_live(alloc, office, content)? {
+        None => Ok(Print::of_text(alloc, dump_text(alloc, office)?)),
+        Some(reply) => print_of_refusal(alloc, office.schema(), &reply),
+    }
+}
+
+/// Returns what is printed of the design that has the rows of layers.
+pub(crate) fn design_print(
+    alloc: Global,
+    office: &mut Office,
+    name: &str,
+    options: LayerOptions,
+    layers: &[GivenLayer],
+) -> Result<Print, AllocError>
+    ensures { IfOk result (λ p. IsDesignPrint name.now options layers.now office.old (printed p)) }
+{
+    match wanted_content(alloc, office.schema(), office.live(), options, layers)? {
+        Ok(content) => print_of_design(alloc, office, name, &content),
+        Err(faulty) => print_of_fault(alloc, layers, &faulty),
+    }
+}
+
+/// Returns what is printed of the script that makes this design.
+pub(crate) fn script_print(
+    alloc: Global,
+    office: &mut Office,
+    name: &str,
+    options: LayerOptions,
+    layers: &[GivenLayer],
+) -> Result<Print, AllocError>
+    ensures { IfOk result (λ p. IsDesignScriptPrint name.now options layers.now office.old (printed p)) }
+{
+    match wanted_content(alloc, office.schema(), office.live(), options, layers)? {
+        Ok(content) => print_of_script(alloc, office, name, &content),
+        Err(faulty) => print_of_fault(alloc, layers, &faulty),
+    }
+}
+
+/// Returns what is printed of the office whose LIVE has the rows of layers.
+pub(crate) fn office_print(
+    alloc: Global,
+    office: &mut Office,
+    options: LayerOptions,
+    layers: &[GivenLayer],
+) -> Result<Print, AllocError>
+    ensures { IfOk result (λ p. IsOfficePrint options layers.now office.old (printed p)) }
+{
+    match wanted_content(alloc, office.schema(), office.live(), options, layers)? {
+        Ok(content) => print_of_live(alloc, office, &content),
+        Err(faulty) => print_of_fault(alloc, layers, &faulty),
+    }
+}

@@ -1,0 +1,64 @@
+//! Offices and designs that are made of layers, for the office of a text.
+
+ghost use Rattle.clr_office_texts.specs.Drafts.{draft_in};
+ghost use Rattle.clr_desk_prints.specs.Printing.{IsMadePrintout, IsPrintoutIn};
+ghost use Rattle.clr_desk_layers.specs.Designs.{IsDesignPrint, IsDesignScriptPrint, IsOfficePrint};
+
+use crate::design_prints::{design_print, office_print, script_print};
+use clr_desk_prints::{Print, RunFault, notes_of};
+use clr_layer_changes::{GivenLayer, LayerOptions};
+use clr_office_reports::open_office;
+use std::alloc::Global;
+
+/// Returns an office text: that of the given office with one more workspace of this name, a child of LIVE, which sees LIVE's content with the rows of the
+/// layers in place of those of their tables. A row without a key gets the least one that is free, from the first key of the options on. Where a layer has a
+/// fault there is no text, and its line is the only note, with status 2; where the workspace can't be created, the line of that reply, with status 1.
+/// Where a rule doesn't hold the line that says so is the only note, and there is no text. Fails with `BadOffice` where the text is no office, and
+/// with `OutOfMemory` for want of memory, which may come in place of any other answer.
+pub fn answer_design(
+    alloc: Global,
+    office: &[u8],
+    name: &str,
+    options: LayerOptions,
+    layers: &[GivenLayer],
+) -> Result<Print, RunFault>
+    ensures { IsMadePrintout (IsPrintoutIn (IsDesignPrint name.now options layers.now) (draft_in office.now)) result }
+{
+    match open_office(alloc, office) {
+        Ok(mut office) => Ok(design_print(alloc, &mut office, name, options, layers)?),
+        Err(answer) => notes_of(alloc, answer),
+    }
+}
+
+/// Returns the script that makes this design: a step that creates the workspace, and one that makes its edits. Both would be done, and leave the same
+/// office. All else is as for `answer_design`, so that no script is written of a design that can't be made.
+pub fn answer_design_script(
+    alloc: Global,
+    office: &[u8],
+    name: &str,
+    options: LayerOptions,
+    layers: &[GivenLayer],
+) -> Result<Print, RunFault>
+    ensures { IsMadePrintout (IsPrintoutIn (IsDesignScriptPrint name.now options layers.now) (draft_in office.now)) result }
+{
+    match open_office(alloc, office) {
+        Ok(mut office) => Ok(script_print(alloc, &mut office, name, options, layers)?),
+        Err(answer) => notes_of(alloc, answer),
+    }
+}
+
+/// Returns an office text: that of the given office, where LIVE has the rows of the layers in place of those of their tables. Where these rows break a
+/// rule there is no text, and the line of that reply is the only note, with status 1. All else is as for `answer_design`.
+pub fn answer_office(
+    alloc: Global,
+    office: &[u8],
+    options: LayerOptions,
+    layers: &[GivenLayer],
+) -> Result<Print, RunFault>
+    ensures { IsMadePrintout (IsPrintoutIn (IsOfficePrint options layers.now) (draft_in office.now)) result }
+{
+    match open_office(alloc, office) {
+        Ok(mut office) => Ok(office_print(alloc, &mut office, options, layers)?),
+        Err(answer) => notes_of(alloc, answer),
+    }
+}

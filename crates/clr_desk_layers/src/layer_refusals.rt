@@ -1,0 +1,48 @@
+//! What is printed where a table has no layer: one note, which says why.
+ghost use Rattle.std.specs.Prelude.{◌≡◌, IfOk};
+ghost use Rattle.clr_desk_layers.specs.Layers.{no_table_word, no_workspace_word, unfit_line, unfit_print, wkt_column_word};
+ghost use Rattle.clr_desk_prints.specs.Printing.{printed};
+
+use clr_desk_prints::Print;
+use std::alloc::{AllocError, Global};
+
+/// Returns the line that says why there is no layer, by a number and a word for it, and the name that the word speaks of.
+fn unfit_line(alloc: Global, why: &[u8], name: &str) -> Result<Vec<u8>, AllocError>
+    ensures { IfOk result (λ line. line.items ≡ unfit_line why.now name.now) }
+{
+    let mut line = Vec::from_slice(alloc, b"unfit ")?;
+    line.extend_from_slice(why)?;
+    line.push(b' ')?;
+    line.extend_from_slice(name.as_bytes())?;
+    line.push(b'\n')?;
+    Ok(line)
+}
+
+/// Returns the print of a table that can't be a layer: no text, and the line that says why as its only note, which counts as a refusal.
+fn unfit_print(alloc: Global, why: &[u8], name: &str) -> Result<Print, AllocError>
+    ensures { IfOk result (λ p. printed p ≡ unfit_print why.now name.now) }
+{
+    let line = unfit_line(alloc, why, name)?;
+    Ok(Print::new(Vec::new(alloc), line, true, false))
+}
+
+/// Returns what is printed where no table has this name.
+pub(crate) fn no_table(alloc: Global, name: &str) -> Result<Print, AllocError>
+    ensures { IfOk result (λ p. printed p ≡ unfit_print no_table_word name.now) }
+{
+    unfit_print(alloc, b"8 NoTable", name)
+}
+
+/// Returns what is printed where no workspace has this name.
+pub(crate) fn no_workspace(alloc: Global, name: &str) -> Result<Print, AllocError>
+    ensures { IfOk result (λ p. printed p ≡ unfit_print no_workspace_word name.now) }
+{
+    unfit_print(alloc, b"2 NoWorkspace", name)
+}
+
+/// Returns what is printed where a column of the table of this name is called as the field of shapes.
+pub(crate) fn wkt_column(alloc: Global, name: &str) -> Result<Print, AllocError>
+    ensures { IfOk result (λ p. printed p ≡ unfit_print wkt_column_word name.now) }
+{
+    unfit_print(alloc, b"9 WktColumn", name)
+}

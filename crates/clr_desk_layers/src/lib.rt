@@ -1,0 +1,21 @@
+//! The answers of the second program that read or write layers: tables as layers, and offices and designs that are made of layers.
+//!
+//! - `answer_layer`: the layer of a table's rows in LIVE or in a workspace of the office of a text (`IsLayerPrint`).
+//! - `answer_design`: the office of a text with one more workspace, which has the rows of layers (`IsDesignPrint`); `answer_design_script`: the
+//!   script that makes this design (`IsDesignScriptPrint`); `answer_office`: the office of a text with the rows of layers in LIVE
+//!   (`IsOfficePrint`).
+//! - `printed_layers_change_nothing`: the law that layers which `answer_layer` gives of LIVE, each of another table, change nothing when they are
+//!   given back to these three.
+#![tactic(auto)]
+
+mod design_prints;
+mod designs;
+mod laws;
+mod layer_fault_lines;
+mod layer_refusals;
+mod layers;
+
+pub use clr_layer_changes::{GivenLayer, LayerOptions};
+pub use designs::{answer_design, answer_design_script, answer_office};
+pub use laws::printed_layers_change_nothing;
+pub use layers::answer_layer;

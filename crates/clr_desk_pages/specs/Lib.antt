@@ -1,0 +1,3 @@
+pub mod Features
+pub mod Maps
+pub mod Reports

@@ -1,0 +1,4 @@
+pub mod ChildLemmas
+pub mod Made
+pub mod OneHint
+pub mod PrintLemmas

@@ -1,5 +1,0 @@
-use Rattle.clr_office_reports.proofs.MergeSetLaws.{unfit_for}
-use Rattle.clr_office_reports.proofs.independent_members.of_fault.Goals as goal
-
-pub returns-in_default : goal.returns-in_default
-returns-in_default c = λ o s fault. unfit_for o s c.args.fault c.in_default.not-OutOfMemory fault

@@ -1,0 +1,4 @@
+pub mod Badges
+pub mod CauseMarks
+pub mod CauseRows
+pub mod PlanCauses

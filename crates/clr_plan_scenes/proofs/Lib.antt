@@ -1,2 +1,0 @@
-pub mod CauseLemmas
-pub mod DesignLemmas

@@ -1,7 +1,0 @@
-use Rattle.std.proofs.Common.{◌≡◌, ◌++◌}
-use Rattle.clr_plan_scenes.specs.Designs.{followers}
-use Rattle.clr_plan_scenes.proofs.designs.order_of.Given as goal
-
--- the positions that lead, and the others so far
-abbrev pub invariant-loop-at : goal.invariant-loop-at
-invariant-loop-at l = l.order.items ≡ l.fn.leaders ++ followers l.fn.leaders l.at

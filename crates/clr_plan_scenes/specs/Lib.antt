@@ -1,3 +1,0 @@
-pub mod Badges
-pub mod Causes
-pub mod Designs

@@ -1,9 +1,0 @@
-use Rattle.std.proofs.Common.{◌≡◌, ◌+◌}
-use Rattle.std.specs.Prelude.{count_by}
-use Rattle.std.specs.FinMap as finite
-use Rattle.clr_plan_sentences.specs.Counts.{counted, is_row_change}
-use Rattle.clr_plan_sentences.proofs.changes.count_of.Given as goal
-
--- the changes so far, with those that are left, are all of the set
-abbrev pub invariant-loop-change : goal.invariant-loop-change
-invariant-loop-change l = l.count + count_by (λ e. is_row_change l.kind e.1) l.change-iterator ≡ counted l.kind l.set

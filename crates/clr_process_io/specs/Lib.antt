@@ -1,0 +1,2 @@
+pub mod ExitStatuses
+pub mod Input

@@ -1,5 +1,0 @@
-pub mod CertificateFirsts
-pub mod EditsLeft
-pub mod Firsts
-pub mod PlainSteps
-pub mod ScriptFirsts

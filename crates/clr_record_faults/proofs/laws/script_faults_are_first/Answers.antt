@@ -1,5 +1,0 @@
-use Rattle.clr_record_faults.proofs.ScriptFirsts.{script_faults_first}
-use Rattle.clr_record_faults.proofs.laws.script_faults_are_first.Goals as goal
-
-pub returns : goal.returns
-returns c = script_faults_first

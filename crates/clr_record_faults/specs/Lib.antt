@@ -1,3 +1,0 @@
-pub mod CertificateFaults
-pub mod FirstFaults
-pub mod ScriptFaults

@@ -1,0 +1,2 @@
+pub mod NeedPlaces
+pub mod Servers
