@@ -11,7 +11,7 @@ returns c = λ are.
     let s = set_of c.args.setting.members.now in
     let p = c.args.plan.now in
     let details = string_bytes c.in_ok-details.details in
-    let begun = c.in_ok-text.ensures ∙ c.verdict_words.ensures in
+    let begun = c.in_ok-text.ensures.ok ∙ c.verdict_words.ensures in
     let answered = c.in_ok-push_str.ensures.bytes ∙ ap (λ (t : List ℕ). t ++ c.as_str.result.now) begun
     ∙ ap (λ (t : List ℕ). verdict_text p ++ t) (c.as_str.ensures.value ∙ c.in_ok-answer.ensures) in (
       details,
