@@ -1,3 +1,4 @@
+pub mod FieldLemmas
 pub mod StandingLemmas
 pub mod NameLemmas
 pub mod NamedFaults

@@ -1,5 +1,5 @@
 -- The fault that the reader drops is told.
-use Rattle.std.proofs.Common.{◌≡◌, ℕ, List, Option, Some, None, Result, Ok, Err, codes, string_bytes, subst, sym}
+use Rattle.std.proofs.Common.{◌≡◌, ℕ, List, Option, Some, None, Result, Ok, Err, string_bytes, subst, sym}
 use Rattle.std.specs.Prelude.{IsErr, MatchOption, option_map}
 use Rattle.serde_json.specs.Data.{Data}
 use Rattle.clr_rows.specs.declared.tables.TableDef.{TableDef}
@@ -12,16 +12,23 @@ use Rattle.clr_rule_text.specs.declared.faults.TextFault.{TextFault}
 use Rattle.clr_rule_text.specs.declared.faults.TextFault.TheVariants as fault
 use Rattle.clr_office_reading.specs.declared.formats.Format.{Format}
 use Rattle.clr_faults.specs.InnerFaults.{book_fault_of, put_fault_of, tables_fault_of}
-use Rattle.clr_item_explanations.specs.FaultNames.{BeginsWithName, rule_fault_name, schema_fault_name}
-use Rattle.clr_explanations.specs.Names.{HasTable, NamesAreKnown, TellsFirstUnknown, TellsUnknownName, TellsUnknownTable, first_unknown, text_at}
+use Rattle.clr_item_explanations.specs.FaultNames.{rule_fault_name, schema_fault_name}
+use Rattle.clr_item_explanations.specs.RowFaults.{wrong_of_row}
+use Rattle.clr_item_explanations.specs.RuleFaults.{wrong_of_rule}
+use Rattle.clr_item_explanations.specs.SchemaFaults.{wrong_of_schema}
+use Rattle.clr_item_explanations.specs.Tellings.{TellsNamed}
+use Rattle.clr_item_explanations.specs.Values.{text_at}
+use Rattle.clr_text_positions.specs.declared.paths.Key.TheVariants as key
+use Rattle.clr_explanations.specs.Names.{HasTable, NamesAreKnown, TellsFirstUnknown, TellsUnknownName, TellsUnknownTable, first_unknown}
 use Rattle.clr_item_explanations.specs.declared.slips.Slip.{Slip}
 use Rattle.clr_text_positions.specs.declared.remarks.Remark.{Remark}
 use Rattle.clr_faults.specs.declared.spots.FaultyItem.{FaultyItem}
 use Rattle.clr_explanations.specs.Items.{item_at_spot}
 use Rattle.clr_explanations.specs.Places.{place_text}
-use Rattle.clr_explanations.specs.Remarks.{IsRemarkIn, NamesSchemaFault, Said, TellsDroppedFault, TellsRowFault, TellsRowOfNoTable, TellsRuleFault}
-use Rattle.clr_explanations.specs.Remarks.{TellsRuleOfNoName, tables_in}
-use Rattle.clr_explanations.specs.Slips.{said}
+use Rattle.clr_explanations.specs.Remarks.{IsRemarkIn, TellsSchemaFault, TellsFault, TellsRowFault, TellsRowOfNoTable, TellsRuleFault}
+use Rattle.clr_explanations.specs.Remarks.{TellsRuleOfNoName}
+use Rattle.clr_explanations.specs.Readings.{tables_in}
+use Rattle.clr_item_explanations.specs.Slips.{Said, said}
 
 -- what holds of the value of an option, or of a result, holds of each value that it has
 pub of_some : {A : Type 0} (P : A → Type 0) (found : Option A) (x y : A) → Some x ≡ found → P x → found ≡ Some y → P y
@@ -39,18 +46,19 @@ no_fault found x is again = absurd cc
 
 -- tables -------------------------------------------------------------------------------------
 
-pub names_schema_fault : (format : Format) (d : Data) (f : SchemaFault) (s : List ℕ) → Some f ≡ tables_fault_of format d
-    → BeginsWithName (schema_fault_name f) s → NamesSchemaFault format d s
-names_schema_fault format d f s is named = λ g again. of_some (λ h. BeginsWithName (schema_fault_name h) s) (tables_fault_of format d) f g is named again
+pub names_schema_fault : (format : Format) (d : Data) (f : SchemaFault) (s : Said) → Some f ≡ tables_fault_of format d
+    → TellsNamed (schema_fault_name f) (wrong_of_schema f d) s → TellsSchemaFault format d s
+names_schema_fault format d f s is named =
+    λ g again. of_some (λ h. TellsNamed (schema_fault_name h) (wrong_of_schema h d) s) (tables_fault_of format d) f g is named again
 
-pub no_schema_fault : (format : Format) (d : Data) (s : List ℕ) → None ≡ tables_fault_of format d → NamesSchemaFault format d s
+pub no_schema_fault : (format : Format) (d : Data) (s : Said) → None ≡ tables_fault_of format d → TellsSchemaFault format d s
 no_schema_fault format d s is = λ g again. no_fault (tables_fault_of format d) g is again
 
-pub names_bad_schema : (d : Data) (at : FaultyItem) (s : Said) (format : Format) → format_of d ≡ Ok format → NamesSchemaFault format d s.sentence →
-    TellsDroppedFault d fault.BadSchema at s
-names_bad_schema d at s format is told = λ other again. of_ok (λ x. NamesSchemaFault x d s.sentence) (format_of d) format other is told again
+pub names_bad_schema : (d : Data) (at : FaultyItem) (s : Said) (format : Format) → format_of d ≡ Ok format → TellsSchemaFault format d s →
+    TellsFault d fault.BadSchema at s
+names_bad_schema d at s format is told = λ other again. of_ok (λ x. TellsSchemaFault x d s) (format_of d) format other is told again
 
-pub no_format : (d : Data) (at : FaultyItem) (s : Said) → IsErr (format_of d) → TellsDroppedFault d fault.BadSchema at s
+pub no_format : (d : Data) (at : FaultyItem) (s : Said) → IsErr (format_of d) → TellsFault d fault.BadSchema at s
 no_format d at s is = λ format again. no_value (format_of d) format is again
 
 match_some : {A : Type 0} (found : Option A) (x : A) (P : Type 0) (Q : A → Type 0) → Some x ≡ found → Q x → MatchOption found P Q
@@ -81,7 +89,7 @@ pub no_rule_there : (tables : List TableDef) (d : Data) (at : FaultyItem) (s : S
 no_rule_there tables d at s is = λ item again. no_value (item_at_spot at d) item is again
 
 pub rule_fault_told : (tables : List TableDef) (d : Data) (at : FaultyItem) (f : ℕ × RuleFault) (s : Said) → Some f ≡ book_fault_of tables d
-    → BeginsWithName (rule_fault_name f.1) s.sentence → TellsRuleFault tables d at s
+    → TellsNamed (rule_fault_name f.1) (wrong_of_rule f.1) s → TellsRuleFault tables d at s
 rule_fault_told tables d at f s is told = match_some (book_fault_of tables d) f _ _ is told
 
 pub rule_names_told : (tables : List TableDef) (d : Data) (at : FaultyItem) (s : Said) → None ≡ book_fault_of tables d
@@ -89,51 +97,51 @@ pub rule_names_told : (tables : List TableDef) (d : Data) (at : FaultyItem) (s :
 rule_names_told tables d at s is told = match_none (book_fault_of tables d) _ _ is told
 
 pub names_bad_rule : (d : Data) (at : FaultyItem) (s : Said) (tables : List TableDef) → tables_in d ≡ Ok tables → TellsRuleFault tables d at s →
-    TellsDroppedFault d fault.BadRule at s
+    TellsFault d fault.BadRule at s
 names_bad_rule d at s tables is told = λ others again. of_ok (λ x. TellsRuleFault x d at s) (tables_in d) tables others is told again
 
-pub no_tables : (d : Data) (at : FaultyItem) (s : Said) → IsErr (tables_in d) → TellsDroppedFault d fault.BadRule at s
+pub no_tables : (d : Data) (at : FaultyItem) (s : Said) → IsErr (tables_in d) → TellsFault d fault.BadRule at s
 no_tables d at s is = λ tables again. no_value (tables_in d) tables is again
 
 -- rows ---------------------------------------------------------------------------------------
 
-pub table_told : (tables : List TableDef) (item : Data) (s : Said) → TellsUnknownTable tables (text_at (codes "t") item) s.steps s.sentence s.hint
+pub table_told : (tables : List TableDef) (item : Data) (s : Said) → TellsUnknownTable tables (text_at key.T item) s.steps s.sentence s.hint
     → TellsRowOfNoTable tables item s
 table_told tables item s told = λ none. told
 
-pub known_table : (tables : List TableDef) (item : Data) (s : Said) → HasTable tables (text_at (codes "t") item) → TellsRowOfNoTable tables item s
+pub known_table : (tables : List TableDef) (item : Data) (s : Said) → HasTable tables (text_at key.T item) → TellsRowOfNoTable tables item s
 known_table tables item s known = λ none. absurd (known none)
 
 pub row_fault_told : (tables : List TableDef) (d : Data) (f : RowFault) (s : Said) → Some f ≡ put_fault_of tables d
-    → BeginsWithName (row_fault_name f) s.sentence → TellsRowFault tables d s
+    → TellsNamed (row_fault_name f) (wrong_of_row tables f d) s → TellsRowFault tables d s
 row_fault_told tables d f s is told = match_some (put_fault_of tables d) f _ _ is told
 
 pub row_table_told : (tables : List TableDef) (d : Data) (s : Said) → None ≡ put_fault_of tables d → TellsRowOfNoTable tables d s → TellsRowFault tables d s
 row_table_told tables d s is told = match_none (put_fault_of tables d) _ _ is told
 
 pub names_bad_row : (d : Data) (at : FaultyItem) (s : Said) (tables : List TableDef) (item : Data) → tables_in d ≡ Ok tables → item_at_spot at d ≡ Ok item
-    → TellsRowFault tables item s → TellsDroppedFault d fault.BadRow at s
+    → TellsRowFault tables item s → TellsFault d fault.BadRow at s
 names_bad_row d at s tables item is stands told = λ others other again also.
     of_ok (λ x. TellsRowFault x other s) (tables_in d) tables others is
     (of_ok (λ x. TellsRowFault tables x s) (item_at_spot at d) item other stands told also) again
 
-pub no_tables_of_row : (d : Data) (at : FaultyItem) (s : Said) → IsErr (tables_in d) → TellsDroppedFault d fault.BadRow at s
+pub no_tables_of_row : (d : Data) (at : FaultyItem) (s : Said) → IsErr (tables_in d) → TellsFault d fault.BadRow at s
 no_tables_of_row d at s is = λ tables item again also. no_value (tables_in d) tables is again
 
-pub no_item : (d : Data) (at : FaultyItem) (s : Said) → IsErr (item_at_spot at d) → TellsDroppedFault d fault.BadRow at s
+pub no_item : (d : Data) (at : FaultyItem) (s : Said) → IsErr (item_at_spot at d) → TellsFault d fault.BadRow at s
 no_item d at s is = λ tables item again also. no_value (item_at_spot at d) item is also
 
 -- remarks ------------------------------------------------------------------------------------
 
 -- a remark says what the slip says that it is made of
 pub slip_told : (d : Data) (e : TextFault) (at : FaultyItem) (slip : Slip) (remark : Remark) → string_bytes remark.place ≡ place_text d at slip.steps.items
-    → remark.sentence ≡ slip.sentence → remark.hint ≡ slip.hint → TellsDroppedFault d e at (said slip) → IsRemarkIn d e at remark
+    → remark.sentence ≡ slip.sentence → remark.hint ≡ slip.hint → TellsFault d e at (said slip) → IsRemarkIn d e at remark
 slip_told d e at slip remark place sentence hint told = record {
   steps = slip.steps.items;
   place = place;
   told =
-      subst (λ s. TellsDroppedFault d e at (record { steps = slip.steps.items; sentence = string_bytes s; hint = option_map string_bytes remark.hint }))
+      subst (λ s. TellsFault d e at (record { steps = slip.steps.items; sentence = string_bytes s; hint = option_map string_bytes remark.hint }))
       (sym sentence)
-      (subst (λ h. TellsDroppedFault d e at (record { steps = slip.steps.items; sentence = string_bytes slip.sentence; hint = option_map string_bytes h }))
+      (subst (λ h. TellsFault d e at (record { steps = slip.steps.items; sentence = string_bytes slip.sentence; hint = option_map string_bytes h }))
       (sym hint) told);
 }

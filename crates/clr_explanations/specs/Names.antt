@@ -1,19 +1,18 @@
 -- The tables and columns that a rule names, and what is said of one that the schema hasn't.
-use Rattle.std.specs.Prelude.{◌≡◌, ◌≢◌, ℕ, Bool, true, false, not, ◌&&◌, List, [], ◌∷◌, ◌++◌, codes, map, Option, Some, None, Ok, slice_get, unwrap_or, option_map}
+use Rattle.std.specs.Prelude.{◌≡◌, ◌≢◌, ℕ, Bool, true, false, not, ◌&&◌, List, [], ◌∷◌, ◌++◌, codes, map, Option, Some, None, Ok, unwrap_or, option_map}
 use Rattle.std.specs.List.{enumerate_from, find, list_any}
 use Rattle.std.specs.Str.{bytes_eq}
-use Rattle.std.specs.Option.{option_and_then}
 use Rattle.serde_json.specs.Data.{Data}
-use Rattle.serde_json.specs.Find.{as_str, get}
 use Rattle.clr_rows.specs.Names.{is_key_word}
 use Rattle.clr_rows.specs.declared.rows.Value.{Value}
 use Rattle.clr_rows.specs.declared.tables.TableDef.{TableDef}
-use Rattle.clr_rows.specs.Schemas.{names_of, table_named}
+use Rattle.clr_rows.specs.Schemas.{names_of}
 use Rattle.clr_rule_text.specs.declared.named_rules.NamedRule.{NamedRule}
 use Rattle.clr_rule_text.specs.declared.named_rules.NamedRule.TheVariants.{Unique, Partner, EndNode, Crossing, Near}
 use Rattle.clr_rule_text.specs.declared.named_sides.NamedSide.{NamedSide}
 use Rattle.clr_rule_text.specs.Rules.{named_rule_of}
 use Rattle.clr_hints.specs.Names.{IsHintAtName}
+use Rattle.clr_item_explanations.specs.Values.{table_called}
 use Rattle.clr_text_positions.specs.declared.paths.Key.{Key}
 use Rattle.clr_text_positions.specs.declared.paths.Key.TheVariants as key
 use Rattle.clr_text_positions.specs.declared.paths.PathStep.{PathStep}
@@ -22,15 +21,7 @@ use Rattle.clr_explanations.specs.declared.rule_names.NamePlace.{NamePlace}
 use Rattle.clr_explanations.specs.declared.rule_names.NamePlace.TheVariants as place
 use Rattle.clr_explanations.specs.declared.rule_names.RuleName.{RuleName}
 
--- the text at a key, or no text
-abbrev pub text_at : List ℕ → Data → List ℕ
-text_at key d = unwrap_or (option_and_then as_str (get key d)) []
-
 -- names that the schema hasn't -----------------------------------------------------------------
-
--- the table of a name
-abbrev pub table_called : List TableDef → List ℕ → Option TableDef
-table_called tables name = option_and_then (slice_get tables) (table_named tables name)
 
 -- what is said of the name of a table: that none has it; and the hint at the tables
 pub record TellsNoTable (tables : List TableDef) (name sentence : List ℕ) (hint : Option (List ℕ)) : Type 0 where

@@ -8,7 +8,7 @@ use Rattle.serde_json.specs.Find.{as_i64, as_number, as_str, at, get}
 use Rattle.clr_rule_text.specs.declared.faults.TextFault.{TextFault}
 use Rattle.clr_faults.specs.declared.spots.FaultyItem.{FaultyItem}
 use Rattle.clr_faults.specs.declared.spots.FaultyItem.TheVariants.{Whole, Table, Rule, Live, Workspace, Base, Row, Mark, Saved}
-use Rattle.clr_explanations.specs.Keys.{key_text}
+use Rattle.clr_text_positions.specs.Keys.{key_text}
 use Rattle.clr_text_positions.specs.declared.paths.Key.{Key}
 use Rattle.clr_text_positions.specs.declared.paths.Key.TheVariants as key
 use Rattle.clr_text_positions.specs.declared.paths.PathStep.{PathStep}

@@ -1,47 +1,45 @@
 -- What is said of a fault of an office text.
-use Rattle.std.specs.Prelude.{◌≡◌, ◌≤◌, ℕ, List, [], codes, length, string_bytes, Option, Some, None, Result, Ok, MatchOption, option_map}
+use Rattle.std.specs.Prelude.{◌≡◌, ◌≤◌, ℕ, List, [], length, string_bytes, Option, Some, None, Ok, MatchOption, option_map, unwrap_or}
 use Rattle.serde_json.specs.Data.{Data}
 use Rattle.clr_rows.specs.declared.tables.TableDef.{TableDef}
 use Rattle.clr_rows.specs.declared.faults.SchemaFault.{SchemaFault}
 use Rattle.clr_lines.specs.Replies.{row_fault_name}
-use Rattle.clr_readings.specs.Readings.{◌>>=◌}
-use Rattle.clr_office_reading.specs.Offices.{format_of, schema_of}
+use Rattle.clr_office_reading.specs.Offices.{format_of}
 use Rattle.clr_rule_text.specs.declared.faults.TextFault.{TextFault}
 use Rattle.clr_rule_text.specs.declared.faults.TextFault.TheVariants as fault
 use Rattle.clr_rule_text.specs.declared.named_rules.NamedRule.{NamedRule}
 use Rattle.clr_rule_text.specs.Rules.{named_rule_of}
 use Rattle.clr_office_reading.specs.declared.formats.Format.{Format}
 use Rattle.clr_faults.specs.InnerFaults.{book_fault_of, put_fault_of, tables_fault_of}
-use Rattle.clr_item_explanations.specs.FaultNames.{BeginsWithName, rule_fault_name, schema_fault_name}
+use Rattle.clr_item_explanations.specs.FaultNames.{rule_fault_name, schema_fault_name}
+use Rattle.clr_item_explanations.specs.RowFaults.{wrong_of_row}
+use Rattle.clr_item_explanations.specs.RuleFaults.{wrong_of_rule}
+use Rattle.clr_item_explanations.specs.SchemaFaults.{wrong_of_schema}
+use Rattle.clr_item_explanations.specs.Slips.{Said}
+use Rattle.clr_item_explanations.specs.Tellings.{Tells, TellsNamed}
+use Rattle.clr_item_explanations.specs.Values.{table_called, text_at}
 use Rattle.clr_faults.specs.Spots.{IsFoundIn, value_in}
 use Rattle.clr_faults.specs.declared.spots.FaultyItem.{FaultyItem}
 use Rattle.clr_text_positions.specs.declared.remarks.Remark.{Remark}
+use Rattle.clr_text_positions.specs.declared.paths.Key.TheVariants as key
 use Rattle.clr_text_positions.specs.declared.paths.PathStep.{PathStep}
 use Rattle.clr_explanations.specs.Items.{item_at_spot}
-use Rattle.clr_explanations.specs.Names.{NameInRule, TellsUnknownName, TellsUnknownTable, first_unknown, table_called, text_at}
+use Rattle.clr_explanations.specs.Names.{NameInRule, TellsUnknownName, TellsUnknownTable, first_unknown}
 use Rattle.clr_explanations.specs.Places.{place_text}
-
--- the schema of a text
-abbrev pub tables_in : Data → Result (List TableDef) TextFault
-tables_in d = format_of d >>= λ format. schema_of format d
-
--- what is said of a fault: the steps from its item to the value that is wrong, a sentence, and a hint
-pub record Said : Type 0 where
-  pub steps : List PathStep
-  pub sentence : List ℕ
-  pub hint : Option (List ℕ)
+use Rattle.clr_explanations.specs.Readings.{tables_in}
+use Rattle.clr_explanations.specs.WrongItems.{unknown, wrong_at_spot, wrong_part_at}
 
 -- rows -----------------------------------------------------------------------------------------
 
 -- of a row whose table the schema hasn't
 abbrev pub TellsRowOfNoTable : List TableDef → Data → Said → Type 0
-TellsRowOfNoTable tables item said = let name = text_at (codes "t") item in
+TellsRowOfNoTable tables item said = let name = text_at key.T item in
     table_called tables name ≡ None → TellsUnknownTable tables name said.steps said.sentence said.hint
 
--- of a row that can't be put at its cell: the fault that it has over its table, or that there is no such table
+-- of a row that can't be put at its cell: the fault that it has over its table and what has it, or that there is no such table
 abbrev pub TellsRowFault : List TableDef → Data → Said → Type 0
 TellsRowFault tables item said =
-    MatchOption (put_fault_of tables item) (TellsRowOfNoTable tables item said) (λ f. BeginsWithName (row_fault_name f) said.sentence)
+    MatchOption (put_fault_of tables item) (TellsRowOfNoTable tables item said) (λ f. TellsNamed (row_fault_name f) (wrong_of_row tables f item) said)
 
 -- rules ----------------------------------------------------------------------------------------
 
@@ -50,36 +48,41 @@ abbrev pub TellsRuleOfNoName : List TableDef → Data → Said → Type 0
 TellsRuleOfNoName tables item said = (rule : NamedRule) (name : NameInRule) → named_rule_of item ≡ Ok rule → first_unknown tables rule ≡ Some name →
     TellsUnknownName tables name said.steps said.sentence said.hint
 
--- of a rule that can't stand in a book: the fault of the book, or the first name that isn't known in the rule of the item
+-- of a rule that can't stand in a book: the fault of the book and what it means, or the first name that isn't known in the rule of the item
 abbrev pub TellsRuleFault : List TableDef → Data → FaultyItem → Said → Type 0
 TellsRuleFault tables d at said =
     MatchOption (book_fault_of tables d) ((item : Data) → item_at_spot at d ≡ Ok item → TellsRuleOfNoName tables item said)
-    (λ f. BeginsWithName (rule_fault_name f.1) said.sentence)
+    (λ f. TellsNamed (rule_fault_name f.1) (wrong_of_rule f.1) said)
 
 -- tables ---------------------------------------------------------------------------------------
 
--- a sentence begins with the name of the fault of the tables
-abbrev pub NamesSchemaFault : Format → Data → List ℕ → Type 0
-NamesSchemaFault format d sentence = (f : SchemaFault) → tables_fault_of format d ≡ Some f → BeginsWithName (schema_fault_name f) sentence
+-- of tables that make no schema: the fault that they have, and the table or the column that has it
+abbrev pub TellsSchemaFault : Format → Data → Said → Type 0
+TellsSchemaFault format d said = (f : SchemaFault) → tables_fault_of format d ≡ Some f → TellsNamed (schema_fault_name f) (wrong_of_schema f d) said
 
 -- remarks --------------------------------------------------------------------------------------
 
--- the fault that the reader of a text drops is told
-abbrev pub TellsDroppedFault : Data → TextFault → FaultyItem → Said → Type 0
-TellsDroppedFault d fault.BadSchema at said = (format : Format) → format_of d ≡ Ok format → NamesSchemaFault format d said.sentence
-TellsDroppedFault d fault.BadRule at said = (tables : List TableDef) → tables_in d ≡ Ok tables → TellsRuleFault tables d at said
-TellsDroppedFault d fault.BadRow at said =
+-- what is said by the fault: of a field the first that isn't what must stand there, of a workspace what it is behind those before it, and of tables,
+-- rules and rows the fault that the reader drops
+abbrev pub TellsFault : Data → TextFault → FaultyItem → Said → Type 0
+TellsFault d fault.BadField at said = Tells (unwrap_or (wrong_at_spot at d) unknown) said
+TellsFault d fault.BadPart at said = Tells (unwrap_or (wrong_part_at at d) unknown) said
+TellsFault d fault.RepeatedCell at said = Unit {0}
+TellsFault d fault.BadSchema at said = (format : Format) → format_of d ≡ Ok format → TellsSchemaFault format d said
+TellsFault d fault.BadRule at said = (tables : List TableDef) → tables_in d ≡ Ok tables → TellsRuleFault tables d at said
+TellsFault d fault.BadRow at said =
     (tables : List TableDef) (item : Data) → tables_in d ≡ Ok tables → item_at_spot at d ≡ Ok item → TellsRowFault tables item said
-TellsDroppedFault d _ at said = Unit {0}
+TellsFault d fault.NotJson at said = Tells unknown said
+TellsFault d fault.OutOfMemory at said = Tells unknown said
 
 abbrev pub said_at : List PathStep → Remark → Said
 said_at steps remark = record { steps = steps; sentence = string_bytes remark.sentence; hint = option_map string_bytes remark.hint }
 
--- what is said of a fault at an item of a value: the path to the item and on to a value in it, and the fault that the reader drops
+-- what is said of a fault at an item of a value: the path to the item and on to the value that is wrong, and what is wrong with it
 pub record IsRemarkIn (d : Data) (e : TextFault) (at : FaultyItem) (remark : Remark) : Type 0 where
   pub steps : List PathStep
   pub place : string_bytes remark.place ≡ place_text d at steps
-  pub told : TellsDroppedFault d e at (said_at steps remark)
+  pub told : TellsFault d e at (said_at steps remark)
 
 -- what is said of a fault at an item of a text, and of a text that is no value, which has no path
 pub record IsRemarkAt (text : List ℕ) (e : TextFault) (at : FaultyItem) (remark : Remark) : Type 0 where

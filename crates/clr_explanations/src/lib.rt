@@ -1,21 +1,20 @@
 //! What is said of an office text that can't be read: the fault, its place, a sentence and a hint.
 //!
 //! - `explain_office` [`none`, `told`, `at`]: whether an office text can be read; else the reader's own fault, and a remark on the item that
-//!   has it, the first of its list whose own reading answers this fault. Its path is exactly the steps to the item and on to a value in it
-//!   (`place_text`). Where the reader drops the fault of a row, of the book of rules or of the tables, the sentence begins with the name
-//!   of just that fault; of a table or a column that the schema hasn't, the path, the sentence and the hint are exactly those of its name.
+//!   has it, the first of its list whose own reading answers this fault. Its path is exactly the steps to the item and on to the value that
+//!   is wrong (`place_text`), and its sentence and hint are exactly what is told of that (`TellsFault`): of the first field that isn't what
+//!   must stand there, of just the fault that the reader drops, and of the first name that the schema hasn't.
 //! - `paths_lead_to_values`: each path leads to a value of the text, and no step to a value is left out.
 //! - `explain_standing` [`none`, `told`]: of a text that can be read, the fault of its workspaces as a whole, and the first that has it.
 //! - `office_fault_words`: the word `office`, and the number and the name of a fault.
 //!
-//! Lines and columns are those of the byte at which a value is looked for, which is tested, as sentences and hints are.
+//! Lines and columns are those of the byte at which a value is looked for, which is tested.
 #![tactic(auto)]
 
 mod fault_words;
 mod field_slips;
 mod inner_slips;
 mod items;
-mod keys;
 mod laws;
 mod lists;
 mod offices;

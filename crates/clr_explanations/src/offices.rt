@@ -1,9 +1,11 @@
 //! What is said of an office text that can't be read.
-ghost use Rattle.std.specs.Prelude.{◌≡◌, ◌≤◌, [], length, string_bytes, Err, IfOk, IfNone, IfSome, IsOk};
+ghost use Rattle.std.specs.Prelude.{◌≡◌, ◌≤◌, [], length, string_bytes, unwrap_or, Err, IfOk, IfNone, IfSome, IsOk};
 ghost use Rattle.serde_json.specs.View.{view};
 ghost use Rattle.clr_office_reading.specs.Offices.{office_in};
-ghost use Rattle.clr_explanations.specs.Remarks.{IsOfficeRemark, IsRemarkAt, IsRemarkIn, TellsDroppedFault};
-ghost use Rattle.clr_explanations.specs.Slips.{said};
+ghost use Rattle.clr_explanations.specs.Remarks.{IsOfficeRemark, IsRemarkAt, IsRemarkIn, TellsFault};
+ghost use Rattle.clr_item_explanations.specs.Slips.{said};
+ghost use Rattle.clr_item_explanations.specs.Tellings.{Tells, TellsIfAny};
+ghost use Rattle.clr_explanations.specs.WrongItems.{unknown, wrong_part_at};
 
 use crate::field_slips::field_slip;
 use crate::inner_slips::{row_slip, rule_slip, schema_slip, slip_or_unknown};
@@ -24,17 +26,38 @@ pub struct OfficeFault {
     pub remark: Remark,
 }
 
-/// Returns why a workspace can't stand behind those before it.
-fn workspace_slip(alloc: Global, json: &Json, spot: FaultyItem) -> Result<Slip, AllocError> {
+/// Returns what is wrong with a workspace behind those before it; none of another item.
+#[tactic(auto, using(clr_item_explanations::proofs::TellingLemmas::nothing))]
+fn found_workspace(alloc: Global, json: &Json, spot: FaultyItem) -> Result<Option<Slip>, AllocError>
+    ensures { IfOk result (TellsIfAny (wrong_part_at spot (view json.now))) }
+{
     match spot {
-        FaultyItem::Workspace(at) => slip_or_unknown(alloc, explain_workspace(alloc, json, at)?),
-        _ => slip_or_unknown(alloc, None),
+        FaultyItem::Workspace(at) => explain_workspace(alloc, json, at),
+        _ => Ok(None),
     }
+}
+
+/// Returns that nothing that is known is wrong.
+#[tactic(auto, using(clr_item_explanations::proofs::TellingLemmas::nothing))]
+fn unknown_slip(alloc: Global) -> Result<Slip, AllocError>
+    ensures { IfOk result (λ slip. Tells unknown (said slip)) }
+{
+    let slip = slip_or_unknown(alloc, None)?;
+    Ok(slip)
+}
+
+/// Returns why a workspace can't stand behind those before it.
+fn workspace_slip(alloc: Global, json: &Json, spot: FaultyItem) -> Result<Slip, AllocError>
+    ensures { IfOk result (λ slip. Tells (unwrap_or (wrong_part_at spot (view json.now)) unknown) (said slip)) }
+{
+    let found = found_workspace(alloc, json, spot)?;
+    let slip = slip_or_unknown(alloc, found)?;
+    Ok(slip)
 }
 
 /// Returns what is wrong with the item that has the fault.
 fn slip_of(alloc: Global, text: &[u8], json: &Json, found: Found) -> Result<Slip, AllocError>
-    ensures { IfOk result (λ slip. TellsDroppedFault (view json.now) found.fault found.spot (said slip)) }
+    ensures { IfOk result (λ slip. TellsFault (view json.now) found.fault found.spot (said slip)) }
 {
     match found.fault {
         TextFault::BadSchema => schema_slip(alloc, json, found.spot),
@@ -43,8 +66,8 @@ fn slip_of(alloc: Global, text: &[u8], json: &Json, found: Found) -> Result<Slip
         TextFault::BadField => field_slip(alloc, json, found.spot),
         TextFault::RepeatedCell => repeated_slip(alloc, text, json, found.spot),
         TextFault::BadPart => workspace_slip(alloc, json, found.spot),
-        TextFault::NotJson => slip_or_unknown(alloc, None),
-        TextFault::OutOfMemory => slip_or_unknown(alloc, None),
+        TextFault::NotJson => unknown_slip(alloc),
+        TextFault::OutOfMemory => unknown_slip(alloc),
     }
 }
 

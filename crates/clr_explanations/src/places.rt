@@ -7,7 +7,6 @@ ghost use Rattle.clr_explanations.specs.Places.{cell_text, cell_text_of, first_s
 ghost use Rattle.clr_explanations.specs.Places.{steps_within, value_at_step};
 
 use crate::items::item_at;
-use crate::keys::key_word;
 use crate::spots::spot_steps;
 use clr_faults::FaultyItem;
 use clr_item_explanations::Slip;
@@ -20,7 +19,7 @@ fn value_at_step(json: &Json, step: PathStep) -> Option<&Json>
     ensures { option_map (λ v. view v.now) result ≡ value_at_step step (view json.now) }
 {
     match step {
-        PathStep::Key(key) => json.get(key_word(key)),
+        PathStep::Key(key) => json.get(key.as_str()),
         PathStep::At(at) => json.get(at),
     }
 }
@@ -57,7 +56,7 @@ fn add_step(path: &mut String, step: PathStep) -> Result<(), AllocError>
     match step {
         PathStep::Key(key) => {
             path.push_str(".")?;
-            path.push_str(key_word(key))
+            path.push_str(key.as_str())
         }
         PathStep::At(at) => {
             path.push_str("[")?;
@@ -72,7 +71,7 @@ fn add_first_step(path: &mut String, step: PathStep) -> Result<(), AllocError>
     ensures { OnOk result (string_bytes path.new ≡ string_bytes path.old ++ first_step_text step) }
 {
     match step {
-        PathStep::Key(key) => path.push_str(key_word(key)),
+        PathStep::Key(key) => path.push_str(key.as_str()),
         PathStep::At(_) => add_step(path, step),
     }
 }

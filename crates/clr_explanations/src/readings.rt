@@ -2,7 +2,7 @@
 ghost use Rattle.std.specs.Prelude.{◌≡◌, Ok, IfOk, IsErr, MatchOption};
 ghost use Rattle.serde_json.specs.View.{view};
 ghost use Rattle.clr_office_reading.specs.Offices.{format_of};
-ghost use Rattle.clr_explanations.specs.Remarks.{tables_in};
+ghost use Rattle.clr_explanations.specs.Readings.{tables_in};
 
 use clr_faults::unless_lost;
 use clr_office_reading::formats::{Format, read_format};

@@ -4,11 +4,13 @@ ghost use Rattle.serde_json.specs.View.{view};
 ghost use Rattle.clr_rule_text.specs.Fields.{text_lacks_memory};
 ghost use Rattle.clr_rule_text.specs.Rules.{named_rule_of};
 ghost use Rattle.clr_explanations.specs.Names.{HasTable, NamesAreKnown, TellsFirstUnknown, TellsNoColumn, TellsNoTable, TellsUnknownName};
-ghost use Rattle.clr_explanations.specs.Names.{TellsUnknownTable, name_in_rule, text_at};
+ghost use Rattle.clr_explanations.specs.Names.{TellsUnknownTable, name_in_rule};
+ghost use Rattle.clr_item_explanations.specs.Values.{text_at};
+ghost use Rattle.clr_text_positions.specs.declared.paths.Key.TheVariants as key;
 
 use crate::rule_names::{RuleName, first_unknown, names_of_rule};
 use clr_hints::{column_names, name_hint, table_names, table_of};
-use clr_item_explanations::Slip;
+use clr_item_explanations::{Slip, text_at};
 use clr_office_reading::TextFault;
 use clr_office_reading::named_rules::{NamedRule, named_rule};
 use clr_rows::{Schema, TableDef};
@@ -32,19 +34,6 @@ fn slip_at(
         sentence,
         hint,
     })
-}
-
-/// Returns the text at a key, or no text.
-fn text_in<'a>(json: &'a Json, key: &str) -> &'a str
-    ensures { result.now ≡ text_at key.now (view json.now) }
-{
-    match json.get(key) {
-        Some(value) => match value.as_str() {
-            Some(text) => text,
-            None => "",
-        },
-        None => "",
-    }
 }
 
 /// Returns the slip that no table has the name at these steps.
@@ -100,11 +89,11 @@ pub fn unknown_table_slip(
     json: &Json,
     schema: &Schema,
 ) -> Result<Option<Slip>, AllocError>
-    ensures none { IfOk result (λ found. IfNone found (HasTable schema.now (text_at (codes "t") (view json.now)))) }
-    ensures told { IfOk result (λ found. IfSome found (λ slip. TellsUnknownTable schema.now (text_at (codes "t") (view json.now)) slip.steps.items
+    ensures none { IfOk result (λ found. IfNone found (HasTable schema.now (text_at key.T (view json.now)))) }
+    ensures told { IfOk result (λ found. IfSome found (λ slip. TellsUnknownTable schema.now (text_at key.T (view json.now)) slip.steps.items
         (string_bytes slip.sentence) (option_map string_bytes slip.hint))) }
 {
-    let name = text_in(json, "t");
+    let name = text_at(json, Key::T);
     match table_of(schema, name) {
         Some(_) => Ok(None),
         None => Ok(Some(no_table(alloc, schema, name, &[PathStep::Key(Key::T)])?)),

@@ -1,1 +1,12 @@
 pub mod FaultNames
+pub mod Fields
+pub mod RowFaults
+pub mod Rows
+pub mod RuleFaults
+pub mod Rules
+pub mod SchemaFaults
+pub mod Slips
+pub mod Tables
+pub mod Tellings
+pub mod Values
+pub mod Workspaces

@@ -1,9 +1,12 @@
 //! What is wrong with an item of an office text that can't be read: the steps to the value, a sentence and a hint.
 //!
-//! - `explain_row_fault`, `explain_rule_fault`, `explain_schema` and `explain_part`: the sentence begins with the name of the fault
-//!   that is given.
-//! - `explain_row`, `explain_rule`, `explain_table`, `explain_workspace`, `explain_mark` and the others: they are safe, end and give up for
-//!   want of memory alone; what they say, and at which value, is tested.
+//! - `explain_row`, `explain_rule`, `explain_table`, `explain_workspace`, `explain_mark`, `explain_field` and `explain_fields`: exactly what is
+//!   wrong with the first field with which anything is (`wrong_row` and its like), and none where nothing is.
+//! - `explain_row_fault`, `explain_rule_fault`, `explain_schema` and `explain_part`: the name of the fault that is given, and exactly what has
+//!   it: the first column, coordinate, name or table, and else the item (`wrong_of_row` and its like).
+//!
+//! A `Wrong` has the steps to a value and what is told of it; `IsTold` says in which sentence and with which hint. A value stands in a
+//! sentence as JSON writes it. Of a number with a fraction it isn't said which of its texts that is.
 #![tactic(auto)]
 
 mod fields;
@@ -17,9 +20,9 @@ mod tables;
 mod workspaces;
 
 pub use fields::{Wanted, explain_field, explain_fields, items_at, text_at};
-pub use row_faults::{explain_row_fault, explain_unknown_table};
+pub use row_faults::explain_row_fault;
 pub use rows::{Within, explain_row};
-pub use rule_faults::{explain_rule_fault, explain_unknown_name};
+pub use rule_faults::explain_rule_fault;
 pub use rules::explain_rule;
 pub use schemas::explain_schema;
 pub use slips::Slip;

@@ -1,8 +1,16 @@
 //! Workspaces and marks that can't be read, or that can't stand.
-ghost use Rattle.std.specs.Prelude.{◌≡◌, string_bytes, IfOk};
+ghost use Rattle.std.specs.Prelude.{◌≡◌, ◌∷◌, map, string_bytes, IfOk};
+ghost use Rattle.serde_json.specs.View.{view};
 ghost use Rattle.clr_item_explanations.specs.FaultNames.{BeginsWithName, part_fault_name};
+ghost use Rattle.clr_item_explanations.specs.Slips.{said};
+ghost use Rattle.clr_item_explanations.specs.Tellings.{Tells, TellsIfAny, TellsNamed};
+ghost use Rattle.clr_item_explanations.specs.Workspaces.{part_fault_key, part_fault_text, wrong_mark, wrong_parent, wrong_part, wrong_workspace};
+ghost use Rattle.clr_item_explanations.specs.Workspaces.{wrong_workspace_behind};
+ghost use Rattle.clr_item_explanations.specs.Values.{text_at};
+ghost use Rattle.clr_rows.specs.Names.{live_name};
+ghost use Rattle.clr_text_positions.specs.declared.paths.Key.TheVariants as key;
 
-use crate::fields::{Wanted, explain_field, explain_fields, items_at, text_at};
+use crate::fields::{Wanted, explain_field, explain_fields, items_at, stands_among, text_at};
 use crate::slips::Slip;
 use clr_hints::{GOOD_NAME, name_hint};
 use clr_rows::LIVE;
@@ -11,24 +19,25 @@ use clr_tree::PartFault;
 use serde_json::Value as Json;
 use std::alloc::{AllocError, Global};
 
-/// Returns LIVE and the names of the workspaces before one.
-fn earlier_names<'a>(
-    alloc: Global,
-    items: &'a [Json],
-    at: usize,
-) -> Result<Vec<&'a str>, AllocError> {
+/// Returns LIVE and the names of these workspaces.
+fn earlier_names<'a>(alloc: Global, earlier: &'a [Json]) -> Result<Vec<&'a str>, AllocError>
+    ensures { IfOk result (λ names. map (λ name. name.now) names.items ≡ live_name ∷ map (text_at key.Name) (map view earlier.now)) }
+{
     let mut names: Vec<&str> = Vec::new(alloc);
     names.push(LIVE)?;
-    for item in items.iter().take(at) {
+    for item in earlier {
         names.push(text_at(item, Key::Name))?;
     }
     Ok(names)
 }
 
 /// Returns the slip that a workspace's parent is neither LIVE nor an earlier workspace, or none where it is one of them.
-fn explain_parent(alloc: Global, json: &Json, names: &[&str]) -> Result<Option<Slip>, AllocError> {
+#[tactic(auto, using(crate::proofs::TellingLemmas::right_if, crate::proofs::TellingLemmas::name_else), unfolding(crate::specs::Workspaces::wrong_parent))]
+fn explain_parent(alloc: Global, json: &Json, names: &[&str]) -> Result<Option<Slip>, AllocError>
+    ensures { IfOk result (TellsIfAny (wrong_parent (map (λ name. name.now) names.now) (view json.now))) }
+{
     let parent = text_at(json, Key::Parent);
-    if names.contains(&parent) {
+    if stands_among(names, parent) {
         return Ok(None);
     }
     let sentence = format!(in alloc;
@@ -38,17 +47,15 @@ fn explain_parent(alloc: Global, json: &Json, names: &[&str]) -> Result<Option<S
     Ok(Some(Slip::new(alloc, &[PathStep::Key(Key::Parent)], sentence)?.with_hint(hint)))
 }
 
-/// Returns what is wrong with the workspace at a place of an office text, its cells and marks aside, or none where nothing is
-/// found.
-pub fn explain_workspace(
+/// Returns what is wrong with a workspace that stands behind those of these names.
+#[tactic(auto, using(crate::proofs::TellingLemmas::first_told, crate::proofs::TellingLemmas::behind_told), unfolding(crate::specs::Workspaces::wrong_workspace_behind))]
+fn explain_workspace_behind(
     alloc: Global,
-    text: &Json,
-    at: usize,
-) -> Result<Option<Slip>, AllocError> {
-    let items = items_at(text, Key::Workspaces);
-    let Some(json) = items.get(at) else {
-        return Ok(None);
-    };
+    names: &[&str],
+    json: &Json,
+) -> Result<Option<Slip>, AllocError>
+    ensures { IfOk result (TellsIfAny (wrong_workspace_behind (map (λ name. name.now) names.now) (view json.now))) }
+{
     let head = [
         (Key::Name, Wanted::Text),
         (Key::Parent, Wanted::Text),
@@ -57,8 +64,7 @@ pub fn explain_workspace(
     if let Some(slip) = explain_fields(alloc, json, &head)? {
         return Ok(Some(slip));
     }
-    let names = earlier_names(alloc, items, at)?;
-    if let Some(slip) = explain_parent(alloc, json, names.as_slice())? {
+    if let Some(slip) = explain_parent(alloc, json, names)? {
         return Ok(Some(slip));
     }
     let lists = [
@@ -69,8 +75,26 @@ pub fn explain_workspace(
     explain_fields(alloc, json, &lists)
 }
 
+/// Returns what is wrong with the workspace at a place of an office text, its cells and marks aside, or none where nothing is
+/// found.
+#[tactic(auto, using(crate::proofs::ItemLemmas::workspace_told, crate::proofs::ItemLemmas::no_workspace))]
+pub fn explain_workspace(alloc: Global, text: &Json, at: usize) -> Result<Option<Slip>, AllocError>
+    ensures { IfOk result (TellsIfAny (wrong_workspace at (view text.now))) }
+{
+    let items = items_at(text, Key::Workspaces);
+    let Some(json) = items.get(at) else {
+        return Ok(None);
+    };
+    let names = earlier_names(alloc, &items[..at])?;
+    let found = explain_workspace_behind(alloc, names.as_slice(), json)?;
+    Ok(found)
+}
+
 /// Returns what is wrong with a mark, its cells aside, or none where nothing is found.
-pub fn explain_mark(alloc: Global, json: &Json) -> Result<Option<Slip>, AllocError> {
+#[tactic(auto, unfolding(crate::specs::Workspaces::wrong_mark))]
+pub fn explain_mark(alloc: Global, json: &Json) -> Result<Option<Slip>, AllocError>
+    ensures { IfOk result (TellsIfAny (wrong_mark (view json.now))) }
+{
     if json.get("child").is_some() {
         return explain_field(alloc, json, Key::Child, Wanted::Text);
     }
@@ -96,7 +120,9 @@ fn part_fault_word(fault: PartFault) -> &'static str
 }
 
 /// Returns what a fault of a workspace among all of them means.
-fn sentence_of(alloc: Global, name: &str, fault: PartFault) -> Result<String, AllocError> {
+fn sentence_of(alloc: Global, name: &str, fault: PartFault) -> Result<String, AllocError>
+    ensures { IfOk result (λ text. string_bytes text ≡ part_fault_text fault name.now) }
+{
     match fault {
         PartFault::BadName => {
             format!(in alloc; "'{name}' is no good name of a workspace: {GOOD_NAME}")
@@ -117,7 +143,9 @@ fn sentence_of(alloc: Global, name: &str, fault: PartFault) -> Result<String, Al
 }
 
 /// Returns the key of a workspace at which its fault among all of them stands.
-fn key_of(fault: PartFault) -> Key {
+fn key_of(fault: PartFault) -> Key
+    ensures { result ≡ part_fault_key fault }
+{
     match fault {
         PartFault::NoParent => Key::Parent,
         PartFault::BadMarks => Key::Marks,
@@ -125,16 +153,25 @@ fn key_of(fault: PartFault) -> Key {
     }
 }
 
-/// Returns why a workspace can't stand among all of them, for the fault that it has: the name of the fault, and a sentence.
-pub fn explain_part(alloc: Global, workspace: &Json, fault: PartFault) -> Result<Slip, AllocError>
-    ensures { IfOk result (λ slip. BeginsWithName (part_fault_name fault) (string_bytes slip.sentence)) }
+/// Returns why a workspace can't stand among all of them, without the fault's name.
+#[tactic(auto, using(crate::proofs::TellingLemmas::part_told))]
+fn of_part(alloc: Global, workspace: &Json, fault: PartFault) -> Result<Slip, AllocError>
+    ensures { IfOk result (λ slip. Tells (wrong_part fault (view workspace.now)) (said slip)) }
 {
     let sentence = sentence_of(alloc, text_at(workspace, Key::Name), fault)?;
     let key = key_of(fault);
-    let slip = if workspace.get(key.as_str()).is_some() {
-        Slip::new(alloc, &[PathStep::Key(key)], sentence)?
+    if workspace.get(key.as_str()).is_some() {
+        Slip::new(alloc, &[PathStep::Key(key)], sentence)
     } else {
-        Slip::new(alloc, &[], sentence)?
-    };
+        Slip::new(alloc, &[], sentence)
+    }
+}
+
+/// Returns why a workspace can't stand among all of them, for the fault that it has: the name of the fault, and a sentence.
+pub fn explain_part(alloc: Global, workspace: &Json, fault: PartFault) -> Result<Slip, AllocError>
+    ensures name { IfOk result (λ slip. BeginsWithName (part_fault_name fault) (string_bytes slip.sentence)) }
+    ensures told { IfOk result (λ slip. TellsNamed (part_fault_name fault) (wrong_part fault (view workspace.now)) (said slip)) }
+{
+    let slip = of_part(alloc, workspace, fault)?;
     slip.with_name(alloc, part_fault_word(fault))
 }

@@ -4,11 +4,12 @@ use Rattle.std.specs.Option.{option_and_then, option_map}
 use Rattle.clr_rows.specs.declared.places.Place.{Place}
 use Rattle.clr_rows.specs.declared.rows.Row.{Row}
 use Rattle.clr_rows.specs.Contents.{Changes}
+use Rattle.clr_rows.specs.Parts.{part_of}
 use Rattle.clr_segments.proofs.BoxLemmas.{segments_touch}
 use Rattle.clr_segments.specs.Bounding.{BoxesTouch, box_between}
 use Rattle.clr_rules.specs.declared.rules.Rule.{Rule}
 use Rattle.clr_rules.specs.declared.rules.Rule.TheVariants.{Crossing, EndNode, Near, Partner, Unique}
-use Rattle.clr_rules.specs.Sides.{Segment}
+use Rattle.clr_rules.specs.Sides.{Segment, end_in}
 use Rattle.clr_needs.specs.declared.needs.Need.{Need}
 use Rattle.clr_needs.specs.declared.needs.VersionId.{VersionId}
 use Rattle.clr_steps.specs.Offices.{Office}
@@ -49,10 +50,14 @@ meets_by : (sets : List Changes) (v w : VersionId) (r : Option Rule) (need : Nee
 meets_by sets v w r need (meeting.Whole p) first second is = tt
 meets_by sets v w r need meeting.Apart first second is = tt
 meets_by sets v w r need meeting.NoParts first second is = tt
-meets_by sets v w (Some (Crossing a b server)) need meeting.Between (Some first) (Some second) is = parts_between _ _ is
-meets_by sets v w (Some (Crossing a b server)) need meeting.Overlap (Some first) (Some second) is = parts_overlap _ _ is
-meets_by sets v w (Some (EndNode subject tip server)) need meeting.Between (Some first) second is = absurd (end_not_between _ is)
-meets_by sets v w (Some (EndNode subject tip server)) need meeting.Overlap (Some first) second is = absurd (end_not_overlap _ is)
+meets_by sets v w (Some (Crossing a b server)) need meeting.Between (Some first) (Some second) is =
+    parts_between (part_of first.shape need.first_part) (part_of second.shape need.second_part) is
+meets_by sets v w (Some (Crossing a b server)) need meeting.Overlap (Some first) (Some second) is =
+    parts_overlap (part_of first.shape need.first_part) (part_of second.shape need.second_part) is
+meets_by sets v w (Some (EndNode subject tip server)) need meeting.Between (Some first) second is =
+    absurd (end_not_between (end_in tip first.shape) is)
+meets_by sets v w (Some (EndNode subject tip server)) need meeting.Overlap (Some first) second is =
+    absurd (end_not_overlap (end_in tip first.shape) is)
 meets_by sets v w r need meeting.Between first second is = absurd cc
 meets_by sets v w r need meeting.Overlap first second is = absurd cc
 

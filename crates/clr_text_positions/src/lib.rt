@@ -4,6 +4,7 @@
 //! - `place_of` [`line`, `column`]: the line and the column of a byte, exactly; `line_around`
 //!   [`start`, `end`]: the line that it stands in; `first_line_end` and `first_line_length` [`value`]:
 //!   where the first line of a text ends.
+//! - `Key::as_str`: the key as it is written (`key_text`).
 //! - `value_at` and `field_at`: where the value at a path, or a field of a record, begins. That the
 //!   offset is within the text is proved; that the value stands there is tested.
 //! - `fault_lines` [`lines`]: the name of a fault, the line and the column of its byte, what else is

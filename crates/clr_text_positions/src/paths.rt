@@ -1,4 +1,6 @@
 //! Paths in a JSON text: the steps that lead from the whole value to one within it.
+ghost use Rattle.std.specs.Prelude.{◌≡◌};
+ghost use Rattle.clr_text_positions.specs.Keys.{key_text};
 
 /// A key of an object of an office text.
 #[derive(Clone, Copy, Debug, PartialEq, Eq)]
@@ -37,7 +39,9 @@ pub enum Key {
 
 impl Key {
     /// Returns the key as it is written.
-    pub fn as_str(self) -> &'static str {
+    pub fn as_str(self) -> &'static str
+        ensures { result.now ≡ key_text self }
+    {
         match self {
             Key::Format => "format",
             Key::Tables => "tables",

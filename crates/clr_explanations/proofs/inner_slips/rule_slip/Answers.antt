@@ -2,8 +2,8 @@ use Rattle.std.proofs.Common.{◌≡◌, Ok}
 use Rattle.std.proofs.lemmas.Option.{MatchOption-at_some}
 use Rattle.std.specs.Prelude.{IsErr}
 use Rattle.serde_json.specs.View.{view}
-use Rattle.clr_explanations.specs.Remarks.{tables_in}
-use Rattle.clr_explanations.specs.Slips.{said}
+use Rattle.clr_explanations.specs.Readings.{tables_in}
+use Rattle.clr_item_explanations.specs.Slips.{said}
 use Rattle.clr_explanations.proofs.NamedFaults.{names_bad_rule}
 use Rattle.clr_explanations.proofs.inner_slips.rule_slip.Goals as goal
 

@@ -3,7 +3,7 @@ use Rattle.std.proofs.lemmas.Option.{MatchOption-at_some}
 use Rattle.std.specs.Prelude.{IsErr}
 use Rattle.serde_json.specs.View.{view}
 use Rattle.clr_explanations.specs.Items.{item_at_spot}
-use Rattle.clr_explanations.specs.Slips.{said}
+use Rattle.clr_item_explanations.specs.Slips.{said}
 use Rattle.clr_explanations.proofs.NamedFaults.{names_told}
 use Rattle.clr_explanations.proofs.inner_slips.slip_of_name.Goals as goal
 
