@@ -25,7 +25,7 @@ mod unfit;
 
 pub use answers::answer_words;
 pub use labels::add_label;
-pub use sentences::plan_sentences;
+pub use sentences::{MOST_NEEDS, plan_sentences};
 pub use served_needs::NeedWords;
 pub use settings::Setting;
 pub use told_rows::{CauseWords, RowWords};

@@ -20,7 +20,7 @@ use clr_merge_sets::Plan;
 use std::alloc::AllocError;
 
 /// How many needs of a certificate are told one by one.
-const MOST_NEEDS: usize = 12;
+pub const MOST_NEEDS: usize = 12;
 
 /// Adds a row of a cause, on two lines.
 fn add_row(text: &mut String, row: &RowWords) -> Result<(), AllocError>

@@ -15,10 +15,10 @@ use Rattle.clr_steps.specs.declared.commands.Command.TheVariants as command
 use Rattle.clr_steps.specs.declared.commands.Reply.{Reply}
 use Rattle.clr_steps.specs.declared.commands.Reply.TheVariants.{Done, BadName, LiveIsFixed, NameTaken, NoWorkspace, RuleBroken, TooMany}
 use Rattle.clr_steps.specs.Names.{is_live, same_name}
-use Rattle.clr_steps.specs.Offices.{Office, find_name, modify, set_content, stands, with_workspaces, workspace}
+use Rattle.clr_steps.specs.Offices.{Office, content_of, find_name, modify, set_content, stands, with_workspaces, workspace}
 use Rattle.clr_steps.specs.Positions.{below_top}
 use Rattle.clr_steps.specs.Effects.{after_apply, after_mark, after_roll_to, after_unmark, edited_content, effect}
-use Rattle.clr_steps.specs.Refusals.{bad_edit, breaks, broken_where, edit_refusal, first_broken, first_of, refusal, refusals_of, when}
+use Rattle.clr_steps.specs.Refusals.{bad_edit, breaks, broken_where, edit_refusal, first_newly_broken, first_of, refusal, refusals_of, when}
 use Rattle.clr_steps.specs.Steps.{answer, refused_or_done, step}
 use Rattle.clr_steps.proofs.FirstLemmas.{IsOnly, position_here, position_later}
 use Rattle.clr_steps.proofs.ModifyLemmas.{LeavesName, has_name, modify_none}
@@ -167,8 +167,8 @@ of_breaks : (o : Office) (n : Name) (content : Content) → IsNotDone (breaks o 
 unfolding breaks
 of_breaks o n content = by _
   where
-    by : (b : Bool) → IsNotDone (broken_where b o.book content)
-    by true = of_map RuleBroken (λ b. refl) (first_broken o.book content)
+    by : (b : Bool) → IsNotDone (broken_where b o.book (content_of o n) content)
+    by true = of_map RuleBroken (λ b. refl) (first_newly_broken o.book (content_of o n) content)
     by false = tt
 
 of_edits : (o : Office) (n : Name) (edits : List Edit) → IsNotDone (edit_refusal o n edits)
