@@ -14,7 +14,7 @@ use Rattle.clr_steps.specs.Effects.{after_apply, edited_content, effect}
 use Rattle.clr_steps.specs.Invariants.{OfficeFits}
 use Rattle.clr_steps.specs.Names.{is_live}
 use Rattle.clr_steps.specs.Offices.{Office, content_of, is_kept, set_content, stands}
-use Rattle.clr_steps.specs.Refusals.{breaks, edit_refusal, first_broken, refusal}
+use Rattle.clr_steps.specs.Refusals.{breaks, edit_refusal, first_newly_broken, refusal}
 use Rattle.clr_layer_changes.specs.Changes.{edits_between}
 use Rattle.clr_layer_changes.proofs.EditLemmas.{edits_lead}
 use Rattle.clr_designs.specs.Designs.{IsLiveReplaced, IsCommandAnswer, with_live}
@@ -30,15 +30,15 @@ module _ (o : Office) (content : Content) where
   unfolding edited_content
   live_edited = ap (λ (m : Content). after_edits m (edits_between o.live content)) live_content ∙ edits_lead o.live content
 
-  -- edits that make a content of LIVE are refused only where a rule is broken in that content
+  -- edits that make a content of LIVE are refused only where that content breaks a need which LIVE doesn't break now
   pub live_refusal : OfficeFits o → FitsSchema o.schema content
-      → refusal o (Apply live_name (edits_between o.live content)) ≡ option_map RuleBroken (first_broken o.book content)
+      → refusal o (Apply live_name (edits_between o.live content)) ≡ option_map RuleBroken (first_newly_broken o.book o.live content)
   unfolding refusal edit_refusal breaks stands is_kept is_live
   live_refusal fits content_fits =
       let edits = edits_between o.live content in
       let none : first_bad_edit o.schema (content_of o live_name) 1 edits ≡ None =
       ap (λ (m : Content). first_bad_edit o.schema m 1 edits) live_content ∙ edits_are_made o.schema o.live content fits.live content_fits 1 in
-      rw (live_edited, none) (last (first_broken o.book content))
+      rw (live_edited, none, live_content) (last (first_newly_broken o.book o.live content))
     where
       last : (found : Option Broken) → option_or (option_map RuleBroken found) None ≡ option_map RuleBroken found
       last None = refl
@@ -67,8 +67,8 @@ module _ (o : Office) (content : Content) where
       → IsCommandAnswer o (Apply live_name (edits_between o.live content)) refused left → IsLiveReplaced o content refused left
   live_replaced fits content_fits left None done =
       let refusal_is = live_refusal fits content_fits in
-      let is = not_refused o (Apply live_name (edits_between o.live content)) left (λ h. never_done (first_broken o.book content) (sym refusal_is ∙ h)) done in
-      (none_broken (first_broken o.book content) (sym refusal_is ∙ is.0), is.1 ∙ live_effect)
+      let is = not_refused o (Apply live_name (edits_between o.live content)) left (λ h. never_done (first_newly_broken o.book o.live content) (sym refusal_is ∙ h)) done in
+      (none_broken (first_newly_broken o.book o.live content) (sym refusal_is ∙ is.0), is.1 ∙ live_effect)
   live_replaced fits content_fits left (Some reply) refused =
-      let broken = this_broken (first_broken o.book content) reply (sym (live_refusal fits content_fits) ∙ refused.0) in
+      let broken = this_broken (first_newly_broken o.book o.live content) reply (sym (live_refusal fits content_fits) ∙ refused.0) in
       (broken.0, broken.1, broken.2, refused.1)

@@ -11,7 +11,7 @@ use Rattle.clr_steps.specs.declared.commands.Command.TheVariants.{Create, Apply}
 use Rattle.clr_steps.specs.declared.commands.Reply.{Reply}
 use Rattle.clr_steps.specs.declared.commands.Reply.TheVariants.{Done, RuleBroken}
 use Rattle.clr_steps.specs.Offices.{Office, with_workspaces}
-use Rattle.clr_steps.specs.Refusals.{first_broken, refusal}
+use Rattle.clr_steps.specs.Refusals.{first_newly_broken, refusal}
 use Rattle.clr_steps.specs.Steps.{answer, run, step}
 use Rattle.clr_layer_changes.specs.Changes.{edits_between}
 
@@ -58,7 +58,8 @@ IsDesignBegun o name left = (left ≡ o) ⊎ (left ≡ with_design o name o.live
 abbrev pub with_live : Office → Content → Office
 with_live o content = record o { live = content }
 
--- LIVE has this content; or it breaks a rule, the reply names the least need that it breaks, and nothing changes
+-- LIVE has this content; or it breaks a need that LIVE doesn't break now, with the same rows, the reply names the least one, and nothing changes
 abbrev pub IsLiveReplaced : Office → Content → Option Reply → Office → Type 0
-IsLiveReplaced o content None left = (first_broken o.book content ≡ None) × (left ≡ with_live o content)
-IsLiveReplaced o content (Some reply) left = (need : Broken) × (first_broken o.book content ≡ Some need) × (reply ≡ RuleBroken need) × (left ≡ o)
+IsLiveReplaced o content None left = (first_newly_broken o.book o.live content ≡ None) × (left ≡ with_live o content)
+IsLiveReplaced o content (Some reply) left =
+    (need : Broken) × (first_newly_broken o.book o.live content ≡ Some need) × (reply ≡ RuleBroken need) × (left ≡ o)

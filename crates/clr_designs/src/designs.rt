@@ -78,7 +78,8 @@ pub fn make_design(
     apply_edits(alloc, office, name, edits)
 }
 
-/// Puts another content in place of LIVE's. Where it breaks a rule, `RuleBroken` with the least need that it breaks is returned, and nothing changes.
+/// Puts another content in place of LIVE's. Where it breaks a need that isn't broken in LIVE now, `RuleBroken` with the least such need is returned, and
+/// nothing changes.
 /// Nothing else is refused. If memory runs out, nothing changes.
 pub fn replace_live(
     alloc: Global,

@@ -8,7 +8,7 @@ use Rattle.clr_workspaces.specs.Marks.{Name}
 use Rattle.clr_steps.specs.declared.commands.Reply.{Reply}
 use Rattle.clr_steps.specs.declared.commands.Reply.TheVariants.{RuleBroken}
 use Rattle.clr_steps.specs.Offices.{Office}
-use Rattle.clr_steps.specs.Refusals.{first_broken}
+use Rattle.clr_steps.specs.Refusals.{first_newly_broken}
 use Rattle.clr_lines.specs.Replies.{reply_text}
 use Rattle.clr_scripts.specs.Scripts.{script_in_text}
 use Rattle.clr_layer_changes.specs.Changes.{edits_between}
@@ -67,11 +67,11 @@ pub data IsPrintOfScript (name : Name) (o : Office) (content : Content) (print :
   of_refused_script : (reply : Reply) → design_refusal o name ≡ Some reply → print ≡ refusal_print o.schema reply
       → IsPrintOfScript name o content print
 
--- the text of the office in which LIVE has a content; or the least need that this content breaks
+-- the text of the office in which LIVE has a content; or the least need that this content breaks, and LIVE doesn't break now
 pub data IsPrintOfLive (o : Office) (content : Content) (print : PrintoutOrFault) : Type 0 where
-  of_live : (text : List ℕ) → first_broken o.book content ≡ None → IsOfficeText (with_live o content) text → print ≡ text_print text
+  of_live : (text : List ℕ) → first_newly_broken o.book o.live content ≡ None → IsOfficeText (with_live o content) text → print ≡ text_print text
       → IsPrintOfLive o content print
-  of_broken : (need : Broken) → first_broken o.book content ≡ Some need → print ≡ refusal_print o.schema (RuleBroken need)
+  of_broken : (need : Broken) → first_newly_broken o.book o.live content ≡ Some need → print ≡ refusal_print o.schema (RuleBroken need)
       → IsPrintOfLive o content print
 
 -- what is to be printed of an office and layers: the office with the design that has their rows
