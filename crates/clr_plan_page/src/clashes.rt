@@ -113,7 +113,7 @@ fn unless_lost(fault: &Verdict) -> Result<(), AllocError>
 /// Adds the smallest sets of members that can't be merged together; nothing where a name is unfit. Where there was no
 /// memory for the sets, this call fails too.
 pub(crate) fn add_clashes(section: &mut Builder, setting: Setting<'_>) -> Result<(), AllocError>
-    requires { AreMembers setting.entry.office.now (set_of setting.entry.members.now) setting.entry.members.now }
+    requires { AreMembers setting.office.now (set_of setting.members.now) setting.members.now }
     ensures { OnOk result (Adds (TellsClashes setting.entry.office.now
         (merge_set setting.entry.members.now.root.now (map (λ name. name.now) setting.entry.members.now.names.now)))
         section.old.blocks.items section.new.blocks.items) }

@@ -63,7 +63,7 @@ fn why_of(setting: Setting<'_>, plan: &Plan, trials: &[Trial]) -> Result<Section
 
 /// Returns the designs, and the smallest sets of them that can't be merged together.
 fn designs_of(setting: Setting<'_>, plan: &Plan) -> Result<Section, AllocError>
-    requires { AreMembers setting.entry.office.now (set_of setting.entry.members.now) setting.entry.members.now }
+    requires { AreMembers setting.office.now (set_of setting.members.now) setting.members.now }
     ensures { IfOk result (λ section. AreDesigns setting.entry.office.now
         (merge_set setting.entry.members.now.root.now (map (λ name. name.now) setting.entry.members.now.names.now)) section.blocks.items) }
 {
