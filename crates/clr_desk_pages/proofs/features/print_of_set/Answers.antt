@@ -4,8 +4,8 @@ use Rattle.clr_desk_prints.specs.Printing.{IsFoundPlan}
 use Rattle.clr_merge_sets.proofs.ReadLemmas.{of_value}
 use Rattle.clr_desk_pages.proofs.features.print_of_set.Goals as goal
 
-pub found_plan-plan-requires : goal.found_plan-plan-requires
-found_plan-plan-requires c =
+pub found_plan-requires : goal.found_plan-requires
+found_plan-requires c =
     let read = c.in_ok-changes.ensures in
     of_value c.args.office.now c.args.root.now (map (λ name. name.now) c.args.members.now) c.in_ok-changes.changes read.members read.names
 
