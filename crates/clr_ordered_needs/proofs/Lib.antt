@@ -1,0 +1,10 @@
+pub mod BreakLaws
+pub mod CoverLaws
+pub mod EmptyOrder
+pub mod HelpLaws
+pub mod OrderedAgreement
+pub mod OrderedPositions
+pub mod Sequences
+pub mod StateLaws
+pub mod TurnLives
+pub mod UpToBlockers

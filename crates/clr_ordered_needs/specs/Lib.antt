@@ -1,0 +1,6 @@
+pub mod Covers
+pub mod Helpers
+pub mod Laws
+pub mod Positions
+pub mod States
+pub mod Turns
