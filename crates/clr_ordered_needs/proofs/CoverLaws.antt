@@ -13,12 +13,11 @@ use Rattle.clr_needs.proofs.CoverLaws.{fewer_serve, of_root}
 use Rattle.clr_needs.proofs.Lives.{lives}
 use Rattle.clr_needs.proofs.Meetings.{HasServer, IsKeptIn, IsStandingNeed, met_by, no_more_where_met}
 use Rattle.clr_needs.proofs.Merges.{IsMerge}
-use Rattle.clr_needs.proofs.NeedSubjects.{involved_member}
 use Rattle.clr_ordered_needs.specs.Covers.{AreCovered, CoversAlone, CoverTogether, EachHasCover, HasCover, HasEntry, Lasts, LastsWhileIfAny, SubjectsNeverMeet}
 use Rattle.clr_ordered_needs.specs.Covers.{WitnessesCover}
 use Rattle.clr_ordered_needs.specs.Laws.{CoveredBreaksNoMore, CoveredHolds}
 use Rattle.clr_ordered_needs.specs.Turns.{Order, AreInTurn}
-use Rattle.clr_ordered_needs.proofs.TurnLives.{NamesMembers, lasts_too, never_both, one_lives}
+use Rattle.clr_ordered_needs.proofs.TurnLives.{NamesMembers, first_named, lasts_too, never_both, one_lives, second_named, server_named}
 
 -- a need that stands with more members -------------------------------------------------------------
 
@@ -80,13 +79,13 @@ module _ {A : Type 0} (before : Order A) (c : Setting A) where
 
   module _ (ts : List A) (in_turn : AreInTurn before c ts) (n : Need) (a : Lived A) (b : Option (Lived A)) (need : IsStandingNeed c ts n a b) where
     first_members : NamesMembers c a.life
-    first_members x names = involved_member c n a b x need.possible (inl names)
+    first_members = first_named c n a b need.possible
 
     second_members : (x : A) → NamesIfAny b x → has c.same c.members x ≡ true
-    second_members x names = involved_member c n a b x need.possible (inr (inl names))
+    second_members = second_named c n a b need.possible
 
     server_members : (v : VersionId) (l : Lived A) → Serves c n a b v l → NamesMembers c l.life
-    server_members v l serve x names = involved_member c n a b x need.possible (inr (inr (v, l, serve, names)))
+    server_members = server_named c n a b need.possible
 
     -- the subjects stand together
     both_stand : SubjectsNeverMeet before a b → ⊥

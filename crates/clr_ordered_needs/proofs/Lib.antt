@@ -1,4 +1,6 @@
 pub mod BreakLaws
+pub mod CarriedCovers
+pub mod CarriedNeeds
 pub mod CoverLaws
 pub mod EmptyOrder
 pub mod HelpLaws

@@ -9,7 +9,7 @@ use Rattle.clr_needs.specs.Covers.{AreBlockers}
 use Rattle.clr_needs.specs.Settings.{Setting, AreAmong, AreDisjoint, DoChange, Lived, changer, has, view_with}
 use Rattle.clr_needs.proofs.Merges.{standing_row, taken_is}
 use Rattle.clr_ordered_needs.specs.Covers.{EachHasCover, IsUncovered}
-use Rattle.clr_ordered_needs.specs.Laws.{MergesInListBreakNoMore}
+use Rattle.clr_ordered_needs.specs.Laws.{MergesInListAreTold}
 use Rattle.clr_ordered_needs.specs.Turns.{Order, IsTransitive, ListsAll, is_earlier}
 use Rattle.clr_ordered_needs.proofs.BreakLaws.{uncovered_breaks}
 use Rattle.clr_ordered_needs.proofs.CoverLaws.{each_breaks_no_more}
@@ -176,15 +176,17 @@ module _ {A : Type 0} (c : Setting A) where
         each_breaks_no_more goes_first c each apart (take j list) (take k list) (first_among_more list j k most) (firsts_are_members k)
         (λ n p goes member h. first_in_turn list differ k n p goes h)
 
-    none_uncovered : AreDisjoint c → DoChange c → ((k : ℕ) → BreaksNoMore c.rules c.root (view_with c (take k list))) → (n : Need) (a : Lived A)
-        (b : Option (Lived A)) (blockers : List A) → AreBlockers c n a b blockers → ¬ (IsUncovered goes_first c n a b)
-    none_uncovered apart changes works n a b blockers are uncovered =
+    uncovered_breaks_on_the_way : AreDisjoint c → DoChange c → (n : Need) (a : Lived A) (b : Option (Lived A)) (blockers : List A)
+        → AreBlockers c n a b blockers → IsUncovered goes_first c n a b → (k : ℕ) × ¬ (BreaksNoMore c.rules c.root (view_with c (take k list)))
+    uncovered_breaks_on_the_way apart changes n a b blockers are uncovered =
         let (ts, up) = up_to_blockers_are_listed c goes_first n a b blockers uncovered.possible are in
         let (in_turn, broken) = uncovered_breaks goes_first c ts n a b apart changes (transitive list differ) uncovered up in
         let (k, first) = are_first (has c.same ts) list differ
-        (λ m p goes h. in_turn m p goes (sym (all.members m) ∙ earlier_there list m p goes) h) in
-        broken (subst (λ (view : View). BreaksNoMore c.rules c.root view)
-        (λ i q. sym (rows_of apart ts (take k list) up.part (firsts_are_members k) (same_as ts up.part k first) q) i) (works k))
+        (λ m p goes h. in_turn m p goes (sym (all.members m) ∙ earlier_there list m p goes) h) in (
+          k,
+          λ works. broken (subst (λ (view : View). BreaksNoMore c.rules c.root view)
+              (λ i q. sym (rows_of apart ts (take k list) up.part (firsts_are_members k) (same_as ts up.part k first) q) i) works),
+        )
       where
         same_as : (ts : List A) → AreAmong c ts c.members → (k : ℕ) → AreFirst (has c.same ts) list k → (x : A) → has c.same ts x ≡ has c.same (take k list) x
         same_as ts part k first x = elim (cases_Bool (has c.same list x)) [
@@ -197,8 +199,8 @@ module _ {A : Type 0} (c : Setting A) where
             none true t one two out = absurd (true≢false (sym (one refl) ∙ out))
             none false true one two out = absurd (true≢false (sym (two refl) ∙ out))
 
-  pub merges_in_list_break_no_more : MergesInListBreakNoMore c
-  merges_in_list_break_no_more = record {
+  pub merges_in_list_are_told : MergesInListAreTold c
+  merges_in_list_are_told = record {
     covered = λ list apart all each. order_breaks_no_more list all apart each;
-    uncovered = λ list apart changes all works. none_uncovered list all apart changes works;
+    uncovered = λ list apart changes all. uncovered_breaks_on_the_way list all apart changes;
   }

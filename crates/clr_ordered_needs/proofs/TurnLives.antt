@@ -1,15 +1,30 @@
 -- Lives where the merged members have come in turn: what lasts while another does, what never lives with another, and of which two one always lives.
-use Rattle.std.proofs.Common.{◌≡◌, ◌∙◌, true, List, ◌⊎◌, inl, inr, refl, sym, ap, not}
+use Rattle.std.proofs.Common.{◌≡◌, ◌∙◌, true, List, ◌⊎◌, inl, inr, refl, sym, ap, not, Option}
 use Rattle.std.proofs.lemmas.Bool.{cases_Bool, false≢true}
-use Rattle.clr_needs.specs.Independence.{Names}
-use Rattle.clr_needs.specs.Settings.{Setting, Lifetime, Always, With, Without, has}
+use Rattle.clr_needs.specs.declared.needs.Need.{Need}
+use Rattle.clr_needs.specs.declared.needs.VersionId.{VersionId}
+use Rattle.clr_needs.specs.Independence.{Names, NamesIfAny}
+use Rattle.clr_needs.specs.Needs.{IsPossible, Serves}
+use Rattle.clr_needs.specs.Settings.{Setting, Lifetime, Always, With, Without, Lived, has}
 use Rattle.clr_needs.proofs.Lives.{lives}
+use Rattle.clr_needs.proofs.NeedSubjects.{involved_member}
 use Rattle.clr_ordered_needs.specs.Covers.{LastsWhile, NeverBothLive, OneAlwaysLives}
 use Rattle.clr_ordered_needs.specs.Turns.{Order, AreInTurn, IsUpTo}
 
 -- whom a life names is a member
 abbrev pub NamesMembers : {A : Type 0} → Setting A → Lifetime A → Type 0
 NamesMembers {A} c l = (x : A) → Names l x → has c.same c.members x ≡ true
+
+-- so it is of the lives of subjects, and of what serves
+module _ {A : Type 0} (c : Setting A) (n : Need) (a : Lived A) (b : Option (Lived A)) (possible : IsPossible c n a b) where
+  pub first_named : NamesMembers c a.life
+  first_named x names = involved_member c n a b x possible (inl names)
+
+  pub second_named : (x : A) → NamesIfAny b x → has c.same c.members x ≡ true
+  second_named x names = involved_member c n a b x possible (inr (inl names))
+
+  pub server_named : (v : VersionId) (l : Lived A) → Serves c n a b v l → NamesMembers c l.life
+  server_named v l serve x names = involved_member c n a b x possible (inr (inr (v, l, serve, names)))
 
 module _ {A : Type 0} (before : Order A) (c : Setting A) (ts : List A) (in_turn : AreInTurn before c ts) where
   -- where a member is merged, so is each up to it

@@ -9,6 +9,7 @@ use Rattle.clr_needs.specs.Positions.{by_position}
 use Rattle.clr_needs.specs.Settings.{Setting, Lived, AreDisjoint, AreAmong, DoChange, view_with}
 use Rattle.clr_ordered_needs.specs.Covers.{AreCovered, EachHasCover, HasCover, IsUncovered, IsUncoveredNeed}
 use Rattle.clr_ordered_needs.specs.Helpers.{AreUpToBlockers, HelpComesFirst, IsServedAlways}
+use Rattle.clr_ordered_needs.specs.Later.{Fate, IsLater, IsLaterInTurn}
 use Rattle.clr_ordered_needs.specs.Positions.{order_at}
 use Rattle.clr_ordered_needs.specs.States.{IsBrokenWith, IsOpen, IsSparedWith}
 use Rattle.clr_ordered_needs.specs.Turns.{Order, AreInTurn, IsTransitive, ListsAll, is_earlier, no_order}
@@ -71,12 +72,21 @@ pub record StatesAreTold {A : Type 0} (c : Setting A) : Type 0 where
       → BreaksNoMore c.rules (view_with c fewer) (view_with c ts)
 
 -- the merges of all members in the order of a list: where each touched need is covered in that order, later ones break no need but those that are broken
--- after earlier ones; and where after none of them more is broken than in the root, each touched need is covered in that order
-pub record MergesInListBreakNoMore {A : Type 0} (c : Setting A) : Type 0 where
+-- after earlier ones; and a touched need that nothing covers in that order is newly broken after some of them
+pub record MergesInListAreTold {A : Type 0} (c : Setting A) : Type 0 where
   pub covered : (list : List A) → AreDisjoint c → ListsAll c list → EachHasCover (is_earlier c.same list) c
       → (j k : ℕ) → j ≤ k → BreaksNoMore c.rules (view_with c (take j list)) (view_with c (take k list))
-  pub uncovered : (list : List A) → AreDisjoint c → DoChange c → ListsAll c list → ((k : ℕ) → BreaksNoMore c.rules c.root (view_with c (take k list)))
-      → (n : Need) (a : Lived A) (b : Option (Lived A)) (blockers : List A) → AreBlockers c n a b blockers → ¬ (IsUncovered (is_earlier c.same list) c n a b)
+  pub uncovered : (list : List A) → AreDisjoint c → DoChange c → ListsAll c list
+      → (n : Need) (a : Lived A) (b : Option (Lived A)) (blockers : List A) → AreBlockers c n a b blockers → IsUncovered (is_earlier c.same list) c n a b
+      → (k : ℕ) × ¬ (BreaksNoMore c.rules c.root (view_with c (take k list)))
+
+-- where some members are merged, each after those before it, entries cover those that stay, under their order
+abbrev pub CoversLast : {A B : Type 0} → Order A → Setting A → Order B → Setting B → (A → Fate B) → Type 0
+CoversLast before c now_before next fate = IsLater c next fate
+    → IsLaterInTurn before c now_before fate
+    → (es : List Entry)
+    → AreCovered before c es
+    → (more : List Entry) × AreCovered now_before next more
 
 -- other words for the same -------------------------------------------------------------------------
 

@@ -1,8 +1,9 @@
 //! Laws of needs that are covered under an order, each proved by a function that does nothing.
 
 ghost use Rattle.clr_needs.specs.Settings.{Setting};
-ghost use Rattle.clr_ordered_needs.specs.Laws.{CoveredBreaksNoMore, CoveredHolds, CoverIsHelp, UncoveredBreaks, UpToBlockersAreListed};
-ghost use Rattle.clr_ordered_needs.specs.Laws.{MergesInListBreakNoMore, NoOrderIsEveryOrder, PositionsSayTheSame, StatesAreTold};
+ghost use Rattle.clr_ordered_needs.specs.Laws.{CoveredBreaksNoMore, CoveredHolds, CoverIsHelp, CoversLast, UncoveredBreaks, UpToBlockersAreListed};
+ghost use Rattle.clr_ordered_needs.specs.Laws.{MergesInListAreTold, NoOrderIsEveryOrder, PositionsSayTheSame, StatesAreTold};
+ghost use Rattle.clr_ordered_needs.specs.Later.{Fate};
 ghost use Rattle.clr_ordered_needs.specs.Turns.{Order};
 
 /// Where each touched need is covered under an order, the root with the changes over it of members
@@ -35,10 +36,17 @@ pub fn open_needs_tell_states<N>()
 {}
 
 /// Let all members be merged in the order of a list. Where each touched need is covered in that order,
-/// later merges break no need but those that are broken after earlier ones. Where after none of them
-/// more is broken than in the root, each touched need whose blockers can be listed is covered in it.
-pub fn merges_in_a_list_break_no_more<N>()
-    ensures { (c : Setting N) → MergesInListBreakNoMore c }
+/// later merges break no need but those that are broken after earlier ones. A touched need that
+/// nothing covers in that order, and whose blockers can be listed, is newly broken after some of them.
+pub fn merges_in_a_list_are_told<N>()
+    ensures { (c : Setting N) → MergesInListAreTold c }
+{}
+
+/// Where some members are merged, each after those before it, and some are gone, each with those that
+/// wait for it, some entries cover the members that stay, under their order.
+pub fn covers_last_in_turn<N, M>()
+    ensures { (before : Order N) (c : Setting N) (now_before : Order M) (next : Setting M) (fate : N → Fate M)
+        → CoversLast before c now_before next fate }
 {}
 
 /// Where no member goes before another, entries cover under the order exactly where they cover in

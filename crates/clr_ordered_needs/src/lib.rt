@@ -16,7 +16,8 @@
 //!   newly broken with its blockers and those before them, who have come in turn.
 //! - `covers_are_helpers_in_turn`: a need is covered exactly where something serves it always, or a
 //!   helper is a blocker or goes before one. `open_needs_tell_states`: where it is broken.
-//! - `merges_in_a_list_break_no_more`: which lists of all members work as an order of their merges.
+//! - `covers_last_in_turn`: once some members are merged in turn, the others are covered again.
+//! - `merges_in_a_list_are_told`: which lists of all members work as an order of their merges.
 //! - `no_order_is_every_order`, `positions_stand_for_names_in_turn`: the words of `clr_needs` are
 //!   those of the empty order, and members may be named by position.
 #![tactic(auto)]
@@ -24,7 +25,7 @@
 mod laws;
 
 pub use laws::{
-    covers_are_helpers_in_turn, members_covered_in_turn_break_no_more,
-    merges_in_a_list_break_no_more, no_order_is_every_order, open_needs_tell_states,
+    covers_are_helpers_in_turn, covers_last_in_turn, members_covered_in_turn_break_no_more,
+    merges_in_a_list_are_told, no_order_is_every_order, open_needs_tell_states,
     positions_stand_for_names_in_turn, uncovered_needs_break_in_turn,
 };

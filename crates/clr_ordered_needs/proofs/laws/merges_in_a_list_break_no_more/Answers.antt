@@ -1,5 +1,0 @@
-use Rattle.clr_ordered_needs.proofs.Sequences.{merges_in_list_break_no_more}
-use Rattle.clr_ordered_needs.proofs.laws.merges_in_a_list_break_no_more.Goals as goal
-
-pub returns : goal.returns
-returns g c = λ s. merges_in_list_break_no_more s
