@@ -14,7 +14,7 @@ mod laws;
 mod reading;
 mod writing;
 
-pub use clr_office_reading::TextFault;
+pub use clr_office_reading::{KnownNeeds, TextFault};
 pub use laws::rules_hold_where_none_is_unheld;
-pub use reading::read_office;
+pub use reading::{DraftText, read_office};
 pub use writing::write_office;
