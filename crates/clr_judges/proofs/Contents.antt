@@ -63,10 +63,6 @@ pub found_beside : {X : Type 0} (r : Result (Result X Broken) AllocError) (book 
 found_beside r book before after content e h =
     subst (λ (m : Content). IfOk r (λ found. result_err found ≡ first_newly_broken book m content)) (sym e) h
 
-pub found_alone : {X : Type 0} (r : Result (Result X Broken) AllocError) (book : List Rule) (content : Content)
-    → IfOk r (λ found. result_err found ≡ first_broken book content) → IfOk r (λ found. result_err found ≡ first_newly_broken book no_rows content)
-found_alone r book content h = subst (λ (n : Option Broken). IfOk r (λ found. result_err found ≡ n)) (sym (newly_is book content)) h
-
 -- what is judged where the rules are to hold
 pub judged_kept : (r : Result (Option Broken) AllocError) (kept : Bool) (book : List Rule) (before other content : Content) → kept ≡ true → other ≡ before
     → IfOk r (λ need. need ≡ first_newly_broken book before content) → IfOk r (λ need. option_map RuleBroken need ≡ broken_where kept book other content)
