@@ -1,5 +1,5 @@
 -- The needs that an office breaks, by the names and by the positions of what breaks them.
-use Rattle.std.proofs.Common.{◌≡◌, ◌∙◌, ℕ, true, List, [], Option, Some, None, length, refl, sym, ap, subst}
+use Rattle.std.proofs.Common.{◌≡◌, ◌∙◌, ℕ, true, List, [], Option, Some, None, Result, Ok, Err, IfOk, length, refl, sym, ap, subst}
 use Rattle.std.specs.List.Sorted.{IsStrictlySortedBy}
 use Rattle.std.proofs.lemmas.Bool.{false≢true}
 use Rattle.clr_rows.specs.declared.tables.TableDef.{TableDef}
@@ -16,6 +16,10 @@ use Rattle.clr_steps.specs.Positions.{content_at, kept_at}
 use Rattle.clr_steps.proofs.SeenLemmas.{kept_is, seen, within}
 use Rattle.clr_judges.specs.BrokenNeeds.{AreBrokenBelow, IsBrokenBelow}
 use Rattle.clr_engine.specs.BrokenNow.{AreBrokenNow, IsBrokenNow}
+
+pub if_ok : {X E : Type 0} (r : Result X E) (P Q : X → Type 0) → ((x : X) → P x → Q x) → IfOk r P → IfOk r Q
+if_ok (Ok x) P Q f h = f x h
+if_ok (Err e) P Q f h = h
 
 module _ (schema : List TableDef) (book : List Rule) (ws : List Workspace) (sound : IsSound ws) where
   by_name : (b : Broken) → IsBrokenBelow book ws (length ws) b → IsBrokenNow (office_of schema book ws) b

@@ -1,5 +1,5 @@
 -- The needs that the first workspaces of a tree break, gained from one workspace after another.
-use Rattle.std.proofs.Common.{◌≡◌, ◌∙◌, inl, inr, ◌<◌, ◌++◌, ◌+◌, ℕ, true, false, List, [], Contains, ap, subst, sym, arith}
+use Rattle.std.proofs.Common.{◌≡◌, ◌⊎◌, ◌∙◌, inl, inr, ◌<◌, ◌++◌, ◌+◌, ℕ, true, false, List, [], Contains, ap, subst, sym, arith}
 use Rattle.std.proofs.lemmas.Bool.{cases_lt, false≢true}
 use Rattle.std.specs.List.Sorted.{IsStrictlySortedBy}
 use Rattle.clr_rows.specs.Contents.{row_at}

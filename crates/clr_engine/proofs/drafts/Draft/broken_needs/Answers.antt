@@ -1,5 +1,4 @@
-use Rattle.clr_deltas.proofs.Answered.{if_ok}
-use Rattle.clr_engine.proofs.BrokenNow.{broken_now}
+use Rattle.clr_engine.proofs.BrokenNow.{broken_now, if_ok}
 use Rattle.clr_engine.proofs.drafts.Draft.broken_needs.Goals as goal
 
 pub broken_needs-requires : goal.broken_needs-requires

@@ -2,8 +2,7 @@ use Rattle.std.proofs.Common.{List, subst, sym}
 use Rattle.clr_rules.specs.declared.needs.Broken.{Broken}
 use Rattle.clr_steps.specs.Offices.{Office}
 use Rattle.clr_engine.specs.BrokenNow.{AreBrokenNow}
-use Rattle.clr_engine.proofs.BrokenNow.{broken_now, none_broken}
-use Rattle.clr_deltas.proofs.Answered.{if_ok}
+use Rattle.clr_engine.proofs.BrokenNow.{broken_now, if_ok, none_broken}
 use Rattle.clr_engine.proofs.offices.Office.broken_needs.Goals as goal
 
 pub returns-then-held : goal.returns-then-held
