@@ -28,7 +28,7 @@ pub reached : (current other : Content) (changed : Changes) → changed ≡ chan
 reached current other changed e = ap (taken_over current) e ∙ taken_over-own current other
 
 -- beside no rows, what is broken is newly broken
-newly_is : (book : List Rule) (content : Content) → first_newly_broken book no_rows content ≡ first_broken book content
+pub newly_is : (book : List Rule) (content : Content) → first_newly_broken book no_rows content ≡ first_broken book content
 unfolding first_newly_broken first_broken
 newly_is book content = ap (λ bs. slice_get bs 0) ((all_where_held book no_rows (holds_in_none book)).all content)
 
@@ -46,10 +46,6 @@ pub changes_one : (content : Content) (cell : CellId) (row : Option Row) (change
     → changed ≡ changes content (set_cell content cell row)
 changes_one content cell row changed e =
     e ∙ ap (λ set. set_change set cell (row_at content cell) row) (sym (changes-self content)) ∙ set_change_is content content cell row
-
-pub set_one : (content : Content) (cell : CellId) (row : Option Row) (changed : Changes) → changed ≡ set_change no_changes cell (row_at content cell) row
-    → taken_over content changed ≡ set_cell content cell row
-set_one content cell row changed e = reached content (set_cell content cell row) changed (changes_one content cell row changed e)
 
 -- beside the content of a workspace where that is kept, and else beside another
 pub kept_or_kept : (w : Workspace) (other : Content) → w.kept ≡ true → kept_or w other ≡ w.current
