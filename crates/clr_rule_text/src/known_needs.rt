@@ -38,7 +38,7 @@ fn tables_of(rule: &Rule) -> (u16, u16)
 }
 
 fn known_cell(schema: &Schema, table: u16, key: i64) -> Result<CellId, TextFault>
-    ensures { Gives text_lacks_memory (λ c. c) result (cell_meant schema.now table key) }
+    ensures { result ≡ cell_meant schema.now table key }
 {
     let cell = CellId { table, key };
     match schema.names_cell(cell) {
@@ -53,7 +53,7 @@ fn second_cell(
     table: u16,
     key: Option<i64>,
 ) -> Result<Option<CellId>, TextFault>
-    ensures { Gives text_lacks_memory (λ c. c) result (second_meant schema.now first table key) }
+    ensures { result ≡ second_meant schema.now first table key }
 {
     let Some(key) = key else {
         return Ok(None);
@@ -67,7 +67,7 @@ fn second_cell(
 }
 
 fn part(number: i64) -> Result<u16, TextFault>
-    ensures { Gives text_lacks_memory (λ n. n) result (known_part number) }
+    ensures { result ≡ known_part number }
 {
     if number >= 1 && number < MOST_VERTICES as i64 {
         Ok(number as u16)
@@ -85,7 +85,7 @@ pub fn need(
     rule: &Rule,
     name: &NeedName,
 ) -> Result<Broken, TextFault>
-    ensures { Gives text_lacks_memory (λ b. b) result (known_need schema.now number rule.now name.now) }
+    ensures { result ≡ known_need schema.now number rule.now name.now }
 {
     let tables = tables_of(rule);
     let first = known_cell(schema, tables.0, name.first)?;
@@ -101,6 +101,19 @@ pub fn need(
     })
 }
 
+/// Returns the need of a rule that a name is, or its fault.
+#[tactic(auto, using(crate::proofs::KnownLemmas::given_exactly))]
+fn need_or_fault(
+    schema: &Schema,
+    number: u16,
+    rule: &Rule,
+    name: &NeedName,
+) -> Result<Broken, TextFault>
+    ensures { Gives text_lacks_memory (λ b. b) result (known_need schema.now number rule.now name.now) }
+{
+    need(schema, number, rule, name)
+}
+
 fn needs_of_rule(
     alloc: Global,
     schema: &Schema,
@@ -110,7 +123,9 @@ fn needs_of_rule(
 ) -> Result<Vec<Broken>, TextFault>
     ensures { Gives text_lacks_memory (λ v. v.items) result (each_in (known_need schema.now number rule.now) names.now) }
 {
-    read_each(alloc, names, |name| need(schema, number, rule, name))
+    read_each(alloc, names, |name| {
+        need_or_fault(schema, number, rule, name)
+    })
 }
 
 /// Returns the needs of the rules of a book by the names that each rule has, in the order in which they are written. There is
