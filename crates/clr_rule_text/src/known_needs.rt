@@ -4,7 +4,7 @@ ghost use Rattle.std.specs.Prelude.{◌≡◌, length, max, min};
 ghost use Rattle.clr_readings.specs.Readings.{Gives};
 ghost use Rattle.clr_rule_text.specs.Fields.{each_in, text_lacks_memory};
 ghost use Rattle.clr_rule_text.specs.Known.{greater_table, known_cell as cell_meant, known_need, known_needs as needs_meant};
-ghost use Rattle.clr_rule_text.specs.Known.{known_part, lesser_table, second_cell as second_meant};
+ghost use Rattle.clr_rule_text.specs.Known.{known_part as part_meant, lesser_table, second_cell as second_meant};
 
 use crate::faults::TextFault;
 use crate::lists::read_each;
@@ -24,8 +24,8 @@ fn tables_of_two(a: &Side, b: &Side) -> (u16, u16)
     (a.table.min(b.table), a.table.max(b.table))
 }
 
-/// Returns the tables of the lesser and of the greater cell of a rule's subjects.
-fn tables_of(rule: &Rule) -> (u16, u16)
+/// Returns the tables of the lesser and of the greater cell of a rule's subjects, one table twice where its sides are of one.
+pub fn subject_tables(rule: &Rule) -> (u16, u16)
     ensures lesser { result.0 ≡ lesser_table rule.now }
     ensures greater { result.1 ≡ greater_table rule.now }
 {
@@ -37,7 +37,9 @@ fn tables_of(rule: &Rule) -> (u16, u16)
     }
 }
 
-fn known_cell(schema: &Schema, table: u16, key: i64) -> Result<CellId, TextFault>
+/// Returns the cell of a key in a table. Fails with `BadRule` where no row could stand there: the key isn't 1 to
+/// 999,999,999,999,999.
+pub fn known_cell(schema: &Schema, table: u16, key: i64) -> Result<CellId, TextFault>
     ensures { result ≡ cell_meant schema.now table key }
 {
     let cell = CellId { table, key };
@@ -66,8 +68,9 @@ fn second_cell(
     }
 }
 
-fn part(number: i64) -> Result<u16, TextFault>
-    ensures { result ≡ known_part number }
+/// Returns the number of a part. Fails with `BadRule` where it isn't 1 to 31, so that no path has it.
+pub fn known_part(number: i64) -> Result<u16, TextFault>
+    ensures { result ≡ part_meant number }
 {
     if number >= 1 && number < MOST_VERTICES as i64 {
         Ok(number as u16)
@@ -87,11 +90,11 @@ pub fn need(
 ) -> Result<Broken, TextFault>
     ensures { result ≡ known_need schema.now number rule.now name.now }
 {
-    let tables = tables_of(rule);
+    let tables = subject_tables(rule);
     let first = known_cell(schema, tables.0, name.first)?;
     let second = second_cell(schema, first, tables.1, name.second)?;
-    let first_part = part(name.first_part)?;
-    let second_part = part(name.second_part)?;
+    let first_part = known_part(name.first_part)?;
+    let second_part = known_part(name.second_part)?;
     Ok(Broken {
         rule: number,
         first,
