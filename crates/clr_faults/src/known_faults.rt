@@ -108,9 +108,11 @@ fn bad_need(schema: &Schema, book: &RuleBook, names: &[NeedNames]) -> Option<Bad
 {
     let _small = book.len();
     for (number, of_rule) in names.iter().enumerate() {
-        if let Some((place, fault)) =
-            bad_name(schema, book.rule(number as u16), of_rule.as_slice())
-        {
+        if let Some((place, fault)) = bad_name(
+            schema,
+            book.rule(number as u16),
+            of_rule.as_slice(),
+        ) {
             return Some(BadNeed {
                 rule: number,
                 place,
