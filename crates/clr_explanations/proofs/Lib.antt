@@ -1,6 +1,5 @@
 pub mod FieldLemmas
-pub mod StandingLemmas
-pub mod NameLemmas
 pub mod NamedFaults
 pub mod PathLemmas
+pub mod StandingLemmas
 pub mod Values
