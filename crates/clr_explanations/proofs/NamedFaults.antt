@@ -137,7 +137,8 @@ said_by slip remark sentence hint = rw (sentence, hint) refl
 
 -- a remark says what the slip says that it is made of
 pub slip_told : (text : List ℕ) (d : Data) (e : TextFault) (at : FaultyItem) (slip : Slip) (remark : Remark)
-    → string_bytes remark.place ≡ place_text d at slip.steps.items → remark.sentence ≡ slip.sentence → remark.hint ≡ slip.hint → TellsFault text d e at (said slip) → IsRemarkIn text d e at remark
+    → string_bytes remark.place ≡ place_text d at slip.steps.items → remark.sentence ≡ slip.sentence → remark.hint ≡ slip.hint
+    → TellsFault text d e at (said slip) → IsRemarkIn text d e at remark
 slip_told text d e at slip remark place sentence hint told = record {
   steps = slip.steps.items;
   place = place;

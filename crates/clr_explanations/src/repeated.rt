@@ -1,5 +1,5 @@
 //! Cells that stand twice in a list.
-ghost use Rattle.std.specs.Prelude.{◌≡◌, Some, IfOk, MatchOption, Decides, option_map, string_bytes};
+ghost use Rattle.std.specs.Prelude.{◌≡◌, ◌≤◌, Some, IfOk, MatchOption, Decides, length, option_map, string_bytes};
 ghost use Rattle.serde_json.specs.View.{view};
 ghost use Rattle.clr_item_explanations.specs.Slips.{said};
 ghost use Rattle.clr_explanations.specs.Items.{place_in_list};
@@ -27,12 +27,8 @@ fn cell_at(json: &Json, spot: FaultyItem) -> Result<Option<(&str, i64)>, AllocEr
 }
 
 /// Returns whether an item of a text has a cell.
-fn has_cell(
-    json: &Json,
-    spot: FaultyItem,
-    table: &str,
-    key: i64,
-) -> Result<bool, AllocError>
+#[tactic(auto, using(crate::proofs::RepeatedLemmas::same_cell, crate::proofs::RepeatedLemmas::other_cell))]
+fn has_cell(json: &Json, spot: FaultyItem, table: &str, key: i64) -> Result<bool, AllocError>
     ensures { IfOk result (λ has. Decides has (cell_at spot (view json.now) ≡ Some (table.now, key))) }
 {
     match cell_at(json, spot)? {
@@ -42,6 +38,7 @@ fn has_cell(
 }
 
 /// Returns the place of the first item with a cell before an item in its list, or none.
+#[tactic(auto, using(crate::proofs::RepeatedLemmas::found_first))]
 fn first_with_cell(
     json: &Json,
     spot: FaultyItem,
@@ -60,6 +57,7 @@ fn first_with_cell(
 }
 
 /// Returns the place of the first item before an item in its list that has the same cell, or none.
+#[tactic(auto, using(crate::proofs::RepeatedLemmas::first_told, crate::proofs::RepeatedLemmas::no_cell_told))]
 fn first_beside(json: &Json, spot: FaultyItem) -> Result<Option<usize>, AllocError>
     ensures { IfOk result (λ found. MatchOption found (IsAloneWithCell (view json.now) spot) (IsFirstWithCell (view json.now) spot)) }
 {
@@ -92,6 +90,7 @@ fn place_words_at(
 }
 
 /// Returns the line, the column and the path of an item, and the path alone where no byte is found for it.
+#[tactic(auto, using(crate::proofs::RepeatedLemmas::place_found, crate::proofs::RepeatedLemmas::path_alone))]
 fn place_in_words(alloc: Global, text: &[u8], spot: FaultyItem) -> Result<String, AllocError>
     ensures { IfOk result (λ words. IsPlaceInWords text.now (steps_to spot) (string_bytes words)) }
 {
@@ -104,17 +103,17 @@ fn place_in_words(alloc: Global, text: &[u8], spot: FaultyItem) -> Result<String
 }
 
 /// Returns the slip that the cell of an item stands twice in its list, and where the first item with it is.
+#[tactic(auto, using(crate::proofs::RepeatedLemmas::first_in_words))]
 fn slip_with_first(alloc: Global, text: &[u8], first: FaultyItem) -> Result<Slip, AllocError>
     ensures { IfOk result (λ slip. TellsFirst text.now first (said slip)) }
 {
     let place = place_in_words(alloc, text, first)?;
-    let sentence = format!(in alloc;
-        "the cell stands twice in its list; first at {place}"
-    )?;
+    let sentence = format!(in alloc; "the cell stands twice in its list; first at {place}")?;
     Slip::new(alloc, &[], sentence)
 }
 
 /// Returns the slip that the cell of an item stands earlier in its list, with the place where the first item with it is.
+#[tactic(auto, using(crate::proofs::RepeatedLemmas::with_first, crate::proofs::RepeatedLemmas::without_first))]
 pub fn repeated_slip(
     alloc: Global,
     text: &[u8],
