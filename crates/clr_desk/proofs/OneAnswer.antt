@@ -1,5 +1,5 @@
 -- What is asked of texts, and told whole, has one answer alone.
-use Rattle.std.proofs.Common.{◌≡◌, ◌≢◌, ◌∙◌, ◌||◌, ◌++◌, ◌∷◌, ℕ, zero, suc, Bool, true, false, cond, not, List, [], Option, Some, None, Ok, Err, ap, append-nil, append_assoc}
+use Rattle.std.proofs.Common.{◌≡◌, ◌∙◌, ◌||◌, ◌++◌, ◌∷◌, ℕ, zero, suc, Bool, true, false, cond, not, List, [], Option, Some, None, Ok, Err, ap, append-nil, append_assoc}
 use Rattle.std.proofs.Common.{codes, map, refl, slice_get, subst, sym, take}
 use Rattle.std.specs.List.{flat_map, list_any}
 use Rattle.std.proofs.lemmas.Bool.{true≢false}
@@ -31,7 +31,7 @@ use Rattle.clr_plan.proofs.OnePlanLemmas.{one_plan}
 use Rattle.clr_plan.specs.PlanLines.{blocked_text, cleared_text, plan_text}
 use Rattle.clr_office.specs.Clearances.{is_without_memory}
 use Rattle.clr_office.specs.Outcomes.{IsPlanned}
-use Rattle.clr_office_reports.specs.Printing.{status_of}
+use Rattle.clr_office.proofs.OneSession.{found_by_status}
 use Rattle.clr_layer_changes.specs.declared.options.GivenLayer.{GivenLayer}
 use Rattle.clr_layer_changes.specs.declared.options.LayerOptions.{LayerOptions}
 use Rattle.clr_desk_layers.specs.Designs as designs
@@ -45,11 +45,6 @@ use Rattle.clr_desk.specs.Formats.{IsFormatPrint, IsInLines, in_lines, in_one_li
 use Rattle.clr_desk.specs.Merges as merging
 use Rattle.clr_desk.specs.Merges.{IsMergePrintout, merge_print, verdict_print}
 use Rattle.clr_desk.specs.OneAnswer.{FoundMemory, IsOnePrint}
-
--- a status other than 3 says that memory was found
-found_by_status : (refused lost : Bool) → status_of refused lost ≢ 3 → lost ≡ false
-found_by_status refused true found = absurd (found refl)
-found_by_status refused false found = refl
 
 -- plans --------------------------------------------------------------------------------------
 
