@@ -63,7 +63,7 @@ fn print_of_set(
     plan_print(alloc, office, root, members, &plan)
 }
 
-/// Returns the certificate of members over the office of a text, of all children of the root where no name is given.
+/// Returns the certificate of members over the office of a text; without names, of all children of the root.
 pub fn answer_certificate(
     alloc: Global,
     office: &[u8],

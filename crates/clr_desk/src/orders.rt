@@ -35,10 +35,9 @@ fn print_of_set(
     Ok(print_of_order(alloc, order))
 }
 
-/// Returns the plan of members over the office of a text, of all children of the root where no name is given, as a work order: its text, and as notes hints at names
-/// that no workspace has. Where a rule doesn't hold the line that says so is the only note, and there is no
-/// text. Fails with `BadOffice` where the text is no office, and with `OutOfMemory` for want of memory, which
-/// may come in place of any other answer.
+/// Returns the plan of members over the office of a text as a work order: its text, and as notes hints at names that no workspace has. Without names the
+/// members are all children of the root. If a rule doesn't hold, the line that says so is the only note, and there is no text. Fails with `BadOffice` if
+/// the text is no office, and with `OutOfMemory` for want of memory, which may come in place of any other answer.
 pub fn answer_work_order(
     alloc: Global,
     office: &[u8],

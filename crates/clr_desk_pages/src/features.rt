@@ -48,11 +48,11 @@ fn answer_in(
     })
 }
 
-/// Returns the features of the plan of members over the office of a text, of all children of the root where no name is given, as GeoJSON in metres, and as notes hints at names that no workspace
-/// has. It counts as a refusal where the plan isn't cleared. The text of a system of coordinates is `EPSG:` and its number in that register; for any
-/// other, a note that it names no system is all that is printed, with status 2, and the office text isn't read. Where a rule doesn't hold the line
-/// that says so is the only note, and there is no text. Fails with `BadOffice` where the text is no office, and with `OutOfMemory` for want of memory,
-/// which may come in place of any other answer.
+/// Returns the features of the plan of members over the office of a text, as GeoJSON in metres, and as notes hints at names that no workspace has. Without
+/// names the members are all children of the root. It counts as a refusal unless the plan is cleared. The text of a system of coordinates is `EPSG:` and
+/// its number in that register. For any other text, a note that it names no system is all that is printed, with status 2, and the office text isn't read.
+/// If a rule doesn't hold, the line that says so is the only note, and there is no text. Fails with `BadOffice` if the text is no office, and with
+/// `OutOfMemory` for want of memory, which may come in place of any other answer.
 pub fn answer_geojson(
     alloc: Global,
     office: &[u8],

@@ -29,10 +29,10 @@ fn print_of_set(
     Ok(print_of_plan_text(alloc, text, &plan))
 }
 
-/// Returns the report of the plan of members over the office of a text, of all children of the root where no name is given, as a page of hypertext in one file, and as notes hints at names that
-/// no workspace has. It counts as a refusal where the plan isn't cleared. Where a rule doesn't hold the line that says so is the only note, and
-/// there is no text. Fails with `BadOffice` where the text is no office, and with `OutOfMemory` for want of memory, which may come in place
-/// of any other answer.
+/// Returns the report of the plan of members over the office of a text, as a page of hypertext in one file, and as notes hints at names that no workspace
+/// has. Without names the members are all children of the root. It counts as a refusal unless the plan is cleared. If a rule doesn't hold, the line that
+/// says so is the only note, and there is no text. Fails with `BadOffice` if the text is no office, and with `OutOfMemory` for want of memory, which may
+/// come in place of any other answer.
 pub fn answer_report(
     alloc: Global,
     office: &[u8],
