@@ -4,4 +4,5 @@ pub mod InWorkspaces
 pub mod KnownFaultLemmas
 pub mod Lost
 pub mod PlacedItems
+pub mod UnreadRules
 pub mod Values
