@@ -16,15 +16,12 @@ mod field_slips;
 mod inner_slips;
 mod items;
 mod laws;
-mod lists;
 mod offices;
 mod places;
 mod readings;
 mod repeated;
-mod rule_names;
 mod spots;
 mod standing;
-mod unknown_names;
 
 pub use fault_words::office_fault_words;
 pub use laws::paths_lead_to_values;
