@@ -2,7 +2,7 @@
 use Rattle.std.proofs.Common.{◌≡◌, ◌∷◌, ℕ, IfOk, List, Bor, MutBor, Result, Ok, Err, map, refl, subst, sym}
 use Rattle.clr_workspaces.specs.Marks.{Name}
 use Rattle.clr_steps.specs.Offices.{Office}
-use Rattle.clr_rule_text.specs.declared.faults.TextFault.{TextFault}
+use Rattle.clr_office_texts.specs.Drafts.{Opened}
 use Rattle.clr_process_io.specs.declared.faults.RunFault.{RunFault}
 use Rattle.clr_desk_prints.specs.Calls.{PrintsAsked, PrintsOf, PrintsOffice}
 use Rattle.clr_desk_prints.specs.Members.{members_or_children}
@@ -13,18 +13,18 @@ use Rattle.clr_desk_prints.proofs.Made.{made_as}
 
 -- what leads to another print leads there behind a text too
 module _ (P Q : Office → PrintoutOrFault → Type 0) (leads : (o : Office) (out : PrintoutOrFault) → P o out → Q o out) where
-  opened : (names : List Name) (given : Result Office TextFault) (out : PrintoutOrFault) → IsPrintoutIn (IsHinted P names) given out
+  opened : (names : List Name) (given : Opened) (out : PrintoutOrFault) → IsPrintoutIn (IsHinted P names) given out
       → IsPrintoutIn (IsHinted Q names) given out
-  opened names given out (of_office o meant held (bare, is, hints)) = of_office o meant held (bare, leads o bare is, hints)
+  opened names given out (of_office o meant (bare, is, hints)) = of_office o meant (bare, leads o bare is, hints)
   opened names given out (of_fault lines are is) = of_fault lines are is
 
-  answered : (names : List Name) (given : Result Office TextFault) (result : Result Print RunFault)
+  answered : (names : List Name) (given : Opened) (result : Result Print RunFault)
       → IsMadePrintout (IsPrintoutIn (IsHinted P names) given) result → IsMadePrintout (IsPrintoutIn (IsHinted Q names) given) result
   answered names given = made_as (IsPrintoutIn (IsHinted P names) given) (IsPrintoutIn (IsHinted Q names) given) (opened names given)
 
 -- each call prints what is to be printed of the office
 pub office_answered : {E : Type 0} (answers : MutBor Office → Result Print E → MutBor Office → Type 0) (P : Office → PrintoutOrFault → Type 0)
-    (names : List Name) (given : Result Office TextFault) (result : Result Print RunFault)
+    (names : List Name) (given : Opened) (result : Result Print RunFault)
     → IsMadePrintout (IsPrintoutIn (IsHinted (PrintsOffice answers) names) given) result
     → ((shown : MutBor Office) (r : Result Print E) (left : MutBor Office) → answers shown r left → IfOk r (λ p. P shown.now (printed p)))
     → IsMadePrintout (IsPrintoutIn (IsHinted P names) given) result
@@ -35,7 +35,7 @@ office_answered {E} answers P names given result is meets = answered (PrintsOffi
 
 -- each call prints what is to be printed of the office and the members
 pub members_answered : {E : Type 0} (answers : MutBor Office → Bor (List (Bor (List ℕ))) → Result Print E → MutBor Office → Type 0)
-    (P : List Name → Office → PrintoutOrFault → Type 0) (root : Name) (names : List Name) (given : Result Office TextFault) (result : Result Print RunFault)
+    (P : List Name → Office → PrintoutOrFault → Type 0) (root : Name) (names : List Name) (given : Opened) (result : Result Print RunFault)
     → IsMadePrintout (IsPrintoutIn (IsHinted (PrintsAsked answers root names) (root ∷ names)) given) result
     → ((shown : MutBor Office) (members : Bor (List (Bor (List ℕ)))) (r : Result Print E) (left : MutBor Office) → answers shown members r left
     → IfOk r (λ p. P (map (λ name. name.now) members.now) shown.now (printed p)))

@@ -1,7 +1,7 @@
 //! Answers over the office of a text: what a call prints of it, and hints at names behind its notes.
 ghost use Rattle.std.specs.Prelude.{◌∷◌, IfOk};
 ghost use Rattle.std.specs.Fn.{FnOnceReturnsAtMut};
-ghost use Rattle.clr_office_texts.specs.Drafts.{draft_in};
+ghost use Rattle.clr_office_texts.specs.Drafts.{opened_in};
 ghost use Rattle.clr_desk_prints.specs.Calls.{PrintsAsked, PrintsOf, PrintsOffice};
 ghost use Rattle.clr_desk_prints.specs.Members.{members_or_children};
 ghost use Rattle.clr_desk_prints.specs.NameHints.{IsHinted};
@@ -40,7 +40,7 @@ pub fn answer_over_office<F: FnOnce(&mut Office) -> Result<Print, AllocError>>(
     print: F,
 ) -> Result<Print, RunFault>
     requires { F.IsAlwaysCallable print }
-    ensures { IsMadePrintout (IsPrintoutIn (IsHinted (PrintsOffice (FnOnceReturnsAtMut F.FnOnce print)) (root.now ∷ names.now)) (draft_in office.now)) result }
+    ensures { IsMadePrintout (IsPrintoutIn (IsHinted (PrintsOffice (FnOnceReturnsAtMut F.FnOnce print)) (root.now ∷ names.now)) (opened_in office.now)) result }
 {
     match open_office(alloc, office) {
         Ok(mut office) => Ok(hinted_print(alloc, &mut office, root, names, print)?),
@@ -74,7 +74,7 @@ pub fn answer_over_members<F: FnOnce(&mut Office, &[&str]) -> Result<Print, Allo
     print: F,
 ) -> Result<Print, RunFault>
     requires { F.IsAlwaysCallable print }
-    ensures { IsMadePrintout (IsPrintoutIn (IsHinted (PrintsAsked (F.post print) root.now names.now) (root.now ∷ names.now)) (draft_in office.now)) result }
+    ensures { IsMadePrintout (IsPrintoutIn (IsHinted (PrintsAsked (F.post print) root.now names.now) (root.now ∷ names.now)) (opened_in office.now)) result }
 {
     answer_over_office(alloc, office, root, names, |office| {
         print_of_members(alloc, office, root, names, print)

@@ -1,5 +1,6 @@
 pub mod FaultWords
 pub mod Items
+pub mod KnownNeeds
 pub mod Places
 pub mod Readings
 pub mod Remarks

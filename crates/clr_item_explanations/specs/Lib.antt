@@ -1,4 +1,5 @@
 pub mod Fields
+pub mod KnownNeeds
 pub mod Rows
 pub mod Rules
 pub mod Slips

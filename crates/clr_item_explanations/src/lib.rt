@@ -9,6 +9,7 @@
 #![tactic(auto)]
 
 mod fields;
+mod known_needs;
 mod rows;
 mod rules;
 mod slips;

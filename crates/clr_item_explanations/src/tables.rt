@@ -1,5 +1,5 @@
 //! Tables that can't be read.
-ghost use Rattle.std.specs.Prelude.{◌≡◌, IfOk};
+ghost use Rattle.std.specs.Prelude.{IfOk};
 ghost use Rattle.serde_json.specs.View.{view};
 ghost use Rattle.clr_text_positions.specs.declared.paths.Key.TheVariants as key;
 ghost use Rattle.clr_item_explanations.specs.Tables.{wrong_column, wrong_column_pair, wrong_paths, wrong_table};
@@ -73,7 +73,7 @@ fn explain_paths(alloc: Global, format: Format) -> Result<Option<Slip>, AllocErr
             &[PathStep::Key(Key::Shape)],
             "PATH is known from format 2 on",
         )?)),
-        Format::Second | Format::Third => Ok(None),
+        Format::Second | Format::Third | Format::Fourth => Ok(None),
     }
 }
 
