@@ -38,7 +38,7 @@ pub fn schema_fault_of(
 
 /// Returns the number of the first rule of an office text that can't stand in a book over the schema,
 /// and why; or none where they make a book or can't be read.
-#[tactic(auto, using(crate::proofs::UnreadRules::no_book), unfolding(crate::specs::InnerFaults::book_fault_of))]
+#[tactic(auto, unfolding(crate::specs::InnerFaults::book_fault_of))]
 pub fn rule_fault_of(
     alloc: Global,
     json: &Json,

@@ -124,7 +124,7 @@ fn bad_need(schema: &Schema, book: &RuleBook, names: &[NeedNames]) -> Option<Bad
 }
 
 /// Returns the first name of rules as they are stated that is no need of its rule, or none where the rules make no book.
-#[tactic(auto, using(crate::proofs::UnreadRules::no_needs), unfolding(crate::specs::KnownFaults::bad_need_stated))]
+#[tactic(auto, unfolding(crate::specs::KnownFaults::bad_need_stated))]
 fn bad_need_of(
     alloc: Global,
     schema: &Schema,
