@@ -1,4 +1,5 @@
 pub mod ItemLemmas
+pub mod KnownLemmas
 pub mod ListLemmas
 pub mod TellingLemmas
 pub mod ValueLemmas
