@@ -27,11 +27,8 @@ name_words kind =
     else (if bytes_eq kind (codes "CROSSING") then codes "a list of the keys of two rows, or of these and a part of each"
     else codes "a list of the keys of two rows")
 
-abbrev pub is_whole : Data → Bool
-is_whole d = is_some (whole_number d)
-
 abbrev pub are_numbers : List ℕ → List Data → Bool
-are_numbers kind ds = is_count kind (length ds) && list_all is_whole ds
+are_numbers kind ds = is_count kind (length ds) && list_all (λ d. is_some (whole_number d)) ds
 
 -- as many whole numbers as the name of a need has
 abbrev pub is_name : List ℕ → Option Items → Bool

@@ -1,11 +1,10 @@
 //! Known needs of rules that can't be read.
 ghost use Rattle.std.specs.Prelude.{◌≡◌, IfOk};
-ghost use Rattle.std.specs.List.{list_all};
 ghost use Rattle.serde_json.specs.Find.{as_array};
 ghost use Rattle.serde_json.specs.View.{view};
 ghost use Rattle.clr_rule_text.specs.declared.formats.Format.TheVariants.{Fourth};
 ghost use Rattle.clr_text_positions.specs.declared.paths.Key.TheVariants as key;
-ghost use Rattle.clr_item_explanations.specs.KnownNeeds.{is_count, is_name, is_whole, name_words, wrong_known, wrong_name};
+ghost use Rattle.clr_item_explanations.specs.KnownNeeds.{is_count, is_name, name_words, wrong_known, wrong_name};
 ghost use Rattle.clr_item_explanations.specs.Tellings.{TellsIfAny, wrong_in_list};
 
 use crate::fields::{Wanted, explain_field, items_at, value_slip};
@@ -37,29 +36,14 @@ fn name_words(kind: &str) -> &'static str
     }
 }
 
-/// Returns whether a value is a whole number of 64 bits.
-fn is_whole(json: &Json) -> bool
-    ensures { result ≡ is_whole (view json.now) }
-{
-    json.as_i64().is_some()
-}
-
-/// Returns whether values are whole numbers of 64 bits.
-fn are_whole(items: &[Json]) -> bool
-    ensures { result ≡ list_all (λ v. is_whole (view v)) items.now }
-{
-    items.iter().all(|one| is_whole(one))
-}
-
 /// Returns whether a value is a list of as many whole numbers as the name of a need has in a rule of a kind.
-#[tactic(auto, using(crate::proofs::KnownLemmas::numbers_or_others))]
 fn is_name(kind: &str, json: &Json) -> bool
     ensures { result ≡ is_name kind.now (as_array (view json.now)) }
 {
     match json.as_array() {
         Some(list) => {
             let items = list.as_slice();
-            is_count(kind, items.len()) && are_whole(items)
+            is_count(kind, items.len()) && items.iter().all(|one| one.as_i64().is_some())
         }
         None => false,
     }
