@@ -1,11 +1,13 @@
 //! Known needs of rules that can't be read.
-ghost use Rattle.std.specs.Prelude.{◌≡◌, IfOk};
+ghost use Rattle.std.specs.Prelude.{◌≡◌, is_some, map, IfOk};
+ghost use Rattle.std.specs.List.{list_all};
 ghost use Rattle.serde_json.specs.Find.{as_array};
 ghost use Rattle.serde_json.specs.View.{view};
 ghost use Rattle.clr_rule_text.specs.declared.formats.Format.TheVariants.{Fourth};
 ghost use Rattle.clr_text_positions.specs.declared.paths.Key.TheVariants as key;
-ghost use Rattle.clr_item_explanations.specs.KnownNeeds.{is_count, is_name, name_words, wrong_known, wrong_name};
+ghost use Rattle.clr_item_explanations.specs.KnownNeeds.{are_numbers, is_count, is_name, name_words, wrong_known, wrong_name};
 ghost use Rattle.clr_item_explanations.specs.Tellings.{TellsIfAny, wrong_in_list};
+ghost use Rattle.clr_item_explanations.specs.Values.{whole_number};
 
 use crate::fields::{Wanted, explain_field, items_at, value_slip};
 use crate::slips::Slip;
@@ -36,15 +38,26 @@ fn name_words(kind: &str) -> &'static str
     }
 }
 
+fn are_whole_numbers(items: &[Json]) -> bool
+    ensures { result ≡ list_all (λ one. is_some (whole_number (view one))) items.now }
+{
+    items.iter().all(|one| one.as_i64().is_some())
+}
+
+/// Returns whether values are as many whole numbers as the name of a need has in a rule of a kind.
+fn are_numbers(kind: &str, items: &[Json]) -> bool
+    ensures { result ≡ are_numbers kind.now (map view items.now) }
+{
+    is_count(kind, items.len()) && are_whole_numbers(items)
+}
+
 /// Returns whether a value is a list of as many whole numbers as the name of a need has in a rule of a kind.
+#[tactic(auto, using(crate::proofs::NeedLemmas::is_name_by, crate::proofs::NeedLemmas::no_name))]
 fn is_name(kind: &str, json: &Json) -> bool
     ensures { result ≡ is_name kind.now (as_array (view json.now)) }
 {
     match json.as_array() {
-        Some(list) => {
-            let items = list.as_slice();
-            is_count(kind, items.len()) && items.iter().all(|one| one.as_i64().is_some())
-        }
+        Some(list) => are_numbers(kind, list.as_slice()),
         None => false,
     }
 }
