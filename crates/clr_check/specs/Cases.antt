@@ -1,5 +1,5 @@
 -- What an office text and the text of a certificate give.
-use Rattle.std.specs.Prelude.{◌≡◌, ℕ, List, Option, Some, None, Result, Ok, Err}
+use Rattle.std.specs.Prelude.{◌≡◌, [], ℕ, List, Option, Some, None, Result, Ok, Err}
 use Rattle.clr_rules.specs.declared.needs.Broken.{Broken}
 use Rattle.clr_steps.specs.Offices.{Office}
 use Rattle.clr_engine.specs.Drafts.{unheld_in}
@@ -27,7 +27,7 @@ where_held o certificate (Some unheld) = Err (fault.Unheld o unheld.0 unheld.1)
 
 -- the office's text, then the rules, and then the certificate's text
 abbrev pub of_draft : List ℕ → Result Office TextFault → Case
-of_draft certificate (Ok o) = where_held o certificate (unheld_in o)
+of_draft certificate (Ok o) = where_held o certificate (unheld_in o [])
 of_draft certificate (Err e) = Err (fault.BadOffice e)
 
 -- what two texts give, or the first that fails of the office's text, the rules and the certificate's text

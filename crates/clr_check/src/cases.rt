@@ -1,5 +1,5 @@
 //! An office and a certificate, both read from texts.
-ghost use Rattle.std.specs.Prelude.{◌≡◌, Ok, IfOk, IfErr};
+ghost use Rattle.std.specs.Prelude.{◌≡◌, [], Ok, IfOk, IfErr};
 ghost use Rattle.clr_engine.specs.Drafts.{unheld_in};
 ghost use Rattle.clr_cert.specs.Certificates.{certificate_in};
 ghost use Rattle.clr_check.specs.Cases.{IsCaseFault, case_of, where_held, with_certificate};
@@ -47,10 +47,10 @@ fn with_certificate(
 
 /// Returns the office of a draft, whose rules may not hold, with the certificate of a text.
 fn admit_with(alloc: Global, draft: Draft, text: &[u8]) -> Result<(Office, Certificate), CaseFault>
-    ensures case { IfOk result (λ given. where_held draft text.now (unheld_in draft) ≡ Ok (given.0, given.1)) }
-    ensures fault { IfErr result (IsCaseFault (where_held draft text.now (unheld_in draft))) }
+    ensures case { IfOk result (λ given. where_held draft text.now (unheld_in draft []) ≡ Ok (given.0, given.1)) }
+    ensures fault { IfErr result (IsCaseFault (where_held draft text.now (unheld_in draft []))) }
 {
-    match draft.admit() {
+    match draft.admit(&[]) {
         Ok(office) => with_certificate(alloc, office, text),
         Err((draft, fault)) => match fault {
             AdmitFault::Broken { position, need } => Err(CaseFault::Unheld {

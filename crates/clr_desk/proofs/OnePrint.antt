@@ -21,10 +21,10 @@ module _ (line other : Lines) where
   where_held o None one two = absurd one
 
   one_line : (given : Result Office TextFault) → IsPrintIn IsNoPrint given line → IsPrintIn IsNoPrint given other → line ≡ other
-  one_line (Ok o) one two = where_held o (unheld_in o) one two
+  one_line (Ok o) one two = where_held o (unheld_in o []) one two
   one_line (Err e) one two = one ∙ sym two
 
-no_line : (o : Office) → unheld_in o ≡ None → (given : Result Office TextFault) → given ≡ Ok o → (line : Lines) → IsPrintIn IsNoPrint given line → ⊥
+no_line : (o : Office) → unheld_in o [] ≡ None → (given : Result Office TextFault) → given ≡ Ok o → (line : Lines) → IsPrintIn IsNoPrint given line → ⊥
 no_line o held given is line h = subst (λ u. IsPrintWhereHeld IsNoPrint o u line) held (subst (λ g. IsPrintIn IsNoPrint g line) is h)
 
 -- of an office text

@@ -1,5 +1,5 @@
 //! The text of an office, a row a line.
-ghost use Rattle.std.specs.Prelude.{◌≡◌, Ok, None, true, false, IfOk};
+ghost use Rattle.std.specs.Prelude.{◌≡◌, [], Ok, None, true, false, IfOk};
 ghost use Rattle.clr_engine.specs.Drafts.{unheld_in};
 ghost use Rattle.clr_office_texts.specs.Drafts.{draft_in};
 ghost use Rattle.clr_office_texts.specs.Writing.{bytes_of};
@@ -15,7 +15,7 @@ use std::alloc::{AllocError, Global};
 
 /// Returns whether lines are read as an office in which the rules hold, and which has this text.
 fn is_read_as(alloc: Global, lines: &[u8], office: &Office, text: &[u8]) -> Result<bool, AllocError>
-    requires held { unheld_in office.now ≡ None }
+    requires held { unheld_in office.now [] ≡ None }
     requires text { text.now ≡ bytes_of office.now }
     requires again { draft_in text.now ≡ Ok office.now }
     ensures yes { IfOk result (λ same. same ≡ true → draft_in lines.now ≡ Ok office.now) }
@@ -32,7 +32,7 @@ fn is_read_as(alloc: Global, lines: &[u8], office: &Office, text: &[u8]) -> Resu
 /// Returns the text of an office in which the rules hold, a row a line, ended by `\n`. Where that weren't read as the same office it
 /// would be the text in one line.
 fn text_in_lines(alloc: Global, office: &Office) -> Result<Vec<u8>, AllocError>
-    requires { unheld_in office.now ≡ None }
+    requires { unheld_in office.now [] ≡ None }
     ensures { IfOk result (λ text. IsInLines office.now text.items) }
 {
     let text = write_office(alloc, office)?;
@@ -46,7 +46,7 @@ fn text_in_lines(alloc: Global, office: &Office) -> Result<Vec<u8>, AllocError>
 
 /// Returns what is printed of an office in lines.
 fn format_print(alloc: Global, office: &Office) -> Result<Print, AllocError>
-    requires { unheld_in office.now ≡ None }
+    requires { unheld_in office.now [] ≡ None }
     ensures { IfOk result (λ p. IsFormatPrint office.now (printed p)) }
 {
     let text = text_in_lines(alloc, office)?;

@@ -69,7 +69,7 @@ as_notes (Err e) = Err e
 
 -- what is printed of an office text: what is asked of its office, or as notes why there is none, or which rule doesn't hold
 pub data IsPrintoutIn (IsPrint : Office → PrintoutOrFault → Type 0) (given : Result Office TextFault) (print : PrintoutOrFault) : Type 0 where
-  of_office : (o : Office) → given ≡ Ok o → unheld_in o ≡ None → IsPrint o print → IsPrintoutIn IsPrint given print
+  of_office : (o : Office) → given ≡ Ok o → unheld_in o [] ≡ None → IsPrint o print → IsPrintoutIn IsPrint given print
   of_fault : (lines : Lines) → IsLinesIn IsNoPrint given lines → print ≡ as_notes lines → IsPrintoutIn IsPrint given print
 
 -- what is printed for an office text and a certificate's text

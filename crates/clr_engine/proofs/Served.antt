@@ -22,10 +22,11 @@ use Rattle.clr_steps.specs.declared.commands.Reply.{Reply}
 use Rattle.clr_steps.proofs.SeenLemmas.{name_is, name_law, within}
 use Rattle.clr_engine.specs.Fitting.{IsAdmitted}
 use Rattle.clr_grid.specs.Finders.{AreFinders, IsFinderAt, IsFinderOf}
-use Rattle.clr_engine.specs.KeptContents.{IsPositionOf, StayFinders, kept_content_at, kept_content, kept_contents}
-use Rattle.clr_engine.specs.Fitting.{IsServed}
+use Rattle.clr_engine.specs.KeptContents.{IsPositionOf, kept_content_at}
+use Rattle.clr_judges.specs.KeptContents.{StayFinders, kept_content, kept_contents}
+use Rattle.clr_judges.specs.Fitting.{IsServed}
 use Rattle.clr_grid.proofs.Indexes.{one_at, one_less, one_more, one_set}
-use Rattle.clr_engine.proofs.Kept.{after_creating, after_removing, content_at, same_content}
+use Rattle.clr_judges.proofs.Kept.{after_creating, after_removing, content_at, same_content}
 
 module _ (schema : List TableDef) (book : List Rule) (ws : List Workspace) (sound : IsSound ws) where
   pub served : IsAdmitted (office_of schema book ws) → (finders : List (Option FiledRows)) → AreFinders book (kept_contents ws) finders →

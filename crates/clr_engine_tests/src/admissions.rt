@@ -34,7 +34,7 @@ fn lines_of(alloc: Global, draft: &Draft, fault: AdmitFault) -> Option<Vec<u8>> 
 
 /// Returns the lines of why a draft isn't admitted, with its rows of LIVE, or no bytes where it is admitted.
 fn fault_lines(alloc: Global, draft: Draft) -> Option<Vec<u8>> {
-    match draft.admit() {
+    match draft.admit(&[]) {
         Ok(_) => Some(Vec::new(alloc)),
         Err((draft, fault)) => lines_of(alloc, &draft, fault),
     }

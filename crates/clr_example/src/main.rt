@@ -20,7 +20,7 @@ use std::process::ExitCode;
 /// Returns the office of a text in which every rule holds.
 fn open(alloc: Global, text: &str) -> Option<Office> {
     let draft = read_office(alloc, text.as_bytes()).ok()?;
-    draft.admit().ok()
+    draft.admit(&[]).ok()
 }
 
 /// Returns a certificate of designs, once it is checked: until a command is given that isn't quiet, no merge or refresh of one of its members meets a

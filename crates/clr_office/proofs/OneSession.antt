@@ -1,5 +1,5 @@
 -- What is asked of two texts is answered in one way alone, and no input has two sessions, memory aside.
-use Rattle.std.proofs.Common.{◌≡◌, ◌≢◌, ◌∙◌, ℕ, Bool, true, false, ◌||◌, List, Option, Some, None, Result, Ok, Err, refl, sym, ap, subst}
+use Rattle.std.proofs.Common.{◌≡◌, [], ◌≢◌, ◌∙◌, ℕ, Bool, true, false, ◌||◌, List, Option, Some, None, Result, Ok, Err, refl, sym, ap, subst}
 use Rattle.clr_rows.specs.Names.{live_name}
 use Rattle.clr_rules.specs.declared.needs.Broken.{Broken}
 use Rattle.clr_steps.specs.Offices.{Office}
@@ -52,7 +52,7 @@ module _ (Is : Office → Printed → Type 0) (one : (o : Office) → IsOnePrint
 
   one_in : (meant : Result Office TextFault) → IsOnePrint (IsPrintIn Is meant)
   one_in (Err fault) = one_equal _
-  one_in (Ok o) = one_where_held o (unheld_in o)
+  one_in (Ok o) = one_where_held o (unheld_in o [])
 
 one_printed : (o : Office) (read : Result (List Step) (ℕ × RecordFault)) → IsOnePrint (ArePrinted o read)
 one_printed o (Err (number, fault)) = one_equal _

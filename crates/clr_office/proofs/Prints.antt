@@ -27,7 +27,7 @@ module _ (P Q : Printed → Type 0) (leads : (print : Printed) → P print → Q
   weaker_made (Ok output) h = leads _ h
   weaker_made (Err e) h = weaker_fault e h
 
-module _ (P : Office → Printed → Type 0) (meant : Result Office TextFault) (o : Office) (is : meant ≡ Ok o) (held : unheld_in o ≡ None) where
+module _ (P : Office → Printed → Type 0) (meant : Result Office TextFault) (o : Office) (is : meant ≡ Ok o) (held : unheld_in o [] ≡ None) where
   opened : (print : Printed) → P o print → IsPrintIn P meant print
   opened print h = subst (λ m. IsPrintIn P m print) (sym is) (subst (λ first. IsPrintWhereHeld P o first print) (sym held) h)
 
@@ -36,7 +36,7 @@ module _ (P : Office → Printed → Type 0) (meant : Result Office TextFault) (
   held_made answer = weaker_made (P o) (IsPrintIn P meant) opened answer
 
 -- hints at names of an office in which the rules hold
-pub hints_opened : (names : List Name) (meant : Result Office TextFault) (o : Office) → meant ≡ Ok o → unheld_in o ≡ None → (lines : List ℕ)
+pub hints_opened : (names : List Name) (meant : Result Office TextFault) (o : Office) → meant ≡ Ok o → unheld_in o [] ≡ None → (lines : List ℕ)
     → AreNameHints o names lines → AreHintsIn names meant lines
 hints_opened names meant o is held lines h =
     subst (λ m. AreHintsIn names m lines) (sym is) (subst (λ first. AreHintsWhereHeld names o first lines) (sym held) h)
@@ -49,7 +49,7 @@ none_where names o None print h = absurd h
 -- where something is printed in place of what is asked of an office, there are no hints
 pub no_hints : (names : List Name) (meant : Result Office TextFault) (print : Printed) → IsPrintIn IsNoPrint meant print → AreHintsIn names meant []
 no_hints names (Err e) print _ = refl
-no_hints names (Ok o) print h = none_where names o (unheld_in o) print h
+no_hints names (Ok o) print h = none_where names o (unheld_in o []) print h
 
 pub no_hints_made : (names : List Name) (meant : Result Office TextFault) (answer : Result Output RunFault) → IsOutput (IsPrintIn IsNoPrint meant) answer
     → OnOk answer (AreHintsIn names meant [])

@@ -61,7 +61,7 @@ AreHintsWhereHeld names o None lines = AreNameHints o names lines
 -- what is said at names of the office of a text, and nothing where there is none
 abbrev pub AreHintsIn : List Name → Result Office TextFault → List ℕ → Type 0
 AreHintsIn names (Err e) lines = lines ≡ []
-AreHintsIn names (Ok o) lines = AreHintsWhereHeld names o (unheld_in o) lines
+AreHintsIn names (Ok o) lines = AreHintsWhereHeld names o (unheld_in o []) lines
 
 -- what is said at the root of a certificate and at names, where two texts give an office and a certificate
 abbrev pub AreHintsOfCase : List Name → Case → List ℕ → Type 0

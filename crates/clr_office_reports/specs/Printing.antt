@@ -1,5 +1,5 @@
 -- What is printed of an office text, and the exit status.
-use Rattle.std.specs.Prelude.{◌≡◌, ℕ, zero, suc, Bool, true, false, List, Option, Some, None, Result, Ok, Err, if◌then◌else◌}
+use Rattle.std.specs.Prelude.{◌≡◌, [], ℕ, zero, suc, Bool, true, false, List, Option, Some, None, Result, Ok, Err, if◌then◌else◌}
 use Rattle.clr_rules.specs.declared.needs.Broken.{Broken}
 use Rattle.clr_workspaces.specs.Marks.{Name}
 use Rattle.clr_steps.specs.Offices.{Office}
@@ -45,7 +45,7 @@ IsPrintWhereHeld IsPrint o None print = IsPrint o print
 -- what is asked of an office, or why there is none
 abbrev pub IsPrintIn : (Office → Printed → Type 0) → Result Office TextFault → Printed → Type 0
 IsPrintIn IsPrint (Err fault) print = print ≡ Err (run_fault.BadOffice fault)
-IsPrintIn IsPrint (Ok o) print = IsPrintWhereHeld IsPrint o (unheld_in o) print
+IsPrintIn IsPrint (Ok o) print = IsPrintWhereHeld IsPrint o (unheld_in o []) print
 
 -- nothing is to be printed of an office in which the rules hold
 abbrev pub IsNoPrint : Office → Printed → Type 0

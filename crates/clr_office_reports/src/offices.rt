@@ -1,5 +1,5 @@
 //! Office texts: read, and opened where the rules hold.
-ghost use Rattle.std.specs.Prelude.{◌≡◌, None, Ok, IfOk, IfErr};
+ghost use Rattle.std.specs.Prelude.{◌≡◌, [], None, Ok, IfOk, IfErr};
 ghost use Rattle.clr_engine.specs.Drafts.{unheld_in};
 ghost use Rattle.clr_office_texts.specs.Drafts.{draft_in};
 ghost use Rattle.clr_office_reports.specs.Printing.{IsOutput, IsNoPrint, IsOfficeFault, IsPrintIn, print_of, unheld_print};
@@ -52,14 +52,14 @@ pub fn unheld_output(
 /// and 2 cross without one in LIVE.
 pub fn open_office(alloc: Global, office: &[u8]) -> Result<Office, Result<Output, RunFault>>
     ensures meant { IfOk result (λ opened. draft_in office.now ≡ Ok opened) }
-    ensures held { IfOk result (λ opened. unheld_in opened ≡ None) }
+    ensures held { IfOk result (λ opened. unheld_in opened [] ≡ None) }
     ensures answer { IfErr result (IsOutput (IsPrintIn IsNoPrint (draft_in office.now))) }
 {
     let draft = match draft_of(alloc, office) {
         Ok(draft) => draft,
         Err(fault) => return Err(Err(fault)),
     };
-    match draft.admit() {
+    match draft.admit(&[]) {
         Ok(office) => Ok(office),
         Err((draft, fault)) => match fault {
             AdmitFault::Broken { position, need } => {

@@ -11,7 +11,7 @@ use std::alloc::Global;
 /// Returns the office of a text in which every rule holds.
 pub fn office_of(alloc: Global, text: &str) -> Option<Office> {
     let draft = read_office(alloc, text.as_bytes()).ok()?;
-    draft.admit().ok()
+    draft.admit(&[]).ok()
 }
 
 /// Returns the steps of a script.

@@ -36,7 +36,7 @@ module _ (book : List Rule) (name : Name) where
       let both = none_then (cond v.kept (first_broken book v.current) None) at (unheld_from book (suc at) ws) e in
       none_by (same_name name v.name) at v ws w both.0 (λ later. none_at (suc at) ws w both.1 later k) f k
 
-module _ (o : Office) (name : Name) (none : unheld_in o ≡ None) where
+module _ (o : Office) (name : Name) (none : unheld_in o [] ≡ None) where
   holds_at : (r : Option Workspace) → find_name name o.workspaces ≡ r → option_map_or (λ w. w.kept) r false ≡ true → Holds o.book (row_at (current_of r))
   holds_at None f k = absurd (false≢true k)
   holds_at (Some w) f k =

@@ -81,7 +81,7 @@ fn children(alloc: Global, changes: &[&str]) -> Result<String, AllocError> {
 
 /// Returns the office of a text, in which every rule holds.
 pub(crate) fn office_of(alloc: Global, text: &str) -> Result<Office, Fail> {
-    let admitted = read_office(alloc, text.as_bytes())?.admit();
+    let admitted = read_office(alloc, text.as_bytes())?.admit(&[]);
     Ok(admitted.ok().ok_or("a rule doesn't hold")?)
 }
 

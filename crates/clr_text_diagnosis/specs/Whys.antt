@@ -1,5 +1,5 @@
 -- Why a text can't be used.
-use Rattle.std.specs.Prelude.{◌≡◌, ◌⊎◌, ℕ, List, Some, None, Result, Ok, Err, IsOk}
+use Rattle.std.specs.Prelude.{◌≡◌, [], ◌⊎◌, ℕ, List, Some, None, Result, Ok, Err, IsOk}
 use Rattle.clr_rows.specs.declared.tables.TableDef.{TableDef}
 use Rattle.clr_rules.specs.declared.needs.Broken.{Broken}
 use Rattle.clr_cert.specs.Certificates.{certificate_in}
@@ -62,12 +62,12 @@ pub record TellsUnheldRule (text lines : List ℕ) : Type 0 where
   pub position : ℕ
   pub need : Broken
   pub read : draft_in text ≡ Ok office
-  pub unheld : unheld_in office ≡ Some (position, need)
+  pub unheld : unheld_in office [] ≡ Some (position, need)
   pub told : lines ≡ unheld_lines office position need
 
 -- an office in which the rules hold, one in which a rule doesn't, or no office
 abbrev pub IsOfficeWhy : List ℕ → Why → Type 0
-IsOfficeWhy text NoFault = (o : Office) × (draft_in text ≡ Ok o) × (unheld_in o ≡ None)
+IsOfficeWhy text NoFault = (o : Office) × (draft_in text ≡ Ok o) × (unheld_in o [] ≡ None)
 IsOfficeWhy text (Unheld lines) = TellsUnheldRule text lines.items
 IsOfficeWhy text (Faulty lines) = AreOfficeLines text lines.items
 

@@ -6,7 +6,7 @@ ghost use Rattle.clr_text_diagnosis.specs.Whys.{AreOfficeLines, IsOfficeWhy, IsR
 
 use crate::needs::unheld_lines;
 use crate::whys::Why;
-use clr_engine::{AdmitFault, Draft};
+use clr_engine::Draft;
 use clr_explanations::{OfficeFault, explain_office, explain_standing, office_fault_words};
 use clr_office_texts::{TextFault, read_office};
 use clr_text_positions::fault_lines;
@@ -80,15 +80,12 @@ fn why_draft(alloc: Global, draft: Draft, text: &[u8]) -> Result<Why, AllocError
     ensures { IfOk result (IsOfficeWhy text.now) }
 {
     let _text = text;
-    match draft.admit() {
-        Ok(_) => Ok(Why::NoFault),
-        Err((draft, fault)) => match fault {
-            AdmitFault::Broken { position, need } => {
-                let lines = unheld_lines(alloc, &draft, position, &need)?;
-                Ok(Why::Unheld(lines))
-            }
-            AdmitFault::OutOfMemory => Err(AllocError),
-        },
+    match draft.unheld(&[])? {
+        Some((position, need)) => {
+            let lines = unheld_lines(alloc, &draft, position, &need)?;
+            Ok(Why::Unheld(lines))
+        }
+        None => Ok(Why::NoFault),
     }
 }
 

@@ -4,8 +4,8 @@ use Rattle.clr_workspaces.specs.Workspaces.{Workspace}
 use Rattle.clr_steps.specs.Offices.{office_of}
 use Rattle.clr_engine.specs.Fitting.{IsAdmitted}
 use Rattle.clr_grid.specs.Finders.{AreFinders}
-use Rattle.clr_engine.specs.KeptContents.{kept_contents}
-use Rattle.clr_engine.proofs.Unheld.{unheld_is}
+use Rattle.clr_judges.specs.KeptContents.{kept_contents}
+use Rattle.clr_judges.proofs.Unheld.{unheld_is}
 use Rattle.clr_engine.proofs.drafts.Draft.admit.Goals as goal
 
 pub of_parts-requires : goal.of_parts-requires

@@ -6,7 +6,7 @@ use Rattle.clr_steps.proofs.NothingNew.{nothing_new_law}
 use Rattle.clr_steps.proofs.StepLemmas.{answer_law}
 use Rattle.clr_engine.specs.Fitting.{IsAdmitted}
 use Rattle.clr_grid.specs.Finders.{AreFinders}
-use Rattle.clr_engine.specs.KeptContents.{kept_contents}
+use Rattle.clr_judges.specs.KeptContents.{kept_contents}
 use Rattle.clr_engine.proofs.Steps.{fits_after}
 use Rattle.clr_engine.proofs.offices.Office.perform.Goals as goal
 
