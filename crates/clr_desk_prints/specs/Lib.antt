@@ -1,3 +1,4 @@
 pub mod Members
 pub mod NameHints
 pub mod Printing
+pub mod Systems

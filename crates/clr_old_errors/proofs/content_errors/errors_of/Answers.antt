@@ -1,0 +1,1 @@
+use Rattle.clr_old_errors.proofs.content_errors.errors_of.Goals as goal

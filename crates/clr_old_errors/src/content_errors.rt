@@ -1,0 +1,25 @@
+//! The broken needs of a content.
+
+ghost use Rattle.std.specs.Prelude.{◌≡◌, IfOk};
+ghost use Rattle.clr_rules.specs.Needs.{broken_needs};
+ghost use Rattle.clr_steps.specs.Offices.{content_of};
+
+use clr_audit::audit;
+use clr_engine::Office;
+use clr_rows::{LIVE, Sheet};
+use clr_rules::Broken;
+use std::alloc::{AllocError, Global};
+
+/// Returns the broken needs of what LIVE or a workspace sees, ascending, each once; and none where no workspace has the name.
+pub fn errors_of(alloc: Global, office: &Office, name: &str) -> Result<Vec<Broken>, AllocError>
+    ensures { IfOk result (λ list. list.items ≡ broken_needs office.now.book (content_of office.now name.now)) }
+{
+    if name == LIVE {
+        return audit(alloc, office.book(), office.live());
+    }
+    let rows = match office.rows(name)? {
+        Some(rows) => rows,
+        None => Sheet::new(alloc),
+    };
+    audit(alloc, office.book(), &rows)
+}
