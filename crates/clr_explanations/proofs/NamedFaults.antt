@@ -10,7 +10,7 @@ use Rattle.clr_lines.specs.Replies.{row_fault_name}
 use Rattle.clr_office_reading.specs.Offices.{format_of}
 use Rattle.clr_rule_text.specs.declared.faults.TextFault.{TextFault}
 use Rattle.clr_rule_text.specs.declared.faults.TextFault.TheVariants as fault
-use Rattle.clr_office_reading.specs.declared.formats.Format.{Format}
+use Rattle.clr_rule_text.specs.declared.formats.Format.{Format}
 use Rattle.clr_faults.specs.InnerFaults.{book_fault_of, put_fault_of, tables_fault_of}
 use Rattle.clr_item_explanations.specs.FaultNames.{rule_fault_name, schema_fault_name}
 use Rattle.clr_item_explanations.specs.RowFaults.{wrong_of_row}

@@ -3,7 +3,7 @@ use Rattle.std.specs.Prelude.{ℕ, List, [], ◌∷◌, codes, Option, Some, Non
 use Rattle.std.specs.Option.{option_or}
 use Rattle.serde_json.specs.Data.{Data}
 use Rattle.clr_office_reading.specs.Offices.{format_of}
-use Rattle.clr_office_reading.specs.declared.formats.Format.{Format}
+use Rattle.clr_rule_text.specs.declared.formats.Format.{Format}
 use Rattle.clr_rule_text.specs.declared.faults.TextFault.{TextFault}
 use Rattle.clr_faults.specs.declared.spots.FaultyItem.{FaultyItem}
 use Rattle.clr_faults.specs.declared.spots.FaultyItem.TheVariants.{Whole, Table, Rule, Live, Workspace, Base, Row, Mark, Saved}

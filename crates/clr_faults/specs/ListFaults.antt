@@ -5,7 +5,7 @@ use Rattle.clr_rows.specs.declared.tables.TableDef.{TableDef}
 use Rattle.clr_rows.specs.Contents.{no_rows}
 use Rattle.clr_deltas.specs.Differences.{no_differences}
 use Rattle.clr_rule_text.specs.declared.faults.TextFault.{TextFault}
-use Rattle.clr_office_reading.specs.declared.formats.Format.{Format}
+use Rattle.clr_rule_text.specs.declared.formats.Format.{Format}
 use Rattle.clr_office_reading.specs.Cells.{named_row_of}
 use Rattle.clr_office_reading.specs.Patches.{named_cell_of}
 use Rattle.clr_rule_text.specs.Rules.{named_rule_of}

@@ -6,7 +6,7 @@ use Rattle.clr_rows.specs.declared.tables.TableDef.{TableDef}
 use Rattle.clr_rules.specs.declared.books.faults.RuleFault.{RuleFault}
 use Rattle.clr_rule_text.specs.declared.faults.TextFault.{TextFault}
 use Rattle.clr_rule_text.specs.declared.faults.TextFault.TheVariants.{BadRule}
-use Rattle.clr_office_reading.specs.declared.formats.Format.{Format}
+use Rattle.clr_rule_text.specs.declared.formats.Format.{Format}
 use Rattle.clr_rule_text.specs.Fields.{list_at, list_or_none}
 use Rattle.clr_office_reading.specs.Tables.{table_of}
 use Rattle.clr_faults.specs.FirstFaults.{alone, first_fault_from}

@@ -3,8 +3,8 @@ use Rattle.std.specs.Prelude.{[], ◌∷◌, codes, Option, Some, None}
 use Rattle.std.specs.Option.{option_or}
 use Rattle.serde_json.specs.Data.{Data, Items}
 use Rattle.serde_json.specs.Find.{as_array}
-use Rattle.clr_office_reading.specs.declared.formats.Format.{Format}
-use Rattle.clr_office_reading.specs.declared.formats.Format.TheVariants.{First, Second, Third}
+use Rattle.clr_rule_text.specs.declared.formats.Format.{Format}
+use Rattle.clr_rule_text.specs.declared.formats.Format.TheVariants.{First, Second, Third, Fourth}
 use Rattle.clr_text_positions.specs.declared.paths.Key.TheVariants as key
 use Rattle.clr_text_positions.specs.declared.paths.PathStep.TheVariants as step
 use Rattle.clr_item_explanations.specs.declared.fields.Wanted.TheVariants as wanted
@@ -29,6 +29,7 @@ abbrev pub wrong_paths : Format → Option Wrong
 wrong_paths First = Some (at_key key.Shape (Plain (codes "PATH is known from format 2 on")))
 wrong_paths Second = None
 wrong_paths Third = None
+wrong_paths Fourth = None
 
 unfoldable pub wrong_table : Format → Data → Option Wrong
 wrong_table format d =

@@ -73,7 +73,7 @@ fn explain_paths(alloc: Global, format: Format) -> Result<Option<Slip>, AllocErr
             &[PathStep::Key(Key::Shape)],
             "PATH is known from format 2 on",
         )?)),
-        Format::Second | Format::Third => Ok(None),
+        Format::Second | Format::Third | Format::Fourth => Ok(None),
     }
 }
 

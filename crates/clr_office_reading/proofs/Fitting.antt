@@ -15,7 +15,7 @@ use Rattle.clr_deltas.specs.declared.stored_marks.StoredMark.{StoredMark}
 use Rattle.clr_deltas.specs.declared.stored_marks.StoredMark.TheVariants as stored
 use Rattle.clr_office_reading.specs.declared.cells.NamedRow.{NamedRow}
 use Rattle.clr_rule_text.specs.declared.faults.TextFault.{TextFault}
-use Rattle.clr_office_reading.specs.declared.formats.Format.{Format}
+use Rattle.clr_rule_text.specs.declared.formats.Format.{Format}
 use Rattle.clr_office_reading.specs.declared.named_cells.NamedCell.{NamedCell}
 use Rattle.clr_office_reading.specs.declared.named_marks.NamedMark.{NamedMark}
 use Rattle.clr_office_reading.specs.declared.named_marks.NamedMark.TheVariants as named

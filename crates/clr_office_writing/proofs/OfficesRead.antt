@@ -6,7 +6,7 @@ use Rattle.clr_rows.specs.declared.tables.Kind.TheVariants as kind
 use Rattle.clr_rows.specs.declared.tables.Form.{Form}
 use Rattle.clr_rows.specs.declared.tables.Form.TheVariants as form
 use Rattle.clr_rows.specs.declared.tables.TableDef.{TableDef}
-use Rattle.clr_office_reading.specs.declared.formats.Format.TheVariants.{Third}
+use Rattle.clr_rule_text.specs.declared.formats.Format.TheVariants.{Third}
 use Rattle.clr_office_reading.specs.Cells.{live_of, live_rows_of}
 use Rattle.clr_rule_text.specs.Fields.{each}
 use Rattle.clr_office_reading.specs.Offices.{format_of, office_of, schema_of}

@@ -8,7 +8,7 @@ use Rattle.clr_rows.specs.Schemas.{schema_fault}
 use Rattle.clr_deltas.specs.Deltas.{Delta}
 use Rattle.clr_deltas.specs.declared.stored_marks.StoredMark.{StoredMark}
 use Rattle.clr_deltas.specs.declared.stored_marks.StoredMark.TheVariants as stored
-use Rattle.clr_office_reading.specs.declared.formats.Format.TheVariants.{Third}
+use Rattle.clr_rule_text.specs.declared.formats.Format.TheVariants.{Third}
 use Rattle.clr_office_reading.specs.declared.named_marks.NamedMark.{NamedMark}
 use Rattle.clr_rule_text.specs.Fields.{each, each_in}
 use Rattle.clr_office_reading.specs.Fits.{FitsDelta, FitsMark}
