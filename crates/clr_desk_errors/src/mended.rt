@@ -11,6 +11,7 @@ use clr_desk_prints::{Print, RunFault};
 use clr_engine::{Broken, Draft};
 use clr_lines::{add_need, count_line};
 use clr_office_reports::draft_of;
+use clr_office_texts::DraftText;
 use clr_old_errors::needs_beside;
 use clr_rows::Schema;
 use std::alloc::{AllocError, Global};
@@ -59,6 +60,6 @@ fn mended_print(alloc: Global, draft: &Draft, known: &[Broken]) -> Result<Print,
 pub fn answer_mended(alloc: Global, office: &[u8]) -> Result<Print, RunFault>
     ensures { IsMadePrintout (IsPrintoutOfDraft (IsMendedPrint (known_in office.now)) (draft_in office.now)) result }
 {
-    let (draft, known) = draft_of(alloc, office)?;
+    let DraftText { draft, known } = draft_of(alloc, office)?;
     Ok(mended_print(alloc, &draft, known.as_slice())?)
 }

@@ -87,11 +87,11 @@ fn print_of_live(alloc: Global, office: &mut Office, content: &Sheet) -> Result<
 }
 
 /// Puts a content in place of LIVE's, whatever it breaks, and returns the text of the office with its errors accepted, and how many they are.
-fn print_of_accepted(alloc: Global, draft: &mut Draft, content: &Sheet) -> Result<Print, AllocError>
-    requires { FitsSchema draft.old.schema content.now }
-    ensures { IfOk result (λ p. IsPrintOfAccepted draft.old content.now (printed p)) }
+fn print_of_accepted(alloc: Global, mut draft: Draft, content: &Sheet) -> Result<Print, AllocError>
+    requires { FitsSchema draft.schema content.now }
+    ensures { IfOk result (λ p. IsPrintOfAccepted draft content.now (printed p)) }
 {
-    put_live(alloc, draft, content)?;
+    put_live(alloc, &mut draft, content)?;
     accepted_print(alloc, draft)
 }
 
@@ -145,11 +145,11 @@ pub(crate) fn office_print(
 /// Returns what is printed of the office whose LIVE has the rows of layers, with its errors accepted.
 pub(crate) fn accepted_office_print(
     alloc: Global,
-    draft: &mut Draft,
+    draft: Draft,
     options: LayerOptions,
     layers: &[GivenLayer],
 ) -> Result<Print, AllocError>
-    ensures { IfOk result (λ p. IsAcceptedOfficePrint options layers.now draft.old (printed p)) }
+    ensures { IfOk result (λ p. IsAcceptedOfficePrint options layers.now draft (printed p)) }
 {
     match wanted_content(alloc, draft.schema(), draft.live(), options, layers)? {
         Ok(content) => print_of_accepted(alloc, draft, &content),

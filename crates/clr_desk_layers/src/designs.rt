@@ -76,6 +76,6 @@ pub fn answer_accepted_office(
 ) -> Result<Print, RunFault>
     ensures { IsMadePrintout (IsPrintoutOfDraft (IsAcceptedOfficePrint options layers.now) (draft_in office.now)) result }
 {
-    let (mut draft, _known) = draft_of(alloc, office)?;
-    Ok(accepted_office_print(alloc, &mut draft, options, layers)?)
+    let read = draft_of(alloc, office)?;
+    Ok(accepted_office_print(alloc, read.draft, options, layers)?)
 }

@@ -13,8 +13,9 @@ use std::alloc::{AllocError, Global};
 
 /// Reads an office text, in which the rules may not hold. Fails with `BadOffice` where it is no
 /// office, and with `OutOfMemory` if memory runs out.
-pub fn draft_of(alloc: Global, office: &[u8]) -> Result<Draft, RunFault>
-    ensures draft { IfOk result (λ draft. draft_in office.now ≡ Ok draft) }
+pub fn draft_of(alloc: Global, office: &[u8]) -> Result<DraftText, RunFault>
+    ensures draft { IfOk result (λ text. draft_in office.now ≡ Ok text.draft) }
+    ensures known { IfOk result (λ text. text.known ≡ known_in office.now) }
     ensures fault { IfErr result (λ e. IsOfficeFault (draft_in office.now) e) }
 {
     match read_office(alloc, office) {
