@@ -1,11 +1,11 @@
 //! The broken needs of LIVE, one by one.
 
-ghost use Rattle.std.specs.Prelude.{◌≡◌, All, map, false, IfOk};
+ghost use Rattle.std.specs.Prelude.{◌≡◌, All, map, option_map, IfOk};
 ghost use Rattle.std.specs.List.Sorted.{IsStrictlySortedBy};
 ghost use Rattle.clr_audit.specs.Unknown.{is_known};
 ghost use Rattle.clr_merge_sets.specs.MemberChanges.{AreMembers};
 ghost use Rattle.clr_rules.specs.Needs.{broken_cmp};
-ghost use Rattle.clr_desk_errors.specs.ListedErrors.{AreListed, IsListed, live_alone, need_in_live};
+ghost use Rattle.clr_desk_errors.specs.ListedErrors.{AreListed, IsListed, live_alone, need_in_live, old_version};
 
 use crate::error_places::error_place;
 use clr_engine::{Broken, Office};
@@ -30,9 +30,19 @@ pub struct ListedError {
 
 /// Returns the row that stands at a cell.
 fn old_version(cell: CellId) -> VersionId
-    ensures { result ≡ record { cell = cell; fresh = false } }
+    ensures { result ≡ old_version cell }
 {
     VersionId { cell, fresh: false }
+}
+
+/// Returns the row that stands at a second cell, if there is one.
+fn second_version(cell: Option<CellId>) -> Option<VersionId>
+    ensures { result ≡ option_map old_version cell }
+{
+    match cell {
+        Some(cell) => Some(old_version(cell)),
+        None => None,
+    }
 }
 
 /// Returns a need of rows that stand.
@@ -44,7 +54,7 @@ fn need_in_live(need: &Broken) -> Need
         first_part: need.first_part,
         second_part: need.second_part,
     };
-    Need::new(ask, old_version(need.first), need.second.map(old_version))
+    Need::new(ask, old_version(need.first), second_version(need.second))
 }
 
 /// Returns a broken need of LIVE as it is listed, beside needs that are known, which are in order.

@@ -49,5 +49,6 @@ pub fn needs_beside(
 {
     let mut in_order = Vec::from_slice(alloc, needs)?;
     put_in_order(&mut in_order);
-    others_left(alloc, in_order.as_slice(), others)
+    let left = others_left(alloc, in_order.as_slice(), others)?;
+    Ok(left)
 }

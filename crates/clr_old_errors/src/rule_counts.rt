@@ -13,13 +13,7 @@ use std::alloc::{AllocError, Global};
 pub fn count_of_rule(needs: &[Broken], number: u16) -> usize
     ensures { result ≡ count_by (is_of_rule number) needs.now }
 {
-    let mut count = 0usize;
-    for need in needs {
-        if need.rule == number {
-            count = count.saturating_add(1);
-        }
-    }
-    count
+    needs.iter().filter(|need| need.rule == number).count()
 }
 
 /// Adds how many of some needs are of a rule, its number and its sentence, on a line; and nothing where none is of it.

@@ -1,6 +1,6 @@
 //! What is said of a need that is broken already.
 
-ghost use Rattle.std.specs.Prelude.{◌≡◌, ◌++◌, IfOk, OnOk, string_bytes};
+ghost use Rattle.std.specs.Prelude.{◌≡◌, ◌++◌, IfOk, OnOk, option_map, string_bytes};
 ghost use Rattle.clr_plan_sentences.specs.OldErrors.{asked_anew, change_words, changed_rows, is_old, left_words, need_at, old_text, second_change_words};
 ghost use Rattle.clr_merge_sets.specs.MemberChanges.{set_of};
 
@@ -11,19 +11,25 @@ use crate::settings::Setting;
 use clr_needs::{Need, VersionId};
 use clr_old_errors::{errors_of, is_among};
 use clr_phrases::add_names;
-use clr_rows::Words;
+use clr_rows::{CellId, Words};
 use clr_rules::Broken;
 use std::alloc::{AllocError, Global};
+
+/// Returns the cell of a second version, if there is one.
+fn second_cell(version: Option<VersionId>) -> Option<CellId>
+    ensures { result ≡ option_map (λ v. v.cell) version }
+{
+    match version {
+        Some(version) => Some(version.cell),
+        None => None,
+    }
+}
 
 /// Returns a need by the cells of its rows.
 fn need_at(need: &Need) -> Broken
     ensures { result ≡ need_at need.now }
 {
-    Broken::new(
-        need.ask(),
-        need.first.cell,
-        need.second.map(|version| version.cell),
-    )
+    Broken::new(need.ask(), need.first.cell, second_cell(need.second))
 }
 
 /// Returns the words for so many rows that are left.
