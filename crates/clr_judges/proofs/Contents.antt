@@ -28,7 +28,7 @@ pub reached : (current other : Content) (changed : Changes) → changed ≡ chan
 reached current other changed e = ap (taken_over current) e ∙ taken_over-own current other
 
 -- beside no rows, what is broken is newly broken
-newly_is : (book : List Rule) (content : Content) → first_newly_broken book no_rows content ≡ first_broken book content
+pub newly_is : (book : List Rule) (content : Content) → first_newly_broken book no_rows content ≡ first_broken book content
 unfolding first_newly_broken first_broken
 newly_is book content = ap (λ bs. slice_get bs 0) ((all_where_held book no_rows (holds_in_none book)).all content)
 
@@ -47,10 +47,6 @@ pub changes_one : (content : Content) (cell : CellId) (row : Option Row) (change
 changes_one content cell row changed e =
     e ∙ ap (λ set. set_change set cell (row_at content cell) row) (sym (changes-self content)) ∙ set_change_is content content cell row
 
-pub set_one : (content : Content) (cell : CellId) (row : Option Row) (changed : Changes) → changed ≡ set_change no_changes cell (row_at content cell) row
-    → taken_over content changed ≡ set_cell content cell row
-set_one content cell row changed e = reached content (set_cell content cell row) changed (changes_one content cell row changed e)
-
 -- beside the content of a workspace where that is kept, and else beside another
 pub kept_or_kept : (w : Workspace) (other : Content) → w.kept ≡ true → kept_or w other ≡ w.current
 kept_or_kept w other flag = ap (λ b. cond b w.current other) flag
@@ -62,10 +58,6 @@ pub found_beside : {X : Type 0} (r : Result (Result X Broken) AllocError) (book 
     → IfOk r (λ found. result_err found ≡ first_newly_broken book before content) → IfOk r (λ found. result_err found ≡ first_newly_broken book after content)
 found_beside r book before after content e h =
     subst (λ (m : Content). IfOk r (λ found. result_err found ≡ first_newly_broken book m content)) (sym e) h
-
-pub found_alone : {X : Type 0} (r : Result (Result X Broken) AllocError) (book : List Rule) (content : Content)
-    → IfOk r (λ found. result_err found ≡ first_broken book content) → IfOk r (λ found. result_err found ≡ first_newly_broken book no_rows content)
-found_alone r book content h = subst (λ (n : Option Broken). IfOk r (λ found. result_err found ≡ n)) (sym (newly_is book content)) h
 
 -- what is judged where the rules are to hold
 pub judged_kept : (r : Result (Option Broken) AllocError) (kept : Bool) (book : List Rule) (before other content : Content) → kept ≡ true → other ≡ before

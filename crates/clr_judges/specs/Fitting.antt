@@ -3,7 +3,7 @@ use Rattle.std.specs.Prelude.{◌≡◌, List, Option, Some, if◌then◌else◌
 use Rattle.clr_rows.specs.declared.tables.TableDef.{TableDef}
 use Rattle.clr_rows.specs.declared.cells.CellId.{CellId}
 use Rattle.clr_rows.specs.declared.rows.Row.{Row}
-use Rattle.clr_rows.specs.Contents.{Changes, Content, row_at}
+use Rattle.clr_rows.specs.Contents.{Changes, Content, changes, row_at}
 use Rattle.clr_needs.specs.Members.{after_in}
 use Rattle.clr_rows.specs.Schemas.{FitsSchema}
 use Rattle.clr_rules.specs.declared.rules.Rule.{Rule}
@@ -36,6 +36,12 @@ pub record FitBoth (rules : List Rule) (current next : Content) : Type 0 where
   pub book : FitsBook tables rules
   pub before : FitsSchema tables current
   pub after : FitsSchema tables next
+
+-- changes of a content that lead to another one, which fits
+pub record LeadOn (rules : List Rule) (current : Content) (changed : Changes) : Type 0 where
+  pub next : Content
+  pub lead : changed ≡ changes current next
+  pub fit : FitBoth rules current next
 
 -- a tree as offices have it, with its finders
 pub record IsServed (book : List Rule) (ws : List Workspace) (finders : List (Option FiledRows)) : Type 0 where

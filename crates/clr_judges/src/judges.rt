@@ -3,7 +3,7 @@
 ghost use Rattle.std.specs.Prelude.{◌≡◌, ◌<◌, true, not, length, None, Some, IfOk, OnOk, OnErr, MatchOption, if◌then◌else◌};
 ghost use Rattle.std.specs.Option.{option_copied, option_map};
 ghost use Rattle.std.specs.Result.{result_err};
-ghost use Rattle.clr_rows.specs.Contents.{changes, conflicts, least_and_count, no_rows, set_cell, taken_over};
+ghost use Rattle.clr_rows.specs.Contents.{Content, changes, conflicts, least_and_count, no_rows, set_cell, taken_over};
 ghost use Rattle.clr_workspaces.specs.Marks.{is_saved, mark_at, saved_content};
 ghost use Rattle.clr_workspaces.specs.Workspaces.{workspace_at, parent_of as position_of_parent};
 ghost use Rattle.clr_workspaces.specs.Operations.{own_changes, set_kept};
@@ -11,7 +11,7 @@ ghost use Rattle.clr_steps.specs.Refusals.{broken_where, first_newly_broken};
 ghost use Rattle.clr_steps.specs.declared.commands.Reply.TheVariants.{RuleBroken};
 ghost use Rattle.clr_grid.specs.Finders.{AreFinders, IsFinderOf};
 ghost use Rattle.clr_judges.specs.KeptContents.{IsPrepared, kept_contents};
-ghost use Rattle.clr_judges.specs.Fitting.{DoChangeRows, FitBoth, IsServed, kept_or};
+ghost use Rattle.clr_judges.specs.Fitting.{DoChangeRows, FitBoth, IsServed, LeadOn, kept_or};
 
 use clr_change::ChangeSet;
 use clr_foot::Scene;
@@ -179,6 +179,26 @@ impl Judge {
         }
     }
 
+    /// Prepares another content of a workspace, to which changes lead.
+    fn prepare_content(
+        &self,
+        tree: &Tree,
+        finders: &mut Finders,
+        at: usize,
+        changed: &ChangeSet,
+    ) -> Result<Option<Broken>, AllocError>
+        requires within { at < length tree.now.list }
+        requires served { IsServed self.now tree.now.list finders.old }
+        requires lead { LeadOn self.now (workspace_at tree.now.list at).current changed.now }
+        ensures judged { let w = workspace_at tree.now.list at in (next : Content) → changed.now ≡ changes w.current next
+            → IfOk result (λ need. option_map RuleBroken need ≡ broken_where w.kept self.now w.current next) }
+        ensures prepared { (next : Content) → changed.now ≡ changes (workspace_at tree.now.list at).current next
+            → IfOk result (λ need. MatchOption need (IsPrepared self.now tree.now.list at next finders.new) (λ _. finders.new ≡ finders.old)) }
+        ensures err { OnErr result (finders.new ≡ finders.old) }
+    {
+        self.prepare(tree, finders, at, changed)
+    }
+
     /// Prepares the content of a savepoint of a workspace.
     pub fn prepare_savepoint(
         &self,
@@ -202,7 +222,7 @@ impl Judge {
             return Ok(None);
         }
         let changed = tree.changes_to_savepoint(at, mark)?;
-        self.prepare(tree, finders, at, &changed)
+        self.prepare_content(tree, finders, at, &changed)
     }
 
     /// Prepares the base of a workspace.
@@ -225,7 +245,7 @@ impl Judge {
             return Ok(None);
         }
         let changed = tree.changes_to_base(at)?;
-        self.prepare(tree, finders, at, &changed)
+        self.prepare_content(tree, finders, at, &changed)
     }
 
     /// Returns the least need that a kept workspace, once refreshed, breaks, and that the parent, if it is
@@ -317,7 +337,7 @@ impl Judge {
         }
         let mut changed = ChangeSet::new(self.alloc);
         changed.set(cell, tree.read(at, cell), row)?;
-        self.prepare(tree, finders, at, &changed)
+        self.prepare_content(tree, finders, at, &changed)
     }
 
     /// Returns the finder of a workspace, or the least need that it breaks and its parent, if that is kept,

@@ -1,4 +1,7 @@
 pub mod CellsRead
+pub mod KnownRead
+pub mod KnownRules
+pub mod KnownSplit
 pub mod ListsRead
 pub mod ListsWritten
 pub mod OfficesRead

@@ -1,6 +1,6 @@
 //! Needs that are known to be broken, over the schema.
 
-ghost use Rattle.std.specs.Prelude.{◌≡◌, max, min};
+ghost use Rattle.std.specs.Prelude.{◌≡◌, length, max, min};
 ghost use Rattle.clr_readings.specs.Readings.{Gives};
 ghost use Rattle.clr_rule_text.specs.Fields.{each_in, text_lacks_memory};
 ghost use Rattle.clr_rule_text.specs.Known.{greater_table, known_cell as cell_meant, known_need, known_needs as needs_meant};
@@ -113,21 +113,24 @@ fn needs_of_rule(
     read_each(alloc, names, |name| need(schema, number, rule, name))
 }
 
-/// Returns the needs of the rules of a book by the names that each rule has, in the order in which they are written.
+/// Returns the needs of the rules of a book by the names that each rule has, in the order in which they are written. There is
+/// a list of names for each rule.
 /// Fails with the fault of the first name for which `need` fails.
-pub fn known_needs(
+pub(crate) fn known_needs(
     alloc: Global,
     schema: &Schema,
     book: &RuleBook,
     names: &[NeedNames],
 ) -> Result<Vec<Broken>, TextFault>
+    requires { length names.now ≡ length book.now }
     ensures { Gives text_lacks_memory (λ v. v.items) result (needs_meant schema.now 0 book.now names.now) }
 {
     let mut all = Vec::new(alloc);
     let _small = book.len();
-    for (number, (rule, of_rule)) in book.rules().iter().zip(names).enumerate() {
-        let needs = needs_of_rule(alloc, schema, number as u16, rule, of_rule.as_slice())?;
-        all.extend_from_slice(needs.as_slice())?;
+    for (number, of_rule) in names.iter().enumerate() {
+        let rule = book.rule(number as u16);
+        let mut needs = needs_of_rule(alloc, schema, number as u16, rule, of_rule.as_slice())?;
+        all.append(&mut needs)?;
     }
     Ok(all)
 }

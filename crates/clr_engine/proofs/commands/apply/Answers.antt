@@ -11,7 +11,7 @@ use Rattle.clr_judges.specs.Fitting.{FitBoth}
 use Rattle.clr_engine.proofs.Answered.{edits_break, ends}
 use Rattle.clr_judges.proofs.Changed.{changes_change}
 use Rattle.clr_judges.proofs.Contents.{reached}
-use Rattle.clr_judges.proofs.Fits.{fit_edited}
+use Rattle.clr_engine.proofs.Steps.{fit_edited}
 use Rattle.clr_judges.proofs.Kept.{other_content}
 use Rattle.clr_judges.proofs.Prepared.{finished, where_none, within_mid}
 use Rattle.clr_engine.proofs.commands.apply.Goals as goal

@@ -2,7 +2,8 @@ use Rattle.std.proofs.Common.{◌∙◌, ap, sym}
 use Rattle.std.specs.Option.{option_copied}
 use Rattle.clr_rows.specs.Contents.{no_rows}
 use Rattle.clr_workspaces.specs.Workspaces.{workspace_at}
-use Rattle.clr_judges.proofs.Contents.{found_alone, found_beside, kept_or_kept, kept_or_other}
+use Rattle.clr_judges.proofs.Contents.{found_beside, kept_or_kept, kept_or_other}
+use Rattle.clr_judges.proofs.Found.{found_alone}
 use Rattle.clr_judges.proofs.Fits.{fit_current, fit_two}
 use Rattle.clr_judges.proofs.Prepared.{one_is}
 use Rattle.clr_judges.proofs.Scenes.{served_at, unserved}

@@ -4,7 +4,7 @@ use Rattle.clr_workspaces.specs.Workspaces.{workspace_at}
 use Rattle.clr_judges.specs.Fitting.{kept_or}
 use Rattle.clr_judges.proofs.Contents.{judged_kept}
 use Rattle.clr_judges.proofs.Prepared.{within}
-use Rattle.clr_engine.proofs.Served.{after_holding}
+use Rattle.clr_judges.proofs.Found.{after_holding}
 use Rattle.clr_judges.proofs.judges.Judge.prepare_hold.Goals as goal
 
 pub put-requires : goal.put-requires
