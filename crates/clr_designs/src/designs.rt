@@ -1,13 +1,12 @@
 //! A design that has a wanted content, and LIVE with another content.
 
-ghost use Rattle.std.specs.Prelude.{◌≡◌, IfOk, OnErr, OnOk};
+ghost use Rattle.std.specs.Prelude.{◌≡◌, IfOk, OnErr};
 ghost use Rattle.clr_rows.specs.Names.{live_name};
 ghost use Rattle.clr_rows.specs.Schemas.{FitsSchema};
 ghost use Rattle.clr_steps.specs.declared.commands.Command.TheVariants as command;
-ghost use Rattle.clr_designs.specs.Designs.{IsDesignBegun, IsDesignMade, IsLiveReplaced, IsCommandAnswer, with_live};
+ghost use Rattle.clr_designs.specs.Designs.{IsDesignBegun, IsDesignMade, IsLiveReplaced, IsCommandAnswer};
 
-use clr_change::ChangeSet;
-use clr_engine::{Draft, Office};
+use clr_engine::Office;
 use clr_layer_changes::edits_between;
 use clr_rows::{LIVE, Sheet, Words};
 use clr_steps::{Command, Edits, Reply};
@@ -93,14 +92,4 @@ pub fn replace_live(
 {
     let edits = edits_between(alloc, office.live(), content)?;
     apply_edits(alloc, office, LIVE, edits)
-}
-
-/// Puts another content in place of LIVE's in a draft, whatever it breaks. If memory runs out, nothing changes.
-pub fn put_live(alloc: Global, draft: &mut Draft, content: &Sheet) -> Result<(), AllocError>
-    requires { FitsSchema draft.old.schema content.now }
-    ensures ok { OnOk result (draft.new ≡ with_live draft.old content.now) }
-    ensures err { OnErr result (draft.new ≡ draft.old) }
-{
-    let changed = ChangeSet::between(alloc, draft.live(), content)?;
-    draft.change_live(&changed)
 }

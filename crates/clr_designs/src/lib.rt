@@ -3,7 +3,6 @@
 //! - `make_design` creates a workspace under LIVE and makes the edits in it that lead to a content. The office is the same with one more
 //!   workspace, or the workspace can't be created, and nothing changes (`IsDesignMade`).
 //! - `replace_live` makes the edits in LIVE that lead to a content, unless that breaks a rule (`IsLiveReplaced`).
-//! - `put_live` [`ok`, `err`] puts a content in place of LIVE's in a draft, whatever it breaks.
 //! - `designs_are_made`: the law that both commands are done, and what they leave; and that their edits fit the schema, so that the script which is
 //!   written of them is read back.
 //! - `write_design_script` [`written`, `read_back`] writes that script from the design's name, its root and its edits: the exact bytes, memory
@@ -15,6 +14,6 @@ mod designs;
 mod laws;
 mod writing;
 
-pub use designs::{make_design, put_live, replace_live};
+pub use designs::{make_design, replace_live};
 pub use laws::{design_script_is_read_back, designs_are_made};
 pub use writing::write_design_script;

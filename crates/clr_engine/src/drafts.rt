@@ -1,8 +1,6 @@
 //! Drafts of offices, and how they are admitted.
 
-ghost use Rattle.std.specs.Prelude.{◌≡◌, None, option_map, IfOk, IfErr, OnErr, OnOk};
-ghost use Rattle.clr_rows.specs.Contents.{taken_over};
-ghost use Rattle.clr_rows.specs.Schemas.{FitsSchema};
+ghost use Rattle.std.specs.Prelude.{◌≡◌, None, option_map, IfOk, IfErr, OnOk};
 ghost use Rattle.clr_steps.specs.Offices.{office_of};
 ghost use Rattle.clr_steps.specs.Readings.{name_at};
 ghost use Rattle.clr_workspace_parts.specs.Parts.{first_fault, IsFirstPartFault};
@@ -11,7 +9,6 @@ ghost use Rattle.clr_engine.specs.Fitting.{IsFitting};
 ghost use Rattle.clr_engine.specs.Drafts.{IsUnheld, office_of_parts, unheld_in};
 
 use crate::offices::Office;
-use clr_change::ChangeSet;
 use clr_judges::Judge;
 use clr_rows::{Schema, Sheet};
 use clr_rules::{Broken, RuleBook};
@@ -153,17 +150,6 @@ impl Draft {
         ensures { IfOk result (λ found. found ≡ unheld_in self.now known.now) }
     {
         self.judge.unheld(&self.tree, known)
-    }
-
-    /// Takes changes over into LIVE, whatever is broken then. The workspaces stay as they are. If memory
-    /// runs out, nothing changes.
-    /// For example, where LIVE has valve 9, and the changes take it away, the draft's LIVE hasn't it.
-    pub fn change_live(&mut self, changed: &ChangeSet) -> Result<(), AllocError>
-        requires { FitsSchema self.old.schema (taken_over self.old.live changed.now) }
-        ensures ok { OnOk result (self.new ≡ record self.old { live = taken_over self.old.live changed.now }) }
-        ensures err { OnErr result (self.new ≡ self.old) }
-    {
-        self.tree.write_all(0, changed)
     }
 
     /// Returns the office that has all that the draft has, where each need that is broken in LIVE or

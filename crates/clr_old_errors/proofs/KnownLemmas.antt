@@ -32,7 +32,7 @@ module _ (needs : List Broken) (need : Broken) where
       go false e = refl
 
 -- the needs of a list that aren't among others
-abbrev left_of : List Broken → List Broken → List Broken
+abbrev pub left_of : List Broken → List Broken → List Broken
 left_of others needs = filter (λ need. not (is_known others need)) needs
 
 pub rises : (others needs : List Broken) → IsStrictlySortedBy broken_cmp needs → IsStrictlySortedBy broken_cmp (left_of others needs)

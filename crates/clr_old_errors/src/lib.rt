@@ -6,9 +6,9 @@
 #![tactic(auto)]
 
 mod content_errors;
-mod needs_beside;
+mod other_needs;
 mod rule_counts;
 
 pub use content_errors::errors_of;
-pub use needs_beside::{is_among, needs_beside};
+pub use other_needs::{is_among, needs_beside};
 pub use rule_counts::{add_rule_count, add_rule_counts, count_of_rule};

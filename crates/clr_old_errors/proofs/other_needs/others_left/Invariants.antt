@@ -1,7 +1,7 @@
 use Rattle.std.proofs.Common.{◌≡◌, not, take}
 use Rattle.std.specs.Prelude.{filter}
 use Rattle.clr_audit.specs.Unknown.{is_known}
-use Rattle.clr_old_errors.proofs.needs_beside.others_left.Given as goal
+use Rattle.clr_old_errors.proofs.other_needs.others_left.Given as goal
 
 -- those of the needs so far that aren't among the others
 abbrev pub invariant-loop-need : goal.invariant-loop-need
