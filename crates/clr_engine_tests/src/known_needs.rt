@@ -147,7 +147,11 @@ fn steps_beside_old_errors(rt: HostRuntime) {
         panic!(rt; "the office isn't admitted");
     };
     for step in STEPS {
-        assert!(rt; is_answered(rt.alloc(), &mut office, step) == Some(true), "{}", step.0);
+        assert!(rt;
+            is_answered(rt.alloc(), &mut office, step) == Some(true),
+            "{}",
+            step.0
+        );
     }
 }
 
@@ -162,5 +166,9 @@ fn broken_lines(alloc: Global, text: &str) -> Option<Vec<u8>> {
 fn broken_needs_of_a_draft(rt: HostRuntime) {
     let found = broken_lines(rt.alloc(), CODES);
     let lines = "broken 2\nrule 0 code/1 code/2\nrule 0 code/3 code/4\n";
-    assert!(rt; found.is_some_and(|found| found.as_slice() == lines.as_bytes()), "{}", lines);
+    assert!(rt;
+        found.is_some_and(|found| found.as_slice() == lines.as_bytes()),
+        "{}",
+        lines
+    );
 }

@@ -25,9 +25,9 @@ module _ (book : List Rule) (ws : List Workspace) where
   last at b (k, lt, kept, broken) = elim (cases_lt k at) [
     | inl less ↦ inl (k, less, kept, broken)
     | inr more ↦ (let same : k ≡ at = omega (arith, lt, more) in inr (
-        subst (λ (n : ℕ). (workspace_at ws n).kept ≡ true) same kept,
-        subst (λ (n : ℕ). IsBroken book (row_at (workspace_at ws n).current) b) same broken,
-      ))
+      subst (λ (n : ℕ). (workspace_at ws n).kept ≡ true) same kept,
+      subst (λ (n : ℕ). IsBroken book (row_at (workspace_at ws n).current) b) same broken,
+    ))
   ]
 
   wider : (at : ℕ) (b : Broken) → IsBrokenBelow book ws at b → IsBrokenBelow book ws (at + 1) b

@@ -25,11 +25,7 @@ use std::alloc::AllocError;
 // Each function here fails only if memory runs out. Known needs may be in any order, be there twice, or not be broken.
 impl Judge {
     /// Returns the least need that a content breaks and that isn't known.
-    fn first_unknown_in(
-        &self,
-        rows: &Sheet,
-        known: &[Broken],
-    ) -> Result<Option<Broken>, AllocError>
+    fn first_unknown_in(&self, rows: &Sheet, known: &[Broken]) -> Result<Option<Broken>, AllocError>
         requires { FitsContent self.now rows.now }
         ensures { IfOk result (λ need. need ≡ first_unknown self.now known.now rows.now) }
     {
@@ -47,8 +43,9 @@ impl Judge {
         ensures need { IfOk result (λ found. result_err found ≡ first_unknown self.now known.now rows.now) }
         ensures finder { IfOk result (λ found. IfOk found (IsFinderOf self.now rows.now)) }
     {
-        let finder = finder_of(self.allocator(), self.book(), rows)?;
-        if is_seen_to_hold(self.book(), rows, &finder)? {
+        let book = self.book();
+        let finder = finder_of(self.allocator(), book, rows)?;
+        if is_seen_to_hold(book, rows, &finder)? {
             return Ok(Ok(finder));
         }
         match self.first_unknown_in(rows, known)? {

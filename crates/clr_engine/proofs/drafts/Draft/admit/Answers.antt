@@ -27,7 +27,7 @@ of_parts-requires c =
       swept = record { deltas = c.sweep.ensures.deltas; counts = c.sweep.ensures.counts };
       held = λ flag. subst (λ (ws : List Workspace). HoldsWhereKept (office_of inside.schema inside.judge ws)) same
           (holds_of_none_known inside.schema inside.judge c.args.known.now ws c.finders.ensures.sound (sym c.is_empty.ensures ∙ flag)
-              (sym c.in-Ok-Ok.ensures.first ∙ ap result_err c.in-Ok-Ok.field-0-is));
+          (sym c.in-Ok-Ok.ensures.first ∙ ap result_err c.in-Ok-Ok.field-0-is));
     }
 
 pub returns-in-Ok-Ok-clause-office : goal.returns-in-Ok-Ok-clause-office

@@ -6,5 +6,5 @@ use Rattle.clr_judges.proofs.judges.Judge.finder_or_need.Goals as goal
 
 pub returns-then-branch-clause-need : goal.returns-then-branch-clause-need
 returns-then-branch-clause-need c =
-    sym (none_unknown c.args.self.now c.args.known.now c.args.rows.now (subst (λ book. Holds book (row_at c.args.rows.now)) c.book-2.ensures
+    sym (none_unknown c.args.self.now c.args.known.now c.args.rows.now (subst (λ book. Holds book (row_at c.args.rows.now)) c.book-book.ensures
     (c.in_ok-is_seen_to_hold.ensures c.if-branch.true)))

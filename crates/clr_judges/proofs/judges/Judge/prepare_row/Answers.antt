@@ -24,10 +24,10 @@ pub returns-clause-judged : goal.returns-clause-judged
 returns-clause-judged c =
     let w = workspace_at c.args.tree.now.list c.args.at in
     c.prepare_content.ensures.judged (set_cell w.current c.args.cell (option_copied c.args.row)) (changes_one w.current c.args.cell (option_copied c.args.row) c.set.new.self (c.in_ok-set.ensures.ok
-          ∙ (λ i. set_change (c.new-changed.ensures i) c.args.cell (c.read.ensures i) (option_copied c.args.row))))
+    ∙ (λ i. set_change (c.new-changed.ensures i) c.args.cell (c.read.ensures i) (option_copied c.args.row))))
 
 pub returns-clause-prepared : goal.returns-clause-prepared
 returns-clause-prepared c =
     let w = workspace_at c.args.tree.now.list c.args.at in
     c.prepare_content.ensures.prepared (set_cell w.current c.args.cell (option_copied c.args.row)) (changes_one w.current c.args.cell (option_copied c.args.row) c.set.new.self (c.in_ok-set.ensures.ok
-          ∙ (λ i. set_change (c.new-changed.ensures i) c.args.cell (c.read.ensures i) (option_copied c.args.row))))
+    ∙ (λ i. set_change (c.new-changed.ensures i) c.args.cell (c.read.ensures i) (option_copied c.args.row))))
