@@ -4,7 +4,8 @@ ghost use Rattle.std.specs.Prelude.{◌≡◌, ◌++◌, map, string_bytes, IfOk
 ghost use Rattle.std.specs.List.{flat_map};
 ghost use Rattle.std.specs.Option.{option_copied};
 ghost use Rattle.clr_geojson.specs.Collections.{collection_text, line_with_comma};
-ghost use Rattle.clr_desk_errors.specs.ErrorFeatures.{AreErrorFeatures, IsErrorFeaturesAnswer, asked_words, error_feature, error_properties, point_at, second_key, second_table};
+ghost use Rattle.clr_desk_errors.specs.ErrorFeatures.{AreErrorFeatures, IsErrorFeaturesAnswer};
+ghost use Rattle.clr_desk_errors.specs.ErrorFeatures.{asked_words, error_feature, error_properties, point_at, second_key, second_table};
 ghost use Rattle.clr_office_reading.specs.Offices.{known_in};
 ghost use Rattle.clr_office_texts.specs.Drafts.{draft_in};
 ghost use Rattle.clr_desk_errors.specs.Accepting.{IsPrintoutOfDraft};

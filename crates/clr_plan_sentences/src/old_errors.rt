@@ -105,7 +105,7 @@ impl Setting<'_> {
             ≡ old_text self.now.office.now (set_of self.now.members.now) self.now.members.now.changes.items need.now) }
     {
         let changes = self.changed_rows(need)?;
-        if changes.is_empty() || !self.is_old(need)? {
+        if !self.is_old(need)? {
             return Ok(String::new(self.alloc));
         }
         asked_anew(self.alloc, changes.as_slice())
