@@ -22,7 +22,7 @@ use Rattle.clr_check.specs.Answers.{IsCheckAnswer}
 use Rattle.clr_merge_sets.specs.Certificates.{entries_in, merge_set_of}
 use Rattle.clr_merge_sets.specs.MergeSetNames.{merge_set}
 use Rattle.clr_lines.specs.Verdicts.{verdict_text}
-use Rattle.clr_office_texts.specs.Drafts.{draft_in}
+use Rattle.clr_office_texts.specs.Drafts.{opened_in}
 use Rattle.clr_merge_sets.specs.declared.plans.Plan.{Plan}
 use Rattle.clr_merge_sets.specs.declared.plans.Plan.TheVariants as plan
 use Rattle.clr_plan.specs.OnePlan.{AreAlike}
@@ -132,8 +132,8 @@ module _ (o : Office) (c : Certificate) where
 
 same_lines : (o : Office) (text other : List ℕ) → IsInLines o text → IsInLines o other → text ≡ other
 same_lines o text other (in_lines is again) (in_lines is_too again_too) = is ∙ sym is_too
-same_lines o text other (in_lines is again) (in_one_line unread is_too again_too) = absurd (unread (subst (λ t. draft_in t ≡ Ok o) is again))
-same_lines o text other (in_one_line unread is again) (in_lines is_too again_too) = absurd (unread (subst (λ t. draft_in t ≡ Ok o) is_too again_too))
+same_lines o text other (in_lines is again) (in_one_line unread is_too again_too) = absurd (unread (subst (λ t. opened_in t ≡ Ok (o, None)) is again))
+same_lines o text other (in_one_line unread is again) (in_lines is_too again_too) = absurd (unread (subst (λ t. opened_in t ≡ Ok (o, None)) is_too again_too))
 same_lines o text other (in_one_line unread is again) (in_one_line unread_too is_too again_too) = is ∙ sym is_too
 
 pub one_format_print : (o : Office) → IsOnePrint (IsFormatPrint o)

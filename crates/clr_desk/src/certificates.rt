@@ -1,7 +1,7 @@
 //! Certificates alone.
 ghost use Rattle.std.specs.Prelude.{◌≡◌, ◌∷◌, false, map, IfOk};
 ghost use Rattle.clr_merge_sets.specs.MergeSetNames.{merge_set};
-ghost use Rattle.clr_office_texts.specs.Drafts.{draft_in};
+ghost use Rattle.clr_office_texts.specs.Drafts.{opened_in};
 ghost use Rattle.clr_merge_sets.specs.Plans.{is_cleared as is_cleared_plan};
 ghost use Rattle.clr_desk.specs.Certificates.{IsCertificatePrint, IsPlanPrint, plan_print};
 ghost use Rattle.clr_desk_prints.specs.NameHints.{IsHinted};
@@ -84,7 +84,7 @@ pub fn answer_certificate(
     root: &str,
     names: &[Words],
 ) -> Result<Print, RunFault>
-    ensures { IsMadePrintout (IsPrintoutIn (IsHinted (IsCertificatePrint root.now names.now) (root.now ∷ names.now)) (draft_in office.now)) result }
+    ensures { IsMadePrintout (IsPrintoutIn (IsHinted (IsCertificatePrint root.now names.now) (root.now ∷ names.now)) (opened_in office.now)) result }
 {
     match open_office(alloc, office) {
         Ok(office) => {

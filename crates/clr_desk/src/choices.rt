@@ -2,7 +2,7 @@
 ghost use Rattle.std.specs.Prelude.{◌≡◌, ◌∷◌, ◌++◌, [], codes, false, map, IfOk};
 ghost use Rattle.clr_cert.specs.Texts.{certificate_text};
 ghost use Rattle.clr_merge_sets.specs.MergeSetNames.{merge_set};
-ghost use Rattle.clr_office_texts.specs.Drafts.{draft_in};
+ghost use Rattle.clr_office_texts.specs.Drafts.{opened_in};
 ghost use Rattle.clr_merge_sets.specs.declared.plans.Plan.TheVariants as plan;
 ghost use Rattle.clr_choices.specs.Clearable.{IsPlanOf};
 ghost use Rattle.clr_desk.specs.Choices.{IsChoicePrint, names_line};
@@ -74,7 +74,7 @@ pub fn answer_keep(
     root: &str,
     names: &[Words],
 ) -> Result<Print, RunFault>
-    ensures { IsMadePrintout (IsPrintoutIn (IsHinted (IsChoicePrint root.now names.now) (root.now ∷ names.now)) (draft_in office.now)) result }
+    ensures { IsMadePrintout (IsPrintoutIn (IsHinted (IsChoicePrint root.now names.now) (root.now ∷ names.now)) (opened_in office.now)) result }
 {
     match open_office(alloc, office) {
         Ok(office) => {

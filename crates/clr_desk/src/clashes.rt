@@ -1,7 +1,7 @@
 //! The smallest sets of members that can't be merged together.
 ghost use Rattle.std.specs.Prelude.{◌≡◌, ◌∷◌, map, IfOk};
 ghost use Rattle.clr_merge_sets.specs.MergeSetNames.{merge_set};
-ghost use Rattle.clr_office_texts.specs.Drafts.{draft_in};
+ghost use Rattle.clr_office_texts.specs.Drafts.{opened_in};
 ghost use Rattle.clr_merge_clashes.specs.MergeClashes.{IsFaultOfNames};
 ghost use Rattle.clr_desk.specs.Clashes.{IsClashesPrint, IsMergeSetPrint, found_print};
 ghost use Rattle.clr_desk_prints.specs.NameHints.{IsHinted};
@@ -84,7 +84,7 @@ pub fn answer_clashes(
     root: &str,
     names: &[Words],
 ) -> Result<Print, RunFault>
-    ensures { IsMadePrintout (IsPrintoutIn (IsHinted (IsClashesPrint root.now names.now) (root.now ∷ names.now)) (draft_in office.now)) result }
+    ensures { IsMadePrintout (IsPrintoutIn (IsHinted (IsClashesPrint root.now names.now) (root.now ∷ names.now)) (opened_in office.now)) result }
 {
     match open_office(alloc, office) {
         Ok(office) => {

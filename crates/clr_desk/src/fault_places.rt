@@ -55,7 +55,7 @@ fn certificate_place(
     ensures { IfOk result (λ line. IsCertificatePlaceOver certificate.now file.now line.items (draft_in office.now)) }
 {
     match read_office(alloc, office) {
-        Ok(draft) => place_over_schema(alloc, draft.schema(), file, certificate),
+        Ok(read) => place_over_schema(alloc, read.draft.schema(), file, certificate),
         Err(TextFault::OutOfMemory) => Err(AllocError),
         Err(_) => Ok(Vec::new(alloc)),
     }

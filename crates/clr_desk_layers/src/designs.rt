@@ -1,6 +1,6 @@
 //! Offices and designs that are made of layers, for the office of a text.
 
-ghost use Rattle.clr_office_texts.specs.Drafts.{draft_in};
+ghost use Rattle.clr_office_texts.specs.Drafts.{draft_in, opened_in};
 ghost use Rattle.clr_desk_prints.specs.Printing.{IsMadePrintout, IsPrintoutIn};
 ghost use Rattle.clr_desk_layers.specs.Designs.{IsAcceptedOfficePrint, IsDesignPrint, IsDesignScriptPrint, IsOfficePrint};
 ghost use Rattle.clr_desk_errors.specs.Accepting.{IsPrintoutOfDraft};
@@ -23,7 +23,7 @@ pub fn answer_design(
     options: LayerOptions,
     layers: &[GivenLayer],
 ) -> Result<Print, RunFault>
-    ensures { IsMadePrintout (IsPrintoutIn (IsDesignPrint name.now options layers.now) (draft_in office.now)) result }
+    ensures { IsMadePrintout (IsPrintoutIn (IsDesignPrint name.now options layers.now) (opened_in office.now)) result }
 {
     match open_office(alloc, office) {
         Ok(mut office) => Ok(design_print(alloc, &mut office, name, options, layers)?),
@@ -40,7 +40,7 @@ pub fn answer_design_script(
     options: LayerOptions,
     layers: &[GivenLayer],
 ) -> Result<Print, RunFault>
-    ensures { IsMadePrintout (IsPrintoutIn (IsDesignScriptPrint name.now options layers.now) (draft_in office.now)) result }
+    ensures { IsMadePrintout (IsPrintoutIn (IsDesignScriptPrint name.now options layers.now) (opened_in office.now)) result }
 {
     match open_office(alloc, office) {
         Ok(mut office) => Ok(script_print(alloc, &mut office, name, options, layers)?),
@@ -56,7 +56,7 @@ pub fn answer_office(
     options: LayerOptions,
     layers: &[GivenLayer],
 ) -> Result<Print, RunFault>
-    ensures { IsMadePrintout (IsPrintoutIn (IsOfficePrint options layers.now) (draft_in office.now)) result }
+    ensures { IsMadePrintout (IsPrintoutIn (IsOfficePrint options layers.now) (opened_in office.now)) result }
 {
     match open_office(alloc, office) {
         Ok(mut office) => Ok(office_print(alloc, &mut office, options, layers)?),

@@ -1,7 +1,7 @@
 //! Tables as layers.
 ghost use Rattle.std.specs.Prelude.{◌∷◌, [], IfOk};
 ghost use Rattle.clr_rows.specs.Schemas.{FitsSchema};
-ghost use Rattle.clr_office_texts.specs.Drafts.{draft_in};
+ghost use Rattle.clr_office_texts.specs.Drafts.{opened_in};
 ghost use Rattle.clr_desk_layers.specs.Layers.{IsLayerPrint, IsPrintOfTable};
 ghost use Rattle.clr_desk_prints.specs.NameHints.{IsHinted};
 ghost use Rattle.clr_desk_prints.specs.Printing.{IsMadePrintout, IsPrintoutIn, printed};
@@ -61,7 +61,7 @@ pub fn answer_layer(
     table: &str,
     workspace: &str,
 ) -> Result<Print, RunFault>
-    ensures { IsMadePrintout (IsPrintoutIn (IsHinted (IsLayerPrint table.now workspace.now) (workspace.now ∷ [])) (draft_in office.now)) result }
+    ensures { IsMadePrintout (IsPrintoutIn (IsHinted (IsLayerPrint table.now workspace.now) (workspace.now ∷ [])) (opened_in office.now)) result }
 {
     match open_office(alloc, office) {
         Ok(office) => {

@@ -1,11 +1,11 @@
 -- What is printed of the features of a plan.
-use Rattle.std.specs.Prelude.{◌≡◌, ℕ, List, ◌∷◌, Option, Result}
+use Rattle.std.specs.Prelude.{◌≡◌, ℕ, List, ◌∷◌, Option}
 use Rattle.clr_workspaces.specs.Marks.{Name}
 use Rattle.clr_steps.specs.Offices.{Office}
 use Rattle.clr_steps.specs.Quiet.{MergeSet}
 use Rattle.clr_merge_sets.specs.declared.plans.Plan.{Plan}
 use Rattle.clr_plan_features.specs.PlanFeatures.{AreFeatures}
-use Rattle.clr_rule_text.specs.declared.faults.TextFault.{TextFault}
+use Rattle.clr_office_texts.specs.Drafts.{Opened}
 use Rattle.clr_desk_prints.specs.Members.{set_asked}
 use Rattle.clr_desk_prints.specs.NameHints.{IsHinted}
 use Rattle.clr_desk_prints.specs.Printing.{IsFoundPlan, IsPrintoutIn, PrintoutOrFault, plan_text_print}
@@ -25,5 +25,5 @@ abbrev pub AreHintedFeatures : Name → List Name → Option ℕ → Office → 
 AreHintedFeatures root names system = IsHinted (IsFeaturesPrint root names system) (root ∷ names)
 
 -- what is printed of an office text and the text of a system, if one is given
-abbrev pub IsFeaturesAnswer : Name → List Name → Option (List ℕ) → Result Office TextFault → PrintoutOrFault → Type 0
+abbrev pub IsFeaturesAnswer : Name → List Name → Option (List ℕ) → Opened → PrintoutOrFault → Type 0
 IsFeaturesAnswer root names system given = IsInSystem (λ code. IsPrintoutIn (AreHintedFeatures root names code) given) system

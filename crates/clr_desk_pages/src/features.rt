@@ -3,7 +3,7 @@
 ghost use Rattle.std.specs.Prelude.{map, IfOk};
 ghost use Rattle.std.specs.Option.{option_copied};
 ghost use Rattle.clr_merge_sets.specs.MergeSetNames.{merge_set};
-ghost use Rattle.clr_office_texts.specs.Drafts.{draft_in};
+ghost use Rattle.clr_office_texts.specs.Drafts.{opened_in};
 ghost use Rattle.clr_desk_pages.specs.Features.{AreFeaturesOfSet, AreHintedFeatures, IsFeaturesAnswer, IsFeaturesPrint};
 ghost use Rattle.clr_desk_prints.specs.Printing.{IsMadePrintout, IsPrintoutIn, printed};
 
@@ -57,7 +57,7 @@ fn answer_in(
     names: &[Words],
     system: Option<u32>,
 ) -> Result<Print, RunFault>
-    ensures { IsMadePrintout (IsPrintoutIn (AreHintedFeatures root.now names.now system) (draft_in office.now)) result }
+    ensures { IsMadePrintout (IsPrintoutIn (AreHintedFeatures root.now names.now system) (opened_in office.now)) result }
 {
     match open_office(alloc, office) {
         Ok(office) => {
@@ -80,7 +80,7 @@ pub fn answer_geojson(
     names: &[Words],
     system: Option<&Words>,
 ) -> Result<Print, RunFault>
-    ensures { IsMadePrintout (IsFeaturesAnswer root.now names.now (option_copied system.entry) (draft_in office.now)) result }
+    ensures { IsMadePrintout (IsFeaturesAnswer root.now names.now (option_copied system.entry) (opened_in office.now)) result }
 {
     let Some(text) = system else {
         return answer_in(alloc, office, root, names, None);

@@ -1,7 +1,7 @@
 //! The maps of plans.
 ghost use Rattle.std.specs.Prelude.{◌∷◌, map, IfOk};
 ghost use Rattle.clr_merge_sets.specs.MergeSetNames.{merge_set};
-ghost use Rattle.clr_office_texts.specs.Drafts.{draft_in};
+ghost use Rattle.clr_office_texts.specs.Drafts.{opened_in};
 ghost use Rattle.clr_desk_pages.specs.Maps.{IsMapOfSet, IsMapPrint};
 ghost use Rattle.clr_desk_prints.specs.NameHints.{IsHinted};
 ghost use Rattle.clr_desk_prints.specs.Printing.{IsMadePrintout, IsPrintoutIn, printed};
@@ -53,7 +53,7 @@ pub fn answer_map(
     root: &str,
     names: &[Words],
 ) -> Result<Print, RunFault>
-    ensures { IsMadePrintout (IsPrintoutIn (IsHinted (IsMapPrint root.now names.now) (root.now ∷ names.now)) (draft_in office.now)) result }
+    ensures { IsMadePrintout (IsPrintoutIn (IsHinted (IsMapPrint root.now names.now) (root.now ∷ names.now)) (opened_in office.now)) result }
 {
     match open_office(alloc, office) {
         Ok(office) => {

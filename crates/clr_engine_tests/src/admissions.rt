@@ -78,7 +78,7 @@ const DRAFTS: [(&str, &str, &str); 5] = [
 /// Returns what is said of the draft of a text.
 fn lines_over(alloc: Global, live: &str, workspaces: &str) -> Option<Vec<u8>> {
     let text = text(alloc, live, workspaces).ok()?;
-    fault_lines(alloc, read_office(alloc, text.as_bytes()).ok()?)
+    fault_lines(alloc, read_office(alloc, text.as_bytes()).ok()?.draft)
 }
 
 /// Returns whether this is said of the draft of a text.

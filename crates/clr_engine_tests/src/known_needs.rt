@@ -108,7 +108,7 @@ fn line_of_admission(alloc: Global, draft: Draft, known: &[Broken]) -> Option<Ve
 /// Returns whether this is the line of what is broken beside known needs, and for which a draft isn't admitted.
 fn is_line(alloc: Global, pairs: &[(i64, i64)], line: &str) -> Option<bool> {
     let known = needs_of(alloc, pairs)?;
-    let draft = read_office(alloc, CODES.as_bytes()).ok()?;
+    let draft = read_office(alloc, CODES.as_bytes()).ok()?.draft;
     let unheld = draft.unheld(known.as_slice()).ok()?;
     let told = line_of(alloc, &draft, unheld)?;
     let refused = line_of_admission(alloc, draft, known.as_slice())?;
@@ -125,7 +125,7 @@ fn drafts_beside_known_needs(rt: HostRuntime) {
 /// Returns the office of the codes, whose broken needs are known.
 fn office(alloc: Global) -> Option<Office> {
     let known = needs_of(alloc, &[(1, 2), (3, 4)])?;
-    let draft = read_office(alloc, CODES.as_bytes()).ok()?;
+    let draft = read_office(alloc, CODES.as_bytes()).ok()?.draft;
     draft.admit(known.as_slice()).ok()
 }
 
@@ -157,7 +157,7 @@ fn steps_beside_old_errors(rt: HostRuntime) {
 
 /// Returns the lines of the broken needs of a draft.
 fn broken_lines(alloc: Global, text: &str) -> Option<Vec<u8>> {
-    let draft = read_office(alloc, text.as_bytes()).ok()?;
+    let draft = read_office(alloc, text.as_bytes()).ok()?.draft;
     let needs = draft.broken_needs().ok()?;
     audit_lines(alloc, draft.schema(), needs.as_slice()).ok()
 }

@@ -62,7 +62,7 @@ fn is_admitted(alloc: Global, hoard: &mut Hoard, draft: Draft) -> Option<bool> {
 
 /// Returns whether a draft is admitted with a budget of bytes, or again with enough; none where its office has something else.
 fn is_admitted_within(alloc: Global, hoard: &mut Hoard, budget: usize) -> Option<bool> {
-    let draft = read_office(alloc, DRAFT.as_bytes()).ok()?;
+    let draft = read_office(alloc, DRAFT.as_bytes()).ok()?.draft;
     match hoard.leave(budget) {
         Ok(()) => is_admitted(alloc, hoard, draft),
         Err(_) => None,

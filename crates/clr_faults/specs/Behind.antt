@@ -22,7 +22,7 @@ pub record BehindTables (d : Data) (e : TextFault) (format : Format) (tables : L
 
 pub record BehindRules (d : Data) (e : TextFault) (format : Format) (tables : List TableDef) : Type 0 where
   pub before : BehindTables d e format tables
-  pub read : IsOk (rules_of tables d)
+  pub read : IsOk (rules_of format tables d)
   pub none : HasNone (rule_faults d) e
 
 pub record BehindLive (d : Data) (e : TextFault) (format : Format) (tables : List TableDef) : Type 0 where

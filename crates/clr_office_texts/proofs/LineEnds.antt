@@ -18,9 +18,7 @@ use Rattle.json.specs.Lex.{punctuate, fresh, quote, space, string_token, token}
 use Rattle.json.specs.Json as json
 use Rattle.json.proofs.Printed.Utf8.{IsUtf8-are_ascii}
 use Rattle.serde_json.specs.Read.{max_depth, of_json, read}
-use Rattle.clr_rules.specs.declared.needs.Broken.{Broken}
 use Rattle.clr_steps.specs.Offices.{Office}
-use Rattle.clr_engine.specs.Drafts.{unheld_in}
 use Rattle.clr_readings.specs.Readings.{◌>>=◌}
 use Rattle.clr_office_reading.specs.Offices.{OfficeText, known_if_read, known_in, office_if_read, office_in}
 use Rattle.clr_rule_text.specs.declared.faults.TextFault.{TextFault}
@@ -224,26 +222,28 @@ no_office : (t : List ℕ) → is_utf8 t ≡ false → office_in t ≡ Err NotJs
 unfolding office_in
 no_office t h = rw h refl
 
-pub text-ended : (t : List ℕ) (o : Office) → draft_in t ≡ Ok o → office_in (ended t) ≡ office_in t
+pub draft-ended : (t : List ℕ) (o : Office) → draft_in t ≡ Ok o → draft_in (ended t) ≡ Ok o
 unfolding draft_in
-text-ended t o is = by (is_utf8 t) refl
+draft-ended t o is = by (is_utf8 t) refl
   where
     standing : Result OfficeText TextFault → Result Office TextFault
     standing read = read >>= λ text. if_standing (whole_office text)
 
-    by : (b : Bool) → is_utf8 t ≡ b → office_in (ended t) ≡ office_in t
-    by true e = office-ended t e
-    by false e = let never : ◌≡◌ {A = Result Office TextFault} (Err NotJson) (Ok o) = sym (ap standing (no_office t e)) ∙ is in absurd (cc)
-
-pub draft-ended : (t : List ℕ) (o : Office) → draft_in t ≡ Ok o → draft_in (ended t) ≡ Ok o
-unfolding draft_in
-draft-ended t o is = ap (λ (read : Result OfficeText TextFault). read >>= λ text. if_standing (whole_office text)) (text-ended t o is) ∙ is
+    by : (b : Bool) → is_utf8 t ≡ b → draft_in (ended t) ≡ Ok o
+    by true e = ap standing (office-ended t e) ∙ is
+    by false e = let never : ◌≡◌ {A = Result Office TextFault} (Err NotJson) (Ok o) = sym (ap standing (no_office t e)) ∙ is in cc
 
 pub known-ended : (t : List ℕ) (o : Office) → draft_in t ≡ Ok o → known_in (ended t) ≡ known_in t
-unfolding known_in
-known-ended t o is = ap known_if_read (text-ended t o is)
+unfolding draft_in known_in
+known-ended t o is = by (is_utf8 t) refl
+  where
+    standing : Result OfficeText TextFault → Result Office TextFault
+    standing read = read >>= λ text. if_standing (whole_office text)
+
+    by : (b : Bool) → is_utf8 t ≡ b → known_if_read (office_in (ended t)) ≡ known_if_read (office_in t)
+    by true e = ap known_if_read (office-ended t e)
+    by false e = absurd (let never : ◌≡◌ {A = Result Office TextFault} (Err NotJson) (Ok o) = sym (ap standing (no_office t e)) ∙ is in cc)
 
 pub opened-ended : (t : List ℕ) (o : Office) → draft_in t ≡ Ok o → opened_in (ended t) ≡ opened_in t
 unfolding opened_in
-opened-ended t o is =
-    ap₂ (λ (draft : Result Office TextFault) (known : List Broken). draft >>= λ p. Ok (p, unheld_in p known)) (draft-ended t o is ∙ sym is) (known-ended t o is)
+opened-ended t o is = rw (draft-ended t o is, is, known-ended t o is) refl

@@ -30,6 +30,10 @@ whole_office read = record { schema = read.schema; book = read.book; live = read
 unfoldable pub draft_in : List ℕ → Result Office TextFault
 draft_in bytes = office_in bytes >>= λ read. if_standing (whole_office read)
 
+-- an office, beside the first content that breaks a need which isn't known and the least such need; or the fault of a text
+abbrev pub Opened : Type 0
+Opened = Result (Office × Option (ℕ × Broken)) TextFault
+
 -- the draft of a text, and the first content that breaks a need which the text doesn't name as known, with that need: where there is none, it is an office
-unfoldable pub opened_in : List ℕ → Result (Office × Option (ℕ × Broken)) TextFault
+unfoldable pub opened_in : List ℕ → Opened
 opened_in bytes = draft_in bytes >>= λ o. Ok (o, unheld_in o (known_in bytes))

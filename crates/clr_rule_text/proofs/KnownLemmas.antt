@@ -1,13 +1,13 @@
 -- The known needs of rules, read rule by rule: those read before, and then the others.
-use Rattle.std.proofs.Common.{◌≡◌, ℕ, zero, suc, ◌+◌, ◌<◌, List, [], ◌∷◌, ◌++◌, length, map, drop, Some, None, Result, Ok, Err, refl, sym, ap, ◌∙◌, add-one, append_assoc, arith}
+use Rattle.std.proofs.Common.{◌≡◌, ℕ, zero, suc, ◌+◌, List, [], ◌∷◌, ◌++◌, length, drop, Some, Result, Ok, Err, refl, sym, ap, ◌∙◌, add-one, append_assoc}
 use Rattle.std.specs.Prelude.{slice_get}
 use Rattle.std.proofs.lemmas.List.{append-nil}
 use Rattle.std.proofs.lemmas.Option.{none-some, same_Some}
 use Rattle.clr_rows.specs.declared.tables.TableDef.{TableDef}
 use Rattle.clr_rules.specs.declared.needs.Broken.{Broken}
 use Rattle.clr_rules.specs.declared.rules.Rule.{Rule}
-use Rattle.clr_readings.specs.Readings.{◌>>=◌, Fails}
-use Rattle.clr_readings.proofs.FaultTurns.{fails_with}
+use Rattle.clr_readings.specs.Readings.{◌>>=◌, Fails, Gives}
+use Rattle.clr_readings.proofs.FaultTurns.{fails_with, same_fault}
 use Rattle.clr_readings.proofs.Fronts.{with_front}
 use Rattle.clr_rule_text.specs.declared.faults.TextFault.{TextFault}
 use Rattle.clr_rule_text.specs.declared.need_names.NeedName.{NeedName}
@@ -66,3 +66,8 @@ each_in_length {X} {A} f (x ∷ xs) ys e = by (f x) (each_in f xs) (λ zs h. eac
     by (Ok y) (Ok zs) shorter h = let same : y ∷ zs ≡ ys = cc in ap length (sym same) ∙ ap suc (shorter zs refl)
     by (Ok y) (Err fault) shorter h = absurd cc
     by (Err fault) others shorter h = absurd cc
+
+-- what is answered is just what is read
+pub given_exactly : {A : Type 0} (result read : Result A TextFault) → result ≡ read → Gives text_lacks_memory (λ x. x) result read
+given_exactly (Ok x) read is = sym is
+given_exactly (Err e) read is = same_fault text_lacks_memory e read (sym is)

@@ -4,7 +4,7 @@ ghost use Rattle.std.specs.Prelude.{◌≡◌, length, max, min};
 ghost use Rattle.clr_readings.specs.Readings.{Gives};
 ghost use Rattle.clr_rule_text.specs.Fields.{each_in, text_lacks_memory};
 ghost use Rattle.clr_rule_text.specs.Known.{greater_table, known_cell as cell_meant, known_need, known_needs as needs_meant};
-ghost use Rattle.clr_rule_text.specs.Known.{known_part, lesser_table, second_cell as second_meant};
+ghost use Rattle.clr_rule_text.specs.Known.{known_part as part_meant, lesser_table, second_cell as second_meant};
 
 use crate::faults::TextFault;
 use crate::lists::read_each;
@@ -24,8 +24,8 @@ fn tables_of_two(a: &Side, b: &Side) -> (u16, u16)
     (a.table.min(b.table), a.table.max(b.table))
 }
 
-/// Returns the tables of the lesser and of the greater cell of a rule's subjects.
-fn tables_of(rule: &Rule) -> (u16, u16)
+/// Returns the tables of the lesser and of the greater cell of a rule's subjects, one table twice where its sides are of one.
+pub fn subject_tables(rule: &Rule) -> (u16, u16)
     ensures lesser { result.0 ≡ lesser_table rule.now }
     ensures greater { result.1 ≡ greater_table rule.now }
 {
@@ -37,8 +37,10 @@ fn tables_of(rule: &Rule) -> (u16, u16)
     }
 }
 
-fn known_cell(schema: &Schema, table: u16, key: i64) -> Result<CellId, TextFault>
-    ensures { Gives text_lacks_memory (λ c. c) result (cell_meant schema.now table key) }
+/// Returns the cell of a key in a table. Fails with `BadRule` where no row could stand there: the key isn't 1 to
+/// 999,999,999,999,999.
+pub fn known_cell(schema: &Schema, table: u16, key: i64) -> Result<CellId, TextFault>
+    ensures { result ≡ cell_meant schema.now table key }
 {
     let cell = CellId { table, key };
     match schema.names_cell(cell) {
@@ -53,7 +55,7 @@ fn second_cell(
     table: u16,
     key: Option<i64>,
 ) -> Result<Option<CellId>, TextFault>
-    ensures { Gives text_lacks_memory (λ c. c) result (second_meant schema.now first table key) }
+    ensures { result ≡ second_meant schema.now first table key }
 {
     let Some(key) = key else {
         return Ok(None);
@@ -66,8 +68,9 @@ fn second_cell(
     }
 }
 
-fn part(number: i64) -> Result<u16, TextFault>
-    ensures { Gives text_lacks_memory (λ n. n) result (known_part number) }
+/// Returns the number of a part. Fails with `BadRule` where it isn't 1 to 31, so that no path has it.
+pub fn known_part(number: i64) -> Result<u16, TextFault>
+    ensures { result ≡ part_meant number }
 {
     if number >= 1 && number < MOST_VERTICES as i64 {
         Ok(number as u16)
@@ -85,13 +88,13 @@ pub fn need(
     rule: &Rule,
     name: &NeedName,
 ) -> Result<Broken, TextFault>
-    ensures { Gives text_lacks_memory (λ b. b) result (known_need schema.now number rule.now name.now) }
+    ensures { result ≡ known_need schema.now number rule.now name.now }
 {
-    let tables = tables_of(rule);
+    let tables = subject_tables(rule);
     let first = known_cell(schema, tables.0, name.first)?;
     let second = second_cell(schema, first, tables.1, name.second)?;
-    let first_part = part(name.first_part)?;
-    let second_part = part(name.second_part)?;
+    let first_part = known_part(name.first_part)?;
+    let second_part = known_part(name.second_part)?;
     Ok(Broken {
         rule: number,
         first,
@@ -99,6 +102,19 @@ pub fn need(
         first_part,
         second_part,
     })
+}
+
+/// Returns the need of a rule that a name is, or its fault.
+#[tactic(auto, using(crate::proofs::KnownLemmas::given_exactly))]
+fn need_or_fault(
+    schema: &Schema,
+    number: u16,
+    rule: &Rule,
+    name: &NeedName,
+) -> Result<Broken, TextFault>
+    ensures { Gives text_lacks_memory (λ b. b) result (known_need schema.now number rule.now name.now) }
+{
+    need(schema, number, rule, name)
 }
 
 fn needs_of_rule(
@@ -110,7 +126,9 @@ fn needs_of_rule(
 ) -> Result<Vec<Broken>, TextFault>
     ensures { Gives text_lacks_memory (λ v. v.items) result (each_in (known_need schema.now number rule.now) names.now) }
 {
-    read_each(alloc, names, |name| need(schema, number, rule, name))
+    read_each(alloc, names, |name| {
+        need_or_fault(schema, number, rule, name)
+    })
 }
 
 /// Returns the needs of the rules of a book by the names that each rule has, in the order in which they are written. There is

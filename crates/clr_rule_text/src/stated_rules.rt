@@ -53,7 +53,7 @@ pub fn stated_rules<J: JsonValue>(
 }
 
 /// Returns the rules of a list, and the names of each one's known needs.
-pub(crate) fn parted(
+pub fn parted(
     alloc: Global,
     stated: Vec<StatedRule>,
 ) -> Result<(Vec<NamedRule>, Vec<NeedNames>), AllocError>

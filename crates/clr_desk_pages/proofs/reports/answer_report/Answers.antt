@@ -1,5 +1,5 @@
 use Rattle.std.proofs.Common.{◌≡◌, ◌∷◌, subst}
-use Rattle.clr_office_texts.specs.Drafts.{draft_in}
+use Rattle.clr_office_texts.specs.Drafts.{opened_in}
 use Rattle.clr_desk_prints.specs.NameHints.{IsHinted, with_lines}
 use Rattle.clr_desk_pages.specs.Reports.{IsReportPrint}
 use Rattle.clr_desk_prints.specs.Printing.{of_office, printed}
@@ -10,7 +10,7 @@ pub returns-in_ok-with_notes-in-Ok : goal.returns-in_ok-with_notes-in-Ok
 returns-in_ok-with_notes-in-Ok c =
     let lines = c.in_ok-lines-in-Ok.lines.items in
     let bare = printed c.in_ok-print-in-Ok.print in
-    of_office c.in-Ok.office c.in-Ok.ensures.meant c.in-Ok.ensures.held (
+    of_office c.in-Ok.office c.in-Ok.ensures.meant (
       bare,
       c.in_ok-print-in-Ok.ensures,
       (
@@ -24,5 +24,5 @@ pub returns-in-Err : goal.returns-in-Err
 returns-in-Err c =
     let root = c.args.root.now in
     let names = c.args.names.now in
-    office_fault (IsHinted (IsReportPrint root names) (root ∷ names)) (draft_in c.args.office.now) c.in-Err.answer c.notes_of.result
+    office_fault (IsHinted (IsReportPrint root names) (root ∷ names)) (opened_in c.args.office.now) c.in-Err.answer c.notes_of.result
     c.in-Err.ensures.answer c.notes_of.ensures

@@ -1,4 +1,4 @@
-use Rattle.std.proofs.Common.{◌+◌, drop, is_ok}
+use Rattle.std.proofs.Common.{◌+◌, drop}
 use Rattle.std.proofs.lemmas.List.{drop_all}
 use Rattle.std.proofs.lemmas.Result.{err_from_is_err_and}
 use Rattle.clr_rule_text.specs.Known.{known_needs}

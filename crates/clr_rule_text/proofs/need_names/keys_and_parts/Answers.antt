@@ -1,4 +1,4 @@
-use Rattle.std.proofs.Common.{◌≡◌, List, [], ◌∷◌, length, refl, sym, subst, arith}
+use Rattle.std.proofs.Common.{◌≡◌, List, [], ◌∷◌, length, refl, subst, arith}
 use Rattle.serde_json.specs.Data.{Data}
 use Rattle.clr_readings.specs.Readings.{Gives}
 use Rattle.clr_rule_text.specs.Fields.{text_lacks_memory}

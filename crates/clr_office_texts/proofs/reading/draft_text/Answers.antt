@@ -6,10 +6,10 @@ use Rattle.clr_office_reading.specs.Offices.{office_read}
 use Rattle.clr_office_texts.specs.Drafts.{whole_office}
 use Rattle.clr_office_texts.proofs.Standing.{too_many}
 use Rattle.clr_office_texts.proofs.WholeFits.{all_fit}
-use Rattle.clr_office_texts.proofs.reading.draft_of.Goals as goal
+use Rattle.clr_office_texts.proofs.reading.draft_text.Goals as goal
 
-pub returns-then-len-ge-MOST_WORKSPACES : goal.returns-then-len-ge-MOST_WORKSPACES
-returns-then-len-ge-MOST_WORKSPACES c =
+pub returns-then-len-ge-MOST_WORKSPACES-clause-draft : goal.returns-then-len-ge-MOST_WORKSPACES
+returns-then-len-ge-MOST_WORKSPACES-clause-draft c =
     let deltas = map stored_delta c.args.read.workspaces.items in
     let count = length-map c.args.read.workspaces.items stored_delta in
     let many : MOST_WORKSPACES ≤ length deltas = omega (arith, count, c.len.ensures, c.if-len-ge-MOST_WORKSPACES.true) in
