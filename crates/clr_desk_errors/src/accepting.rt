@@ -16,6 +16,7 @@ use clr_old_errors::add_rule_counts;
 use std::alloc::{AllocError, Global};
 
 /// An office, and the needs that its text names as known.
+#[derive(Drop)]
 pub(crate) struct KnownOffice {
     pub office: Office,
     pub known: KnownNeeds,
@@ -49,6 +50,7 @@ pub(crate) fn open_known(alloc: Global, text: &[u8]) -> Result<KnownOffice, RunF
 fn accepted_office(alloc: Global, office: &Office) -> Result<Vec<u8>, AllocError>
     ensures { IfOk result (λ text. IsAccepted office.now text.items) }
 {
+    let _standing = office.len();
     let mut text = write_office(alloc, office)?;
     text.push(b'\n')?;
     Ok(text)
@@ -58,6 +60,7 @@ fn accepted_office(alloc: Global, office: &Office) -> Result<Vec<u8>, AllocError
 fn accepted_lines(alloc: Global, office: &Office) -> Result<Vec<u8>, AllocError>
     ensures { IfOk result (λ lines. lines.items ≡ accepted_text office.now) }
 {
+    let _standing = office.len();
     let needs = office.broken_needs()?;
     let mut lines = count_line(alloc, "accepted", needs.len())?;
     add_rule_counts(alloc, &mut lines, office.schema(), office.book(), needs.as_slice())?;

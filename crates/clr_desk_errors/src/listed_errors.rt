@@ -1,14 +1,16 @@
 //! The broken needs of LIVE, one by one.
 
-ghost use Rattle.std.specs.Prelude.{◌≡◌, All, map, option_map, IfOk};
+ghost use Rattle.std.specs.Prelude.{◌≡◌, [], All, map, option_map, string_bytes, IfOk};
 ghost use Rattle.std.specs.List.Sorted.{IsStrictlySortedBy};
+ghost use Rattle.std.specs.Option.{option_and_then, option_map_or};
 ghost use Rattle.clr_audit.specs.Unknown.{is_known};
 ghost use Rattle.clr_merge_sets.specs.MemberChanges.{AreMembers};
 ghost use Rattle.clr_rules.specs.Needs.{broken_cmp};
-ghost use Rattle.clr_desk_errors.specs.ListedErrors.{AreListed, IsListed, live_alone, need_in_live, old_version};
+ghost use Rattle.clr_desk_errors.specs.ListedErrors.{AreListed, IsListed, error_place, live_alone, need_in_live, old_version};
 
 use crate::error_places::error_place;
 use clr_engine::{Broken, Office};
+use clr_map_scenes::Cause;
 use clr_member_changes::MemberChanges;
 use clr_merge_sets::read_member_changes;
 use clr_needs::{Need, VersionId};
@@ -57,6 +59,17 @@ fn need_in_live(need: &Broken) -> Need
     Need::new(ask, old_version(need.first), second_version(need.second))
 }
 
+/// Returns where a cause is, if that is told, and the few words that a map would say there; where there is no cause, no place and no words.
+fn told_at(alloc: Global, cause: Option<Cause>) -> (Option<Place>, String)
+    ensures place { result.0 ≡ option_and_then error_place cause }
+    ensures says { string_bytes result.1 ≡ option_map_or (λ c. string_bytes c.says) cause [] }
+{
+    match cause {
+        Some(cause) => (error_place(&cause), cause.says),
+        None => (None, String::new(alloc)),
+    }
+}
+
 /// Returns a broken need of LIVE as it is listed, beside needs that are known, which are in order.
 fn listed_error(
     alloc: Global,
@@ -72,10 +85,7 @@ fn listed_error(
 {
     let is_known = is_among(known, need);
     let cause = cause_of_need(alloc, office, live, &need_in_live(need))?;
-    let (place, says) = match cause {
-        Some(cause) => (error_place(&cause), cause.says),
-        None => (None, String::new(alloc)),
-    };
+    let (place, says) = told_at(alloc, cause);
     Ok(ListedError {
         need: *need,
         is_known,

@@ -25,7 +25,8 @@ fn mended_needs(
     ensures { IfOk result (λ list. AreMended draft.now known.now list.items) }
 {
     let needs = draft.broken_needs()?;
-    needs_beside(alloc, known, needs.as_slice())
+    let list = needs_beside(alloc, known, needs.as_slice())?;
+    Ok(list)
 }
 
 /// Returns the lines of mended needs.

@@ -1,13 +1,15 @@
 //! What is printed of an opened office and layers.
 
-ghost use Rattle.std.specs.Prelude.{◌≡◌, IfOk};
+ghost use Rattle.std.specs.Prelude.{◌≡◌, Ok, IfOk};
 ghost use Rattle.clr_rows.specs.Schemas.{FitsSchema};
+ghost use Rattle.clr_office_texts.specs.Drafts.{draft_in};
 ghost use Rattle.clr_desk_prints.specs.Printing.{printed};
 ghost use Rattle.clr_desk_layers.specs.Designs.{IsAcceptedOfficePrint, IsDesignPrint, IsDesignScriptPrint, IsOfficePrint, IsPrintOfAccepted};
 ghost use Rattle.clr_desk_layers.specs.Designs.{IsPrintOfDesign, IsPrintOfLive, IsPrintOfScript, faulty_layer_printout, refusal_print};
 
 use crate::layer_fault_lines::fault_line;
-use clr_designs::{make_design, put_live, replace_live, write_design_script};
+use crate::relaid_drafts::draft_with_live;
+use clr_designs::{make_design, replace_live, write_design_script};
 use clr_desk_errors::accepted_print;
 use clr_desk_prints::{Ending, Print};
 use clr_engine::{Draft, Office};
@@ -87,12 +89,20 @@ fn print_of_live(alloc: Global, office: &mut Office, content: &Sheet) -> Result<
 }
 
 /// Puts a content in place of LIVE's, whatever it breaks, and returns the text of the office with its errors accepted, and how many they are.
-fn print_of_accepted(alloc: Global, mut draft: Draft, content: &Sheet) -> Result<Print, AllocError>
-    requires { FitsSchema draft.schema content.now }
-    ensures { IfOk result (λ p. IsPrintOfAccepted draft content.now (printed p)) }
+/// The draft is that of the given text.
+fn print_of_accepted(
+    alloc: Global,
+    text: &[u8],
+    draft: &Draft,
+    content: &Sheet,
+) -> Result<Print, AllocError>
+    requires read { draft_in text.now ≡ Ok draft.now }
+    requires fits { FitsSchema draft.now.schema content.now }
+    ensures { IfOk result (λ p. IsPrintOfAccepted draft.now content.now (printed p)) }
 {
-    put_live(alloc, &mut draft, content)?;
-    accepted_print(alloc, draft)
+    let relaid = draft_with_live(alloc, text, draft, content)?;
+    let print = accepted_print(alloc, relaid)?;
+    Ok(print)
 }
 
 /// Returns what is printed of the design that has the rows of layers.
@@ -142,17 +152,19 @@ pub(crate) fn office_print(
     }
 }
 
-/// Returns what is printed of the office whose LIVE has the rows of layers, with its errors accepted.
+/// Returns what is printed of the office whose LIVE has the rows of layers, with its errors accepted. The draft is that of the given text.
 pub(crate) fn accepted_office_print(
     alloc: Global,
-    draft: Draft,
+    text: &[u8],
+    draft: &Draft,
     options: LayerOptions,
     layers: &[GivenLayer],
 ) -> Result<Print, AllocError>
-    ensures { IfOk result (λ p. IsAcceptedOfficePrint options layers.now draft (printed p)) }
+    requires { draft_in text.now ≡ Ok draft.now }
+    ensures { IfOk result (λ p. IsAcceptedOfficePrint options layers.now draft.now (printed p)) }
 {
     match wanted_content(alloc, draft.schema(), draft.live(), options, layers)? {
-        Ok(content) => print_of_accepted(alloc, draft, &content),
+        Ok(content) => print_of_accepted(alloc, text, draft, &content),
         Err(faulty) => print_of_fault(alloc, layers, &faulty),
     }
 }

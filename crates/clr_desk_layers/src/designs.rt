@@ -77,5 +77,5 @@ pub fn answer_accepted_office(
     ensures { IsMadePrintout (IsPrintoutOfDraft (IsAcceptedOfficePrint options layers.now) (draft_in office.now)) result }
 {
     let read = draft_of(alloc, office)?;
-    Ok(accepted_office_print(alloc, read.draft, options, layers)?)
+    Ok(accepted_office_print(alloc, office, &read.draft, options, layers)?)
 }

@@ -14,6 +14,7 @@ mod laws;
 mod layer_fault_lines;
 mod layer_refusals;
 mod layers;
+mod relaid_drafts;
 
 pub use clr_layer_changes::{GivenLayer, LayerOptions};
 pub use designs::{answer_accepted_office, answer_design, answer_design_script, answer_office};
