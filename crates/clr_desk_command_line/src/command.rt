@@ -36,8 +36,11 @@ const ROUND: Argument<'static> = Argument::Flag(
     "Round coordinates that are finer than a millimetre",
 );
 
-const SYSTEM: Argument<'static> =
-    Argument::ValueOption("crs", "EPSG:N", "The reference system of the coordinates");
+const SYSTEM: Argument<'static> = Argument::ValueOption(
+    "crs",
+    "EPSG:N",
+    "The reference system of the coordinates",
+);
 
 /// The arguments of a subcommand over an office text and designs of a root.
 const OVER_MEMBERS: &[Argument<'static>] = &[DATABASE, ROOT, DESIGNS];

@@ -63,7 +63,13 @@ fn accepted_lines(alloc: Global, office: &Office) -> Result<Vec<u8>, AllocError>
     let _standing = office.len();
     let needs = office.broken_needs()?;
     let mut lines = count_line(alloc, "accepted", needs.len())?;
-    add_rule_counts(alloc, &mut lines, office.schema(), office.book(), needs.as_slice())?;
+    add_rule_counts(
+        alloc,
+        &mut lines,
+        office.schema(),
+        office.book(),
+        needs.as_slice(),
+    )?;
     Ok(lines)
 }
 

@@ -33,11 +33,7 @@ fn point_at(place: Option<Place>) -> Shape
 }
 
 /// Returns a rule as a sentence, and no words where there is none.
-fn asked_words(
-    alloc: Global,
-    schema: &Schema,
-    rule: Option<&Rule>,
-) -> Result<String, AllocError>
+fn asked_words(alloc: Global, schema: &Schema, rule: Option<&Rule>) -> Result<String, AllocError>
     ensures { IfOk result (λ text. string_bytes text ≡ asked_words schema.now (option_copied rule.entry)) }
 {
     match rule {
@@ -92,11 +88,7 @@ fn error_properties(
 }
 
 /// Returns the feature of an error: a point where it is, or no shape.
-fn error_feature(
-    alloc: Global,
-    office: &Office,
-    error: &ListedError,
-) -> Result<Feature, AllocError>
+fn error_feature(alloc: Global, office: &Office, error: &ListedError) -> Result<Feature, AllocError>
     ensures { IfOk result (λ feature. feature ≡ error_feature office.now error.now) }
 {
     let schema = office.schema();

@@ -145,6 +145,7 @@ fn needs_of(alloc: Global, errors: &[ListedError]) -> Result<Vec<Broken>, AllocE
 }
 
 /// Returns the lines of errors, rule by rule.
+#[tactic(auto, unfolding(crate::specs::ErrorLines::errors_text))]
 fn errors_text(
     alloc: Global,
     office: &Office,
@@ -157,7 +158,15 @@ fn errors_text(
     let _small = office.book().len();
     let rules = office.book().rules();
     for at in 0..rules.len() {
-        add_rule(alloc, &mut text, office, needs.as_slice(), errors, at as u16, &rules[at])?;
+        add_rule(
+            alloc,
+            &mut text,
+            office,
+            needs.as_slice(),
+            errors,
+            at as u16,
+            &rules[at],
+        )?;
     }
     Ok(text)
 }

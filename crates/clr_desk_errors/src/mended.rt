@@ -17,11 +17,7 @@ use clr_rows::Schema;
 use std::alloc::{AllocError, Global};
 
 /// Returns those of some known needs that aren't broken in a draft.
-fn mended_needs(
-    alloc: Global,
-    draft: &Draft,
-    known: &[Broken],
-) -> Result<Vec<Broken>, AllocError>
+fn mended_needs(alloc: Global, draft: &Draft, known: &[Broken]) -> Result<Vec<Broken>, AllocError>
     ensures { IfOk result (λ list. AreMended draft.now known.now list.items) }
 {
     let needs = draft.broken_needs()?;
@@ -31,11 +27,7 @@ fn mended_needs(
 
 /// Returns the lines of mended needs.
 #[tactic(auto, unfolding(crate::specs::Mended::mended_text))]
-fn mended_lines(
-    alloc: Global,
-    schema: &Schema,
-    needs: &[Broken],
-) -> Result<Vec<u8>, AllocError>
+fn mended_lines(alloc: Global, schema: &Schema, needs: &[Broken]) -> Result<Vec<u8>, AllocError>
     ensures { IfOk result (λ lines. lines.items ≡ mended_text schema.now needs.now) }
 {
     let mut lines = count_line(alloc, "mended", needs.len())?;

@@ -8,9 +8,7 @@ ghost use Rattle.clr_desk_pages.specs.Features.{AreFeaturesOfSet, AreHintedFeatu
 ghost use Rattle.clr_desk_prints.specs.Printing.{IsMadePrintout, IsPrintoutIn, printed};
 
 use crate::plans::{found_plan, print_of_plan_text};
-use clr_desk_prints::{
-    Print, members_asked, notes_of, print_of_no_system, system_of, with_hints,
-};
+use clr_desk_prints::{Print, members_asked, notes_of, print_of_no_system, system_of, with_hints};
 use clr_engine::Office;
 use clr_merge_sets::read_member_changes;
 use clr_office::{RunFault, Words, open_office, texts_of_names};

@@ -32,7 +32,7 @@ module _ (needs : List Broken) (need : Broken) where
       go false e = refl
 
 -- the needs of a list that aren't among others
-abbrev pub left_of : List Broken → List Broken → List Broken
+abbrev left_of : List Broken → List Broken → List Broken
 left_of others needs = filter (λ need. not (is_known others need)) needs
 
 pub rises : (others needs : List Broken) → IsStrictlySortedBy broken_cmp needs → IsStrictlySortedBy broken_cmp (left_of others needs)
@@ -49,9 +49,10 @@ not_true false none = refl
 pub exactly : (others in_order needs : List Broken) → ((x : Broken) → Contains in_order x ↔ Contains needs x) → (need : Broken)
     → Contains (left_of others in_order) need ↔ (Contains needs need × ¬ (Contains others need))
 exactly others in_order needs same need = (
-  λ there. (let parts = among_kept (λ k. not (is_known others k)) need in_order (among need (left_of others in_order) there) in
-      ((same need).0 (contained need in_order parts.0),
-      λ among_others. false≢true (sym (not_false (is_known others need) parts.1) ∙ known_if_there others need among_others))),
+  λ there. (let parts = among_kept (λ k. not (is_known others k)) need in_order (among need (left_of others in_order) there) in (
+    (same need).0 (contained need in_order parts.0),
+    λ among_others. false≢true (sym (not_false (is_known others need) parts.1) ∙ known_if_there others need among_others),
+  )),
   λ told. contained need (left_of others in_order)
       (kept_among (λ k. not (is_known others k)) need in_order (among need in_order ((same need).1 told.0))
       (not_true (is_known others need) (λ e. told.1 (there_if_known others need e)))),

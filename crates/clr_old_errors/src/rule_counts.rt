@@ -42,6 +42,7 @@ pub fn add_rule_count(
 
 /// Adds how many of some needs are of each rule of a book that has one of them, ascending, a line each, as
 /// `2 of rule 0: No two rows of main have the same code.`
+#[tactic(auto, unfolding(crate::specs::RuleCounts::rule_counts_text))]
 pub fn add_rule_counts(
     alloc: Global,
     lines: &mut Vec<u8>,

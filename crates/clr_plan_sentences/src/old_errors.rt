@@ -5,8 +5,8 @@ ghost use Rattle.clr_plan_sentences.specs.OldErrors.{asked_anew, change_words, c
 ghost use Rattle.clr_merge_sets.specs.MemberChanges.{set_of};
 
 use crate::labels::add_label;
-use crate::server_words::texts_of;
 use crate::served_needs::changer_name;
+use crate::server_words::texts_of;
 use crate::settings::Setting;
 use clr_needs::{Need, VersionId};
 use clr_old_errors::{errors_of, is_among};

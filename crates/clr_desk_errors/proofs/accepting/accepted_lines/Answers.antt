@@ -12,4 +12,4 @@ returns c =
     let needs = broken_now_is o c.len-standing.ensures.sound c.in_ok-needs.needs.items c.in_ok-needs.ensures in
     let counted = c.in_ok-lines.ensures ∙ ap (count_line (codes "accepted")) (c.len.ensures ∙ ap (λ (list : List Broken). length list) needs) in
     c.in_ok-add_rule_counts.ensures
-        ∙ (λ i. counted i ++ rule_counts_text (c.schema.ensures.value i) (c.book.ensures.value i) ((c.as_slice.ensures.value ∙ needs) i))
+    ∙ (λ i. counted i ++ rule_counts_text (c.schema.ensures.value i) (c.book.ensures.value i) ((c.as_slice.ensures.value ∙ needs) i))

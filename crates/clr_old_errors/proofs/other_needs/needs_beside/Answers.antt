@@ -3,7 +3,7 @@ use Rattle.std.specs.List.Sorted.{IsStrictlySortedBy}
 use Rattle.clr_rules.specs.declared.needs.Broken.{Broken}
 use Rattle.clr_rules.specs.Needs.{broken_cmp}
 use Rattle.clr_rules.proofs.BrokenOrder.{broken_exact}
-use Rattle.clr_old_errors.proofs.KnownLemmas.{exactly, left_of, rises}
+use Rattle.clr_old_errors.proofs.KnownLemmas.{exactly, rises}
 use Rattle.clr_old_errors.proofs.other_needs.needs_beside.Goals as goal
 
 pub put_in_order-requires : goal.put_in_order-requires
@@ -25,4 +25,4 @@ returns-clause-exactly c =
     λ x. subst (λ (list : List Broken). Contains c.as_slice.result.now x ↔ Contains list x) c.in_ok-in_order.ensures.items
     (subst (λ (list : List Broken). Contains list x ↔ Contains c.in_ok-in_order.in_order.items x) (sym c.as_slice.ensures.value) (c.put_in_order.ensures.same x)) in
     λ need. subst (λ (list : List Broken). Contains list need ↔ (Contains needs need × ¬ (Contains others need))) (sym c.in_ok-left.ensures)
-        (exactly others c.as_slice.result.now needs same need)
+    (exactly others c.as_slice.result.now needs same need)
