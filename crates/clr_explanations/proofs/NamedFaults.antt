@@ -12,11 +12,13 @@ use Rattle.clr_rule_text.specs.declared.faults.TextFault.{TextFault}
 use Rattle.clr_rule_text.specs.declared.faults.TextFault.TheVariants as fault
 use Rattle.clr_rule_text.specs.declared.formats.Format.{Format}
 use Rattle.clr_faults.specs.InnerFaults.{book_fault_of, put_fault_of, tables_fault_of}
+use Rattle.clr_faults.specs.KnownFaults.{known_fault_of}
+use Rattle.clr_faults.specs.declared.known_faults.BadNeed.{BadNeed}
 use Rattle.clr_item_explanations.specs.FaultNames.{rule_fault_name, schema_fault_name}
 use Rattle.clr_item_explanations.specs.RowFaults.{wrong_of_row}
 use Rattle.clr_item_explanations.specs.RuleFaults.{wrong_of_rule}
 use Rattle.clr_item_explanations.specs.SchemaFaults.{wrong_of_schema}
-use Rattle.clr_item_explanations.specs.Tellings.{TellsNamed}
+use Rattle.clr_item_explanations.specs.Tellings.{Tells, TellsNamed}
 use Rattle.clr_item_explanations.specs.Values.{text_at}
 use Rattle.clr_text_positions.specs.declared.paths.Key.TheVariants as key
 use Rattle.clr_explanations.specs.Names.{HasTable, NamesAreKnown, TellsFirstUnknown, TellsUnknownName, TellsUnknownTable, first_unknown}
@@ -24,8 +26,9 @@ use Rattle.clr_item_explanations.specs.declared.slips.Slip.{Slip}
 use Rattle.clr_text_positions.specs.declared.remarks.Remark.{Remark}
 use Rattle.clr_faults.specs.declared.spots.FaultyItem.{FaultyItem}
 use Rattle.clr_explanations.specs.Items.{item_at_spot}
+use Rattle.clr_explanations.specs.KnownNeeds.{wrong_of_need}
 use Rattle.clr_explanations.specs.Places.{place_text}
-use Rattle.clr_explanations.specs.Remarks.{IsRemarkIn, TellsSchemaFault, TellsFault, TellsRowFault, TellsRowOfNoTable, TellsRuleFault}
+use Rattle.clr_explanations.specs.Remarks.{IsRemarkIn, TellsSchemaFault, TellsFault, TellsKnownFault, TellsRowFault, TellsRowOfNoTable, TellsRuleFault}
 use Rattle.clr_explanations.specs.Remarks.{TellsRuleOfNoName}
 use Rattle.clr_explanations.specs.Readings.{tables_in}
 use Rattle.clr_item_explanations.specs.Slips.{Said, said}
@@ -88,20 +91,33 @@ pub no_rule_there : (tables : List TableDef) (d : Data) (at : FaultyItem) (s : S
     → (item : Data) → item_at_spot at d ≡ Ok item → TellsRuleOfNoName tables item s
 no_rule_there tables d at s is = λ item again. no_value (item_at_spot at d) item is again
 
-pub rule_fault_told : (tables : List TableDef) (d : Data) (at : FaultyItem) (f : ℕ × RuleFault) (s : Said) → Some f ≡ book_fault_of tables d
-    → TellsNamed (rule_fault_name f.1) (wrong_of_rule f.1) s → TellsRuleFault tables d at s
-rule_fault_told tables d at f s is told = match_some (book_fault_of tables d) f _ _ is told
+pub rule_fault_told : (format : Format) (tables : List TableDef) (d : Data) (at : FaultyItem) (f : ℕ × RuleFault) (s : Said)
+    → Some f ≡ book_fault_of format tables d → TellsNamed (rule_fault_name f.1) (wrong_of_rule f.1) s → TellsRuleFault format tables d at s
+rule_fault_told format tables d at f s is told = match_some (book_fault_of format tables d) f _ _ is told
 
-pub rule_names_told : (tables : List TableDef) (d : Data) (at : FaultyItem) (s : Said) → None ≡ book_fault_of tables d
-    → ((item : Data) → item_at_spot at d ≡ Ok item → TellsRuleOfNoName tables item s) → TellsRuleFault tables d at s
-rule_names_told tables d at s is told = match_none (book_fault_of tables d) _ _ is told
+pub no_book_fault : (format : Format) (tables : List TableDef) (d : Data) (at : FaultyItem) (s : Said) → None ≡ book_fault_of format tables d
+    → TellsKnownFault format tables d at s → TellsRuleFault format tables d at s
+no_book_fault format tables d at s is told = match_none (book_fault_of format tables d) _ _ is told
 
-pub names_bad_rule : (d : Data) (at : FaultyItem) (s : Said) (tables : List TableDef) → tables_in d ≡ Ok tables → TellsRuleFault tables d at s →
-    TellsFault d fault.BadRule at s
-names_bad_rule d at s tables is told = λ others again. of_ok (λ x. TellsRuleFault x d at s) (tables_in d) tables others is told again
+pub need_told : (format : Format) (tables : List TableDef) (d : Data) (at : FaultyItem) (f : BadNeed) (s : Said) → Some f ≡ known_fault_of format tables d
+    → Tells (wrong_of_need f) s → TellsKnownFault format tables d at s
+need_told format tables d at f s is told = match_some (known_fault_of format tables d) f _ _ is told
+
+pub rule_names_told : (format : Format) (tables : List TableDef) (d : Data) (at : FaultyItem) (s : Said) → None ≡ known_fault_of format tables d
+    → ((item : Data) → item_at_spot at d ≡ Ok item → TellsRuleOfNoName tables item s) → TellsKnownFault format tables d at s
+rule_names_told format tables d at s is told = match_none (known_fault_of format tables d) _ _ is told
+
+pub names_bad_rule : (d : Data) (at : FaultyItem) (s : Said) (format : Format) (tables : List TableDef) → format_of d ≡ Ok format → tables_in d ≡ Ok tables
+    → TellsRuleFault format tables d at s → TellsFault d fault.BadRule at s
+names_bad_rule d at s format tables known is told = λ other others again also.
+    of_ok (λ x. TellsRuleFault x others d at s) (format_of d) format other known
+    (of_ok (λ x. TellsRuleFault format x d at s) (tables_in d) tables others is told also) again
+
+pub no_format_of_rules : (d : Data) (at : FaultyItem) (s : Said) → IsErr (format_of d) → TellsFault d fault.BadRule at s
+no_format_of_rules d at s is = λ format tables again also. no_value (format_of d) format is again
 
 pub no_tables : (d : Data) (at : FaultyItem) (s : Said) → IsErr (tables_in d) → TellsFault d fault.BadRule at s
-no_tables d at s is = λ tables again. no_value (tables_in d) tables is again
+no_tables d at s is = λ format tables again also. no_value (tables_in d) tables is also
 
 -- rows ---------------------------------------------------------------------------------------
 

@@ -1,5 +1,6 @@
 pub mod FaultWords
 pub mod Items
+pub mod KnownNeeds
 pub mod Names
 pub mod Places
 pub mod Readings

@@ -11,6 +11,7 @@ use Rattle.clr_rule_text.specs.declared.named_rules.NamedRule.{NamedRule}
 use Rattle.clr_rule_text.specs.Rules.{named_rule_of}
 use Rattle.clr_rule_text.specs.declared.formats.Format.{Format}
 use Rattle.clr_faults.specs.InnerFaults.{book_fault_of, put_fault_of, tables_fault_of}
+use Rattle.clr_faults.specs.KnownFaults.{known_fault_of}
 use Rattle.clr_item_explanations.specs.FaultNames.{rule_fault_name, schema_fault_name}
 use Rattle.clr_item_explanations.specs.RowFaults.{wrong_of_row}
 use Rattle.clr_item_explanations.specs.RuleFaults.{wrong_of_rule}
@@ -24,6 +25,7 @@ use Rattle.clr_text_positions.specs.declared.remarks.Remark.{Remark}
 use Rattle.clr_text_positions.specs.declared.paths.Key.TheVariants as key
 use Rattle.clr_text_positions.specs.declared.paths.PathStep.{PathStep}
 use Rattle.clr_explanations.specs.Items.{item_at_spot}
+use Rattle.clr_explanations.specs.KnownNeeds.{wrong_of_need}
 use Rattle.clr_explanations.specs.Names.{NameInRule, TellsUnknownName, TellsUnknownTable, first_unknown}
 use Rattle.clr_explanations.specs.Places.{place_text}
 use Rattle.clr_explanations.specs.Readings.{tables_in}
@@ -48,11 +50,17 @@ abbrev pub TellsRuleOfNoName : List TableDef → Data → Said → Type 0
 TellsRuleOfNoName tables item said = (rule : NamedRule) (name : NameInRule) → named_rule_of item ≡ Ok rule → first_unknown tables rule ≡ Some name →
     TellsUnknownName tables name said.steps said.sentence said.hint
 
--- of a rule that can't stand in a book: the fault of the book and what it means, or the first name that isn't known in the rule of the item
-abbrev pub TellsRuleFault : List TableDef → Data → FaultyItem → Said → Type 0
-TellsRuleFault tables d at said =
-    MatchOption (book_fault_of tables d) ((item : Data) → item_at_spot at d ≡ Ok item → TellsRuleOfNoName tables item said)
-    (λ f. TellsNamed (rule_fault_name f.1) (wrong_of_rule f.1) said)
+-- of rules that make a book, if they name what the schema has: the first known need that its rule can't have, or the first name that isn't known
+-- in the rule of the item
+abbrev pub TellsKnownFault : Format → List TableDef → Data → FaultyItem → Said → Type 0
+TellsKnownFault format tables d at said =
+    MatchOption (known_fault_of format tables d) ((item : Data) → item_at_spot at d ≡ Ok item → TellsRuleOfNoName tables item said)
+    (λ f. Tells (wrong_of_need f) said)
+
+-- of a rule that can't stand in a book: the fault of the book and what it means
+abbrev pub TellsRuleFault : Format → List TableDef → Data → FaultyItem → Said → Type 0
+TellsRuleFault format tables d at said =
+    MatchOption (book_fault_of format tables d) (TellsKnownFault format tables d at said) (λ f. TellsNamed (rule_fault_name f.1) (wrong_of_rule f.1) said)
 
 -- tables ---------------------------------------------------------------------------------------
 
@@ -63,13 +71,14 @@ TellsSchemaFault format d said = (f : SchemaFault) → tables_fault_of format d 
 -- remarks --------------------------------------------------------------------------------------
 
 -- what is said by the fault: of a field the first that isn't what must stand there, of a workspace what it is behind those before it, and of tables,
--- rules and rows the fault that the reader drops
+-- rules, known needs and rows the fault that the reader drops
 abbrev pub TellsFault : Data → TextFault → FaultyItem → Said → Type 0
 TellsFault d fault.BadField at said = Tells (unwrap_or (wrong_at_spot at d) unknown) said
 TellsFault d fault.BadPart at said = Tells (unwrap_or (wrong_part_at at d) unknown) said
 TellsFault d fault.RepeatedCell at said = Unit {0}
 TellsFault d fault.BadSchema at said = (format : Format) → format_of d ≡ Ok format → TellsSchemaFault format d said
-TellsFault d fault.BadRule at said = (tables : List TableDef) → tables_in d ≡ Ok tables → TellsRuleFault tables d at said
+TellsFault d fault.BadRule at said =
+    (format : Format) (tables : List TableDef) → format_of d ≡ Ok format → tables_in d ≡ Ok tables → TellsRuleFault format tables d at said
 TellsFault d fault.BadRow at said =
     (tables : List TableDef) (item : Data) → tables_in d ≡ Ok tables → item_at_spot at d ≡ Ok item → TellsRowFault tables item said
 TellsFault d fault.NotJson at said = Tells unknown said

@@ -6,13 +6,15 @@ ghost use Rattle.clr_rule_text.specs.declared.faults.TextFault.TheVariants as te
 ghost use Rattle.clr_item_explanations.specs.Tellings.{Tells, TellsIfAny, Wrong};
 ghost use Rattle.clr_explanations.specs.Items.{item_at_spot};
 ghost use Rattle.clr_explanations.specs.WrongItems.{unknown};
-ghost use Rattle.clr_explanations.specs.Remarks.{TellsSchemaFault, TellsFault, TellsRowFault, TellsRowOfNoTable, TellsRuleFault, TellsRuleOfNoName};
+ghost use Rattle.clr_explanations.specs.Remarks.{TellsSchemaFault, TellsFault, TellsKnownFault, TellsRowFault, TellsRowOfNoTable, TellsRuleFault};
+ghost use Rattle.clr_explanations.specs.Remarks.{TellsRuleOfNoName};
 ghost use Rattle.clr_item_explanations.specs.Slips.{said};
 
 use crate::items::item_at;
+use crate::known_slips::explain_need;
 use crate::readings::{format_in, schema_in};
 use crate::unknown_names::{unknown_name_slip, unknown_table_slip};
-use clr_faults::{FaultyItem, row_fault_at, rule_fault_of, schema_fault_of};
+use clr_faults::{FaultyItem, known_need_fault_of, row_fault_at, rule_fault_of, schema_fault_of};
 use clr_item_explanations::{Slip, explain_row_fault, explain_rule_fault, explain_schema};
 use clr_office_reading::formats::Format;
 use clr_rows::Schema;
@@ -87,30 +89,51 @@ fn slip_of_name(
     }
 }
 
-/// Returns why a rule can't stand in a book over a schema.
-#[tactic(auto, using(crate::proofs::NamedFaults::rule_fault_told, crate::proofs::NamedFaults::rule_names_told))]
-fn slip_of_rule(
+/// Returns the first known need that its rule can't have, or what a rule names that the schema hasn't.
+#[tactic(auto, using(crate::proofs::NamedFaults::need_told, crate::proofs::NamedFaults::rule_names_told))]
+fn slip_of_need(
     alloc: Global,
     json: &Json,
     spot: FaultyItem,
+    format: Format,
     schema: &Schema,
 ) -> Result<Slip, AllocError>
-    ensures { IfOk result (λ slip. TellsRuleFault schema.now (view json.now) spot (said slip)) }
+    ensures { IfOk result (λ slip. TellsKnownFault format schema.now (view json.now) spot (said slip)) }
 {
-    match rule_fault_of(alloc, json, schema)? {
-        Some((_, fault)) => explain_rule_fault(alloc, fault),
+    match known_need_fault_of(alloc, json, format, schema)? {
+        Some(need) => explain_need(alloc, need),
         None => slip_of_name(alloc, json, spot, schema),
     }
 }
 
+/// Returns why a rule can't stand in a book over a schema.
+#[tactic(auto, using(crate::proofs::NamedFaults::rule_fault_told, crate::proofs::NamedFaults::no_book_fault))]
+fn slip_of_rule(
+    alloc: Global,
+    json: &Json,
+    spot: FaultyItem,
+    format: Format,
+    schema: &Schema,
+) -> Result<Slip, AllocError>
+    ensures { IfOk result (λ slip. TellsRuleFault format schema.now (view json.now) spot (said slip)) }
+{
+    match rule_fault_of(alloc, json, format, schema)? {
+        Some((_, fault)) => explain_rule_fault(alloc, fault),
+        None => slip_of_need(alloc, json, spot, format, schema),
+    }
+}
+
 /// Returns why a rule can't stand over the schema.
-#[tactic(auto, using(crate::proofs::NamedFaults::names_bad_rule, crate::proofs::NamedFaults::no_tables))]
+#[tactic(auto, using(crate::proofs::NamedFaults::names_bad_rule, crate::proofs::NamedFaults::no_format_of_rules, crate::proofs::NamedFaults::no_tables))]
 pub fn rule_slip(alloc: Global, json: &Json, spot: FaultyItem) -> Result<Slip, AllocError>
     ensures { IfOk result (λ slip. TellsFault (view json.now) text_fault.BadRule spot (said slip)) }
 {
+    let Some(format) = format_in(json)? else {
+        return slip_or_unknown(alloc, None);
+    };
     match schema_in(alloc, json)? {
         Some(schema) => {
-            let slip = slip_of_rule(alloc, json, spot, &schema)?;
+            let slip = slip_of_rule(alloc, json, spot, format, &schema)?;
             Ok(slip)
         }
         None => slip_or_unknown(alloc, None),

@@ -23,19 +23,19 @@ use Rattle.clr_faults.specs.KnownFaults.{NeedFaultLaw, cell_in, fault_at, first_
 
 -- one name after another ---------------------------------------------------------------------
 
-module _ (tables : List TableDef) (rule : Rule) (names : List NeedName) (at : ℕ) (name : NeedName) where
-  next_name : at < length names → name ≡ get_or names at name → first_bad_name tables rule at (drop at names)
-      ≡ fault_at at (need_fault tables rule name) (first_bad_name tables rule (suc at) (drop (suc at) names))
+module _ (tables : List TableDef) (rule : Rule) (names : List NeedName) (at : ℕ) (d : NeedName) where
+  next_name : at < length names → first_bad_name tables rule at (drop at names)
+      ≡ fault_at at (need_fault tables rule (get_or names at d)) (first_bad_name tables rule (suc at) (drop (suc at) names))
   unfolding first_bad_name
-  next_name lt is = rw (drop-cons names at name) (rw (← is) refl)
+  next_name lt = rw (drop-cons names at d) refl
 
-  pub name_passed : at < length names → name ≡ get_or names at name → need_fault tables rule name ≡ None → (whole : Option (ℕ × NeedFault))
+  pub name_passed : at < length names → need_fault tables rule (get_or names at d) ≡ None → (whole : Option (ℕ × NeedFault))
       → first_bad_name tables rule at (drop at names) ≡ whole → first_bad_name tables rule (at + 1) (drop (at + 1) names) ≡ whole
-  name_passed lt is good whole so_far = rw (add-one at) (sym (next_name lt is ∙ rw good refl) ∙ so_far)
+  name_passed lt good whole so_far = rw (add-one at) (sym (next_name lt ∙ rw good refl) ∙ so_far)
 
-  pub name_found : at < length names → name ≡ get_or names at name → (fault : NeedFault) → need_fault tables rule name ≡ Some fault
+  pub name_found : at < length names → (fault : NeedFault) → need_fault tables rule (get_or names at d) ≡ Some fault
       → first_bad_name tables rule at (drop at names) ≡ Some (at, fault)
-  name_found lt is fault bad = next_name lt is ∙ rw bad refl
+  name_found lt fault bad = next_name lt ∙ rw bad refl
 
 pub no_name : (tables : List TableDef) (rule : Rule) (names : List NeedName) (at : ℕ) → length names ≤ at → first_bad_name tables rule at (drop at names) ≡ None
 unfolding first_bad_name

@@ -108,9 +108,11 @@ fn bad_need(schema: &Schema, book: &RuleBook, names: &[NeedNames]) -> Option<Bad
 {
     let _small = book.len();
     for (number, of_rule) in names.iter().enumerate() {
-        if let Some((place, fault)) =
-            bad_name(schema, book.rule(number as u16), of_rule.as_slice())
-        {
+        if let Some((place, fault)) = bad_name(
+            schema,
+            book.rule(number as u16),
+            of_rule.as_slice(),
+        ) {
             return Some(BadNeed {
                 rule: number,
                 place,
@@ -122,6 +124,7 @@ fn bad_need(schema: &Schema, book: &RuleBook, names: &[NeedNames]) -> Option<Bad
 }
 
 /// Returns the first name of rules as they are stated that is no need of its rule, or none where the rules make no book.
+#[tactic(auto, unfolding(crate::specs::KnownFaults::bad_need_stated))]
 fn bad_need_of(
     alloc: Global,
     schema: &Schema,

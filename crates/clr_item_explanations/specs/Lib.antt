@@ -1,5 +1,6 @@
 pub mod FaultNames
 pub mod Fields
+pub mod KnownNeeds
 pub mod RowFaults
 pub mod Rows
 pub mod RuleFaults

@@ -10,7 +10,9 @@ use Rattle.clr_text_positions.specs.declared.paths.PathStep.TheVariants as step
 use Rattle.clr_item_explanations.specs.declared.fields.Wanted.TheVariants as wanted
 use Rattle.clr_item_explanations.specs.declared.rules.RuleField.{RuleField}
 use Rattle.clr_item_explanations.specs.declared.rules.RuleField.TheVariants as field
+use Rattle.clr_rule_text.specs.declared.formats.Format.{Format}
 use Rattle.clr_item_explanations.specs.Fields.{missing, wrong_at, wrong_field, wrong_fields, wrong_pair, wrong_value, wrong_word_at}
+use Rattle.clr_item_explanations.specs.KnownNeeds.{wrong_known}
 use Rattle.clr_item_explanations.specs.Tellings.{Wrong, below, first_wrong, wrong_in_list}
 use Rattle.clr_item_explanations.specs.Values.{listed, text_at}
 
@@ -55,8 +57,12 @@ rule_fields kind =
     else (if bytes_eq kind (codes "NEAR") then field.Side key.A ∷ field.Side key.B ∷ field.Distance ∷ []
     else []))))
 
+-- the fields of a kind, and then the known needs
+abbrev pub wrong_rule_fields : Format → List ℕ → Data → Option Wrong
+wrong_rule_fields format kind d = option_or (first_wrong (λ one. wrong_rule_field one d) (rule_fields kind)) (wrong_known format kind d)
+
 -- the kind, and then the fields of that kind
-unfoldable pub wrong_rule : Data → Option Wrong
-wrong_rule d =
+unfoldable pub wrong_rule : Format → Data → Option Wrong
+wrong_rule format d =
     option_or (wrong_word_at key.Kind (codes "UNIQUE" ∷ codes "PARTNER" ∷ codes "ENDNODE" ∷ codes "CROSSING" ∷ codes "NEAR" ∷ []) d)
-    (first_wrong (λ one. wrong_rule_field one d) (rule_fields (text_at key.Kind d)))
+    (wrong_rule_fields format (text_at key.Kind d) d)

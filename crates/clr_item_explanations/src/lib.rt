@@ -10,6 +10,7 @@
 #![tactic(auto)]
 
 mod fields;
+mod known_needs;
 mod row_faults;
 mod rows;
 mod rule_faults;

@@ -4,7 +4,7 @@ ghost use Rattle.serde_json.specs.View.{view};
 ghost use Rattle.clr_text_positions.specs.declared.paths.Key.TheVariants as key;
 ghost use Rattle.clr_item_explanations.specs.declared.fields.Wanted.TheVariants as wanted;
 ghost use Rattle.clr_item_explanations.specs.Fields.{wrong_value};
-ghost use Rattle.clr_item_explanations.specs.Rules.{rule_fields, wrong_literal, wrong_literal_pair, wrong_names_at, wrong_rule, wrong_rule_field};
+ghost use Rattle.clr_item_explanations.specs.Rules.{rule_fields, wrong_literal, wrong_literal_pair, wrong_names_at, wrong_rule, wrong_rule_field, wrong_rule_fields};
 ghost use Rattle.clr_item_explanations.specs.Rules.{wrong_side, wrong_side_at};
 ghost use Rattle.clr_item_explanations.specs.Tellings.{TellsIfAny, first_wrong, wrong_in_list};
 ghost use Rattle.clr_item_explanations.specs.Values.{text_at};
@@ -13,7 +13,9 @@ use crate::fields::{
     Wanted, explain_field, explain_fields, explain_value, explain_word_at, items_at, missing,
     text_at, value_slip,
 };
+use crate::known_needs::explain_known;
 use crate::slips::{Slip, below_any};
+use clr_office_reading::formats::Format;
 use clr_text_positions::{Key, PathStep};
 use serde_json::Value as Json;
 use std::alloc::{AllocError, Global};
@@ -197,13 +199,28 @@ fn explain_rule_fields(alloc: Global, json: &Json) -> Result<Option<Slip>, Alloc
     Ok(None)
 }
 
-/// Returns what is wrong with a rule that can't be read, or none where nothing is found.
+/// Returns what is wrong with the first field of a rule of its kind that can't be read, or else with its known needs.
+#[tactic(auto, using(crate::proofs::TellingLemmas::first_told, crate::proofs::TellingLemmas::behind_told))]
+fn explain_fields_and_needs(
+    alloc: Global,
+    json: &Json,
+    format: Format,
+) -> Result<Option<Slip>, AllocError>
+    ensures { IfOk result (TellsIfAny (wrong_rule_fields format (text_at key.Kind (view json.now)) (view json.now))) }
+{
+    if let Some(slip) = explain_rule_fields(alloc, json)? {
+        return Ok(Some(slip));
+    }
+    explain_known(alloc, json, format, text_at(json, Key::Kind))
+}
+
+/// Returns what is wrong with a rule of a text of a format that can't be read, or none where nothing is found.
 #[tactic(auto, using(crate::proofs::TellingLemmas::first_told, crate::proofs::TellingLemmas::behind_told), unfolding(crate::specs::Rules::wrong_rule))]
-pub fn explain_rule(alloc: Global, json: &Json) -> Result<Option<Slip>, AllocError>
-    ensures { IfOk result (TellsIfAny (wrong_rule (view json.now))) }
+pub fn explain_rule(alloc: Global, json: &Json, format: Format) -> Result<Option<Slip>, AllocError>
+    ensures { IfOk result (TellsIfAny (wrong_rule format (view json.now))) }
 {
     if let Some(slip) = explain_word_at(alloc, json, Key::Kind, KINDS)? {
         return Ok(Some(slip));
     }
-    explain_rule_fields(alloc, json)
+    explain_fields_and_needs(alloc, json, format)
 }

@@ -13,7 +13,9 @@ ghost use Rattle.clr_office_texts.specs.Drafts.{draft_in, opened_in};
 ghost use Rattle.clr_office_texts.specs.Writing.{bytes_of, text_naming};
 
 use clr_engine::{Broken, Draft, Office};
-use clr_office_writing::{JsonText, format_number, with_live, with_rules, with_tables, with_workspace};
+use clr_office_writing::{
+    JsonText, format_number, with_live, with_rules, with_tables, with_workspace,
+};
 use std::alloc::{AllocError, Global};
 
 /// Returns a text with the workspace at a position in order of creation written at its end, LIVE

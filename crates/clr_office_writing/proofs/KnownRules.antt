@@ -82,11 +82,11 @@ module _ (tables : List TableDef) (book : List Rule) (known : List Broken) where
 
     names_read : (n : ℕ) (r : Rule) → slice_get book n ≡ Some r
         → each (need_name_of (named_rule tables r)) (items_of (map need_data (of_rule n known))) ≡ Ok (map need_name (of_rule n known))
+    unfolding each
     names_read n r is = go (of_rule n known) (λ b listed. (each_fits n r is b listed).0)
       where
         go : (bs : List Broken) → ((b : Broken) → Among b bs → need_name_of (named_rule tables r) (need_data b) ≡ Ok (need_name b))
             → each (need_name_of (named_rule tables r)) (items_of (map need_data bs)) ≡ Ok (map need_name bs)
-        unfolding each
         go [] one = refl
         go (b ∷ bs) one = rw (one b (inl refl), go bs (λ c listed. one c (inr listed))) refl
 
@@ -106,7 +106,7 @@ module _ (tables : List TableDef) (book : List Rule) (known : List Broken) where
     others_follow n r rules follow = λ k q is. ap (slice_get book) (let e : suc n + k ≡ n + suc k = omega arith in e) ∙ follow (suc k) q is
 
     -- rules that are written with their known needs
-    abbrev pub with_needs : ℕ × Rule → _
+    abbrev pub with_needs : ℕ × Rule → Data
     with_needs r = named_rule_data (Some (of_rule r.0 known)) (named_rule tables r.1)
 
     pub stated_read : (n : ℕ) (rules : List Rule) → Follow n rules → AllByRecursion IsRuleWithin (map (named_rule tables) rules)

@@ -117,15 +117,15 @@ module _ (tables : List TableDef) (book : List Rule) (known : List Broken) (name
       rw (list_reread (λ z. is_i64 z ≡ true) number_data number_reread (need_numbers b)
       (numbers_within tables fits.of_rule b fits.first fits.kind fits.parts)) refl
 
-  needs_reread : (number : ℕ) → AreReread (known_of_rule known number)
-  needs_reread number = by known names.each
+  needs_reread : (n : ℕ) → AreReread (known_of_rule known n)
+  needs_reread n = by known names.each
     where
-      by : (bs : List Broken) → AllByRecursion (FitsRule tables book) bs → AreReread (known_of_rule bs number)
+      by : (bs : List Broken) → AllByRecursion (FitsRule tables book) bs → AreReread (known_of_rule bs n)
       by [] fits = tt
       by (b ∷ bs) fits =
-          let here = filter (λ c. c.rule == number) (b ∷ bs) in
+          let here = filter (λ c. c.rule == n) (b ∷ bs) in
           list_reread (FitsRule tables book) need_data need_reread here (all_by (FitsRule tables book) here (λ c listed.
-          each_of (FitsRule tables book) c (b ∷ bs) fits (among_kept (λ c. c.rule == number) c (b ∷ bs) listed).0))
+          each_of (FitsRule tables book) c (b ∷ bs) fits (among_kept (λ c. c.rule == n) c (b ∷ bs) listed).0))
 
   rules_reread : (n : ℕ) (rules : List Rule) → AllByRecursion IsRuleWithin (map (named_rule tables) rules)
       → of_items (items_outline (items_of (map (rule_data tables known) (enumerate_from n rules)))) ≡ Some (items_of (map (rule_data tables known)

@@ -42,6 +42,12 @@ fn write_need(text: &mut JsonText, need: &Broken) -> Result<(), AllocError>
     }
 }
 
+fn write_needs(text: &mut JsonText, needs: &[Broken]) -> Result<(), AllocError>
+    ensures { OnOk result (text.new ≡ text.old ++ tokens_of (list_data need_data needs.now)) }
+{
+    write_each::<Broken, _, _>(text, needs, write_need)
+}
+
 /// Writes the known needs of a rule with their key, where it has a list of these.
 pub fn write_known(text: &mut JsonText, known: Option<&[Broken]>) -> Result<(), AllocError>
     ensures { OnOk result (text.new ≡ text.old ++ known_tokens (option_map (λ v. v.now) known.entry)) }
@@ -50,7 +56,7 @@ pub fn write_known(text: &mut JsonText, known: Option<&[Broken]>) -> Result<(), 
         None => Ok(()),
         Some(needs) => {
             text.key("known")?;
-            write_each::<Broken, _, _>(text, needs, write_need)
+            write_needs(text, needs)
         }
     }
 }

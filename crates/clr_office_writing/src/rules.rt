@@ -263,8 +263,9 @@ fn write_rules(
     ensures { OnOk result (text.new ≡ text.old ++ tokens_of (rules_data schema.now book.now known.now)) }
 {
     let _small = book.len();
+    let rules = book.rules();
     text.begin_array()?;
-    for (number, rule) in book.rules().iter().enumerate() {
+    for (number, rule) in rules.iter().enumerate() {
         write_numbered(alloc, text, schema, known, number as u16, rule)?;
     }
     text.end_array()

@@ -82,12 +82,7 @@ pub fn known_part(number: i64) -> Result<u16, TextFault>
 /// Returns the need of a rule that a name is. Fails with `BadRule` where a key isn't 1 to 999,999,999,999,999, a part
 /// isn't 1 to 31, or the cells don't ascend.
 #[tactic(auto, unfolding(crate::specs::Known::known_need))]
-pub fn need(
-    schema: &Schema,
-    number: u16,
-    rule: &Rule,
-    name: &NeedName,
-) -> Result<Broken, TextFault>
+pub fn need(schema: &Schema, number: u16, rule: &Rule, name: &NeedName) -> Result<Broken, TextFault>
     ensures { result ≡ known_need schema.now number rule.now name.now }
 {
     let tables = subject_tables(rule);
