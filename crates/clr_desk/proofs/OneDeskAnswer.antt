@@ -27,7 +27,8 @@ use Rattle.clr_desk.specs.Geographic.{IsGeographicAnswer, options_of}
 use Rattle.clr_desk.specs.Merges.{IsHintedMerge, IsMergePrintout}
 use Rattle.clr_desk.specs.OneAnswer.{IsOnePrint, OneDeskAnswerLaw, is_whole, is_whole_layer}
 use Rattle.clr_desk.proofs.OneAnswer.{one_accept_print, one_accepted, one_mended_print}
-use Rattle.clr_desk.proofs.OneAnswer.{one_check_print, one_design, one_design_script, one_format_print, one_live, one_merge_print, one_of_layers, one_plan_print}
+use Rattle.clr_desk.proofs.OneAnswer.{one_check_print, one_design, one_design_script, one_format_print, one_live, one_merge_print, one_of_layers}
+use Rattle.clr_desk.proofs.OneAnswer.{one_plan_print}
 use Rattle.clr_desk.proofs.OneChoice.{one_choice_print}
 use Rattle.clr_desk.proofs.OnePrint.{one_hinted, one_in, one_of_case, one_of_draft}
 
@@ -43,7 +44,8 @@ one_geographic (geographic.Office tables rounded) office layers whole =
     one_in (IsOfficePrint (options_of 1 rounded) layers) (λ o. one_of_layers (options_of 1 rounded) layers IsPrintOfLive one_live o) (opened_in office)
 one_geographic (geographic.Design design) office layers whole =
     let options = options_of design.first_key design.is_rounded in
-    one_in (IsDesignPrint design.name options layers) (λ o. one_of_layers options layers (IsPrintOfDesign design.name) (one_design design.name) o) (opened_in office)
+    one_in (IsDesignPrint design.name options layers) (λ o. one_of_layers options layers (IsPrintOfDesign design.name) (one_design design.name) o)
+    (opened_in office)
 one_geographic (geographic.DesignScript design) office layers whole =
     let options = options_of design.first_key design.is_rounded in
     one_in (IsDesignScriptPrint design.name options layers)

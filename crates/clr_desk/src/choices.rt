@@ -13,9 +13,9 @@ use crate::certificates::plan_print;
 use crate::names_lines::names_line;
 use clr_cert::{Certificate, write_certificate};
 use clr_choices::{Choice, choose, plan_members};
-use clr_desk_prints::{Print, members_asked, notes_of, with_hints};
+use clr_desk_prints::{Print, answer_over_office, members_asked};
 use clr_engine::Office;
-use clr_office::{Plan, RunFault, Words, open_office, texts_of_names};
+use clr_office::{Plan, RunFault, Words, texts_of_names};
 use clr_rows::Schema;
 use std::alloc::{AllocError, Global};
 
@@ -76,11 +76,7 @@ pub fn answer_keep(
 ) -> Result<Print, RunFault>
     ensures { IsMadePrintout (IsPrintoutIn (IsHinted (IsChoicePrint root.now names.now) (root.now ∷ names.now)) (opened_in office.now)) result }
 {
-    match open_office(alloc, office) {
-        Ok(office) => {
-            let print = print_of_names(alloc, &office, root, names)?;
-            Ok(with_hints(alloc, &office, root, names, print)?)
-        }
-        Err(answer) => notes_of(alloc, answer),
-    }
+    answer_over_office(alloc, office, root, names, |office| {
+        print_of_names(alloc, office, root, names)
+    })
 }

@@ -2,4 +2,5 @@ pub mod ChildLemmas
 mod Codes
 pub mod Made
 pub mod OneHint
+pub mod OpeningLemmas
 pub mod PrintLemmas

@@ -12,7 +12,8 @@ use Rattle.clr_office_reports.specs.Printing.{IsOutput as AreLinesMade, IsPrintI
 use Rattle.clr_process_io.specs.declared.faults.RunFault.{RunFault}
 use Rattle.clr_process_io.specs.declared.faults.RunFault.TheVariants as run_fault
 use Rattle.clr_office_reports.specs.declared.outputs.Output.{Output}
-use Rattle.clr_desk_prints.specs.Printing.{AreLinesAsNotes, IsMadePrintout, IsPrintoutFault, IsPrintoutIn, IsPrintoutOfCase, PrintoutOrFault, as_notes, of_fault}
+use Rattle.clr_desk_prints.specs.Printing.{AreLinesAsNotes, IsMadePrintout, IsPrintoutFault, IsPrintoutIn, IsPrintoutOfCase, PrintoutOrFault, as_notes}
+use Rattle.clr_desk_prints.specs.Printing.{of_fault}
 use Rattle.clr_desk_prints.specs.Printing.{of_why, unless_lost}
 use Rattle.clr_desk_prints.specs.declared.prints.Print.{Print}
 
