@@ -155,10 +155,6 @@ const DESK: ProgramTable<'static> = ProgramTable {
                 ),
                 LAYERS,
                 ROUND,
-                Argument::Flag(
-                    "accept",
-                    "Accept what is broken then, so that it is known in the office",
-                ),
             ],
         },
         Subcommand {

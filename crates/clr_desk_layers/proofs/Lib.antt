@@ -1,4 +1,3 @@
 pub mod LayerLemmas
 pub mod LayersAgain
-mod RelaidLemmas
 pub mod ScriptLemmas

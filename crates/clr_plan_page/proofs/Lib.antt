@@ -1,4 +1,3 @@
 mod ClashLemmas
-mod ErrorLemmas
 mod SectionLemmas
 mod TrialLemmas
