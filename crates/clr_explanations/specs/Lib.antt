@@ -1,9 +1,9 @@
 pub mod FaultWords
 pub mod Items
 pub mod KnownNeeds
-pub mod Names
 pub mod Places
 pub mod Readings
 pub mod Remarks
+pub mod RepeatedCells
 pub mod Standing
 pub mod WrongItems

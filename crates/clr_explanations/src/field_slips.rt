@@ -33,7 +33,7 @@ fn slip_of_format(alloc: Global, json: &Json) -> Result<Option<Slip>, AllocError
 
 /// Returns what is wrong with the format of a text, or else with the first of its lists that isn't
 /// one.
-#[tactic(auto, using(clr_item_explanations::proofs::TellingLemmas::first_told, clr_item_explanations::proofs::TellingLemmas::behind_told), unfolding(crate::specs::WrongItems::wrong_text))]
+#[tactic(auto, using(clr_item_explanations::proofs::TellingLemmas::one_after_another), unfolding(crate::specs::WrongItems::wrong_text))]
 fn slip_of_text(alloc: Global, json: &Json) -> Result<Option<Slip>, AllocError>
     ensures { IfOk result (TellsIfAny (wrong_text (view json.now))) }
 {

@@ -18,15 +18,12 @@ mod inner_slips;
 mod items;
 mod known_slips;
 mod laws;
-mod lists;
 mod offices;
 mod places;
 mod readings;
 mod repeated;
-mod rule_names;
 mod spots;
 mod standing;
-mod unknown_names;
 
 pub use fault_words::office_fault_words;
 pub use laws::paths_lead_to_values;

@@ -50,7 +50,7 @@ fn is_name(kind: &str, json: &Json) -> bool
 }
 
 /// Returns what is wrong with the name of a need in a rule of a kind.
-#[tactic(auto, using(crate::proofs::TellingLemmas::right_if, crate::proofs::TellingLemmas::wrong_else), unfolding(crate::specs::KnownNeeds::wrong_name))]
+#[tactic(auto, using(crate::proofs::TellingLemmas::right_or_wrong), unfolding(crate::specs::KnownNeeds::wrong_name))]
 fn explain_name(alloc: Global, kind: &str, json: &Json) -> Result<Option<Slip>, AllocError>
     ensures { IfOk result (TellsIfAny (wrong_name kind.now (view json.now))) }
 {
@@ -61,7 +61,7 @@ fn explain_name(alloc: Global, kind: &str, json: &Json) -> Result<Option<Slip>, 
 }
 
 /// Returns what is wrong with the first known need of a rule of a kind that can't be read.
-#[tactic(auto, using(crate::proofs::ListLemmas::from_first, crate::proofs::ListLemmas::item_right, crate::proofs::ListLemmas::item_wrong, crate::proofs::ListLemmas::all_right))]
+#[tactic(auto, using(crate::proofs::ListLemmas::items_in_turn))]
 fn explain_names(alloc: Global, kind: &str, json: &Json) -> Result<Option<Slip>, AllocError>
     ensures { IfOk result (TellsIfAny (wrong_in_list key.Known (λ at name. wrong_name kind.now name) (view json.now))) }
 {
@@ -75,7 +75,7 @@ fn explain_names(alloc: Global, kind: &str, json: &Json) -> Result<Option<Slip>,
 }
 
 /// Returns what is wrong with the list of known needs of a rule of a kind, or with the first of them that can't be read.
-#[tactic(auto, using(crate::proofs::TellingLemmas::first_told, crate::proofs::TellingLemmas::behind_told))]
+#[tactic(auto, using(crate::proofs::TellingLemmas::one_after_another))]
 fn explain_list(alloc: Global, kind: &str, json: &Json) -> Result<Option<Slip>, AllocError>
     ensures { IfOk result (TellsIfAny (wrong_known Fourth kind.now (view json.now))) }
 {

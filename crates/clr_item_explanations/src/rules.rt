@@ -70,7 +70,7 @@ fn rule_fields(json: &Json) -> &'static [RuleField]
 }
 
 /// Returns what is wrong with the name and the value of a literal.
-#[tactic(auto, using(crate::proofs::TellingLemmas::first_told, crate::proofs::TellingLemmas::behind_told))]
+#[tactic(auto, using(crate::proofs::TellingLemmas::one_after_another))]
 fn explain_literal_pair(
     alloc: Global,
     name: &Json,
@@ -87,7 +87,7 @@ fn explain_literal_pair(
 }
 
 /// Returns what is wrong with a literal, which is the name of a column and a value.
-#[tactic(auto, using(crate::proofs::ItemLemmas::literal_no_pair, crate::proofs::ItemLemmas::literal_pair, crate::proofs::ItemLemmas::literal_no_list))]
+#[tactic(auto, using(crate::proofs::ItemLemmas::pair_or_none), unfolding(crate::specs::Rules::wrong_literal))]
 fn explain_literal(alloc: Global, json: &Json) -> Result<Option<Slip>, AllocError>
     ensures { IfOk result (TellsIfAny (wrong_literal (view json.now))) }
 {
@@ -105,7 +105,7 @@ fn explain_literal(alloc: Global, json: &Json) -> Result<Option<Slip>, AllocErro
 }
 
 /// Returns what is wrong with the first literal of a side that can't be read.
-#[tactic(auto, using(crate::proofs::ListLemmas::from_first, crate::proofs::ListLemmas::item_right, crate::proofs::ListLemmas::item_wrong, crate::proofs::ListLemmas::all_right))]
+#[tactic(auto, using(crate::proofs::ListLemmas::items_in_turn))]
 fn explain_literals(alloc: Global, json: &Json) -> Result<Option<Slip>, AllocError>
     ensures { IfOk result (TellsIfAny (wrong_in_list key.Where (λ at literal. wrong_literal literal) (view json.now))) }
 {
@@ -119,7 +119,7 @@ fn explain_literals(alloc: Global, json: &Json) -> Result<Option<Slip>, AllocErr
 }
 
 /// Returns what is wrong with a side that can't be read.
-#[tactic(auto, using(crate::proofs::TellingLemmas::first_told, crate::proofs::TellingLemmas::behind_told), unfolding(crate::specs::Rules::wrong_side))]
+#[tactic(auto, using(crate::proofs::TellingLemmas::one_after_another), unfolding(crate::specs::Rules::wrong_side))]
 fn explain_side(alloc: Global, json: &Json) -> Result<Option<Slip>, AllocError>
     ensures { IfOk result (TellsIfAny (wrong_side (view json.now))) }
 {
@@ -146,7 +146,7 @@ fn explain_side_at(alloc: Global, json: &Json, key: Key) -> Result<Option<Slip>,
 }
 
 /// Returns what is wrong with the first item of a list that is no text.
-#[tactic(auto, using(crate::proofs::ListLemmas::from_first, crate::proofs::ListLemmas::item_right, crate::proofs::ListLemmas::item_wrong, crate::proofs::ListLemmas::all_right))]
+#[tactic(auto, using(crate::proofs::ListLemmas::items_in_turn))]
 fn explain_names(alloc: Global, json: &Json, key: Key) -> Result<Option<Slip>, AllocError>
     ensures { IfOk result (TellsIfAny (wrong_in_list key (λ at name. wrong_value wanted.Text name) (view json.now))) }
 {
@@ -160,7 +160,7 @@ fn explain_names(alloc: Global, json: &Json, key: Key) -> Result<Option<Slip>, A
 }
 
 /// Returns what is wrong with a list of columns that can't be read.
-#[tactic(auto, using(crate::proofs::TellingLemmas::first_told, crate::proofs::TellingLemmas::behind_told), unfolding(crate::specs::Rules::wrong_names_at))]
+#[tactic(auto, using(crate::proofs::TellingLemmas::one_after_another), unfolding(crate::specs::Rules::wrong_names_at))]
 fn explain_columns(alloc: Global, json: &Json, key: Key) -> Result<Option<Slip>, AllocError>
     ensures { IfOk result (TellsIfAny (wrong_names_at key (view json.now))) }
 {
@@ -200,7 +200,7 @@ fn explain_rule_fields(alloc: Global, json: &Json) -> Result<Option<Slip>, Alloc
 }
 
 /// Returns what is wrong with the first field of a rule of its kind that can't be read, or else with its known needs.
-#[tactic(auto, using(crate::proofs::TellingLemmas::first_told, crate::proofs::TellingLemmas::behind_told))]
+#[tactic(auto, using(crate::proofs::TellingLemmas::one_after_another))]
 fn explain_fields_and_needs(
     alloc: Global,
     json: &Json,
@@ -215,7 +215,7 @@ fn explain_fields_and_needs(
 }
 
 /// Returns what is wrong with a rule of a text of a format that can't be read, or none where nothing is found.
-#[tactic(auto, using(crate::proofs::TellingLemmas::first_told, crate::proofs::TellingLemmas::behind_told), unfolding(crate::specs::Rules::wrong_rule))]
+#[tactic(auto, using(crate::proofs::TellingLemmas::one_after_another), unfolding(crate::specs::Rules::wrong_rule))]
 pub fn explain_rule(alloc: Global, json: &Json, format: Format) -> Result<Option<Slip>, AllocError>
     ensures { IfOk result (TellsIfAny (wrong_rule format (view json.now))) }
 {

@@ -141,8 +141,8 @@ module _ (tables : List TableDef) (ask : Ask) (s : Held) (fit : row_fault tables
           kind = of_two (max a.table b.table) found.1;
           parts = record { some_first = one.0; first = one.1; some_second = two.0; second = two.1 };
         }
-    two_fit (Partner subject columns server server_columns) e = absurd (false≢true (and_parts (are_of None None s t) _ e).0)
-    two_fit (EndNode subject tip server) e = absurd (false≢true (and_parts (are_of None None s t) _ e).0)
+    two_fit (Partner subject columns server server_columns) e = absurd (false≢true e)
+    two_fit (EndNode subject tip server) e = absurd (false≢true e)
 
   -- a second row, if there is one
   fits_by : (view : Content) → FitsSchema tables view → (rule : Rule) (t : Option Held) → StandsBeside (row_at view) s t → are_subjects rule ask s t ≡ true

@@ -65,16 +65,17 @@ with_rises b (c ∷ cs) rising = by (broken_cmp b c) refl (with_rises b cs risin
   where
     by : (r : Ordering) → broken_cmp b c ≡ r → IsStrictlySortedBy broken_cmp (with_need b cs)
         → IsStrictlySortedBy broken_cmp (match_ordering r (b ∷ c ∷ cs) (c ∷ cs) (c ∷ with_need b cs))
-    unfolding IsStrictlySortedBy
     by Less is more = (
-      (is, all_by (λ y. broken_cmp b y ≡ Less) cs (λ y listed.
-          broken_total.trans b c y is (each_of (λ y. broken_cmp c y ≡ Less) y cs rising.0 listed))),
+      (
+        is,
+        all_by (λ y. broken_cmp b y ≡ Less) cs (λ y listed.
+            broken_total.trans b c y is (each_of (λ y. broken_cmp c y ≡ Less) y cs rising.0 listed)),
+      ),
       rising,
     )
     by Equal is more = rising
     by Greater is more =
-        let below : broken_cmp c b ≡ Less = broken_total.antisymm c b ∙ ap ordering_reverse is in
-        (
+        let below : broken_cmp c b ≡ Less = broken_total.antisymm c b ∙ ap ordering_reverse is in (
           all_by (λ y. broken_cmp c y ≡ Less) (with_need b cs) (λ y listed. elim (in_with b y cs listed) [
             | inl e ↦ subst (λ (y : Broken). broken_cmp c y ≡ Less) e below
             | inr there ↦ each_of (λ y. broken_cmp c y ≡ Less) y cs rising.0 there

@@ -22,10 +22,10 @@ use Rattle.clr_ordered_needs.specs.Later.{AreIdle, Changes, Fate, Gone, IsLater,
 -- members that change a cell ------------------------------------------------------------------------------
 
 module _ {A : Type 0} (c : Setting A) where
-  idle_or_changed : (x : A) (q : CellId) (row : Option Row) → AreIdle c q → Changes c x q row → ⊥
+  pub idle_or_changed : (x : A) (q : CellId) (row : Option Row) → AreIdle c q → Changes c x q row → ⊥
   idle_or_changed x q row idle changed = false≢true (ap is_some (sym (idle x changed.member)) ∙ ap is_some changed.after)
 
-  changes_of : (x : A) (q : CellId) → has c.same c.members x ≡ true → is_some (c.after x q) ≡ true → (row : Option Row) × Changes c x q row
+  pub changes_of : (x : A) (q : CellId) → has c.same c.members x ≡ true → is_some (c.after x q) ≡ true → (row : Option Row) × Changes c x q row
   changes_of x q member changes = by (c.after x q) refl changes
     where
       by : (r : Option (Option Row)) → c.after x q ≡ r → is_some r ≡ true → (row : Option Row) × Changes c x q row

@@ -4,6 +4,7 @@ pub mod CarriedNeeds
 pub mod CoverLaws
 pub mod EmptyOrder
 pub mod HelpLaws
+pub mod Lists
 pub mod OrderedAgreement
 pub mod OrderedPositions
 pub mod Sequences

@@ -1,6 +1,6 @@
 -- Members merged one after another: those up to a position have come in turn, and members that have come in turn are those up to a position.
-use Rattle.std.proofs.Common.{◌≡◌, ◌∙◌, ◌≤◌, ℕ, zero, suc, Bool, true, false, ◌||◌, cond, List, [], ◌∷◌, ◌⊎◌, inl, inr, refl, sym, ap, subst, arith}
-use Rattle.std.proofs.Common.{Option, Some, None, slice_get, take, unwrap_or}
+use Rattle.std.proofs.Common.{◌≡◌, ◌∙◌, ◌≤◌, ℕ, zero, suc, Bool, true, false, ◌||◌, cond, List, [], ◌∷◌, inl, inr, refl, sym, ap, subst, arith}
+use Rattle.std.proofs.Common.{Option, Some, None, take, unwrap_or}
 use Rattle.std.proofs.lemmas.Bool.{cases_Bool, false≢true, true≢false, or_cases, or_left, or_right}
 use Rattle.clr_rows.specs.declared.cells.CellId.{CellId}
 use Rattle.clr_rules.specs.Needs.{BreaksNoMore, View}
@@ -13,34 +13,10 @@ use Rattle.clr_ordered_needs.specs.Laws.{MergesInListAreTold}
 use Rattle.clr_ordered_needs.specs.Turns.{Order, IsTransitive, ListsAll, is_earlier}
 use Rattle.clr_ordered_needs.proofs.BreakLaws.{uncovered_breaks}
 use Rattle.clr_ordered_needs.proofs.CoverLaws.{each_breaks_no_more}
-use Rattle.clr_ordered_needs.proofs.UpToBlockers.{alike, up_to_blockers_are_listed}
+use Rattle.clr_ordered_needs.proofs.Lists.{AreOnce, alike, stands_once}
+use Rattle.clr_ordered_needs.proofs.UpToBlockers.{up_to_blockers_are_listed}
 
 module _ {A : Type 0} (c : Setting A) where
-  -- no member stands twice in a list
-  abbrev pub AreOnce : List A → Type 0
-  AreOnce [] = Unit {0}
-  AreOnce (x ∷ xs) = (has c.same xs x ≡ false) × AreOnce xs
-
-  pub stands_once : (xs : List A) → ((j k : ℕ) (x : A) → slice_get xs j ≡ Some x → slice_get xs k ≡ Some x → j ≡ k) → AreOnce xs
-  stands_once [] differ = tt
-  stands_once (x ∷ xs) differ = (
-    out (has c.same xs x) refl,
-    stands_once xs (λ j k y e f. (let one : suc j ≡ suc k = differ (suc j) (suc k) y e f in omega (arith, one))),
-  )
-    where
-      at : (ys : List A) → has c.same ys x ≡ true → (k : ℕ) × (slice_get ys k ≡ Some x)
-      at [] h = absurd (false≢true h)
-      at (y ∷ ys) h = by (or_cases (c.same y x) (has c.same ys x) h) (at ys)
-        where
-          by : (c.same y x ≡ true) ⊎ (has c.same ys x ≡ true) → (has c.same ys x ≡ true → (k : ℕ) × (slice_get ys k ≡ Some x))
-              → (k : ℕ) × (slice_get (y ∷ ys) k ≡ Some x)
-          by (inl same) more = (zero, ap Some ((c.decides y x).0 same))
-          by (inr behind) more = let (k, e) = more behind in (suc k, e)
-
-      out : (b : Bool) → has c.same xs x ≡ b → b ≡ false
-      out false e = refl
-      out true e = let (k, f) = at xs e in let one : zero ≡ suc k = differ zero (suc k) x refl f in absurd (omega (arith, one))
-
   -- one after another ----------------------------------------------------------------------------
 
   pub later_there : (xs : List A) (n p : A) → is_earlier c.same xs n p ≡ true → has c.same xs p ≡ true
@@ -62,7 +38,7 @@ module _ {A : Type 0} (c : Setting A) where
       by false e g more = or_right (c.same x n) (has c.same xs n) (more g)
 
   -- a member that stands once stands nowhere behind itself
-  not_behind : (x : A) (xs : List A) (p : A) → AreOnce (x ∷ xs) → c.same x p ≡ true → has c.same xs p ≡ true → ⊥
+  not_behind : (x : A) (xs : List A) (p : A) → AreOnce c (x ∷ xs) → c.same x p ≡ true → has c.same xs p ≡ true → ⊥
   not_behind x xs p once same h = true≢false (sym h ∙ sym (alike c (has c.same xs) x p same) ∙ once.0)
 
   -- who is earlier among the rest is earlier
@@ -73,7 +49,7 @@ module _ {A : Type 0} (c : Setting A) where
       by true = later_there xs n p h
       by false = h
 
-  transitive : (xs : List A) → AreOnce xs → IsTransitive (is_earlier c.same xs)
+  transitive : (xs : List A) → AreOnce c xs → IsTransitive (is_earlier c.same xs)
   transitive [] once m n p h k = absurd (false≢true h)
   transitive (x ∷ xs) once m n p h k = by (c.same x m) refl h (c.same x n) refl k (transitive xs once.1 m n p)
     where
@@ -87,7 +63,7 @@ module _ {A : Type 0} (c : Setting A) where
       by false e g false f j more = more g j
 
   -- the members up to a position have come in turn
-  pub first_in_turn : (xs : List A) → AreOnce xs → (k : ℕ) (n p : A) → is_earlier c.same xs n p ≡ true → has c.same (take k xs) p ≡ true
+  pub first_in_turn : (xs : List A) → AreOnce c xs → (k : ℕ) (n p : A) → is_earlier c.same xs n p ≡ true → has c.same (take k xs) p ≡ true
       → has c.same (take k xs) n ≡ true
   first_in_turn [] once k n p goes h = absurd (false≢true goes)
   first_in_turn (x ∷ xs) once zero n p goes h = absurd (false≢true h)
@@ -105,7 +81,7 @@ module _ {A : Type 0} (c : Setting A) where
   abbrev AreFirst : (A → Bool) → List A → ℕ → Type 0
   AreFirst s xs k = (y : A) → has c.same xs y ≡ true → s y ≡ has c.same (take k xs) y
 
-  are_first : (s : A → Bool) (xs : List A) → AreOnce xs → ((n p : A) → is_earlier c.same xs n p ≡ true → s p ≡ true → s n ≡ true) → (k : ℕ) × AreFirst s xs k
+  are_first : (s : A → Bool) (xs : List A) → AreOnce c xs → ((n p : A) → is_earlier c.same xs n p ≡ true → s p ≡ true → s n ≡ true) → (k : ℕ) × AreFirst s xs k
   are_first s [] once closed = (0, λ y h. absurd (false≢true h))
   are_first s (x ∷ xs) once closed = elim (cases_Bool (s x)) [
     | inl merged ↦ (let (k, first) = are_first s xs once.1 (λ n p goes. closed n p (earlier_too x xs n p goes)) in (suc k, with_head merged k first))
@@ -164,8 +140,8 @@ module _ {A : Type 0} (c : Setting A) where
     abbrev goes_first : Order A
     goes_first = is_earlier c.same list
 
-    differ : AreOnce list
-    differ = stands_once list all.once
+    differ : AreOnce c list
+    differ = stands_once c list all.once
 
     firsts_are_members : (k : ℕ) → AreAmong c (take k list) c.members
     firsts_are_members k x h = sym (all.members x) ∙ first_among list k x h

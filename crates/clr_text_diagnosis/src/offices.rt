@@ -77,12 +77,7 @@ pub(crate) fn office_lines(
 }
 
 /// Returns what is found in a draft whose text names some needs as known.
-fn why_draft(
-    alloc: Global,
-    draft: Draft,
-    known: &[Broken],
-    text: &[u8],
-) -> Result<Why, AllocError>
+fn why_draft(alloc: Global, draft: Draft, known: &[Broken], text: &[u8]) -> Result<Why, AllocError>
     requires read { draft_in text.now ≡ Ok draft }
     requires names { known.now ≡ known_in text.now }
     ensures { IfOk result (IsOfficeWhy text.now) }

@@ -8,7 +8,7 @@ use Rattle.clr_office_texts.proofs.Standing.{too_many}
 use Rattle.clr_office_texts.proofs.WholeFits.{all_fit}
 use Rattle.clr_office_texts.proofs.reading.draft_text.Goals as goal
 
-pub returns-then-len-ge-MOST_WORKSPACES-clause-draft : goal.returns-then-len-ge-MOST_WORKSPACES
+pub returns-then-len-ge-MOST_WORKSPACES-clause-draft : goal.returns-then-len-ge-MOST_WORKSPACES-clause-draft
 returns-then-len-ge-MOST_WORKSPACES-clause-draft c =
     let deltas = map stored_delta c.args.read.workspaces.items in
     let count = length-map c.args.read.workspaces.items stored_delta in

@@ -1,4 +1,4 @@
-use Rattle.std.proofs.Common.{◌++◌, ap, ◌∙◌}
+use Rattle.std.proofs.Common.{◌++◌, SFits, w64, to_z-of_z, ap, ◌∙◌, rules}
 use Rattle.clr_office_writing.specs.CellData.{live_data}
 use Rattle.clr_office_writing.specs.OfficeData.{office_data}
 use Rattle.clr_office_writing.specs.RuleData.{rules_data}
@@ -13,7 +13,8 @@ pub returns : goal.returns
 unfolding office_data
 returns c =
     let s = c.schema-schema.ensures.value in
-    let format = c.in_ok-number.ensures.ok ∙ ap (λ z. c.key.new.self ++ tokens_of (number_data z)) c.format_number.ensures in
+    let fits : SFits w64 c.format_number.result = search rules in
+    let format = c.in_ok-number.ensures.ok ∙ ap (λ z. c.key.new.self ++ tokens_of (number_data z)) (to_z-of_z fits ∙ c.format_number.ensures) in
     let live = c.in_ok-text-2.ensures ∙ (λ i. c.key-2.new.self ++ tokens_of (live_data (s i) (c.live.ensures.value i))) in
     let rules = c.in_ok-text-3.ensures ∙ (λ i. c.key-3.new.self ++ tokens_of (rules_data (s i) (c.book.ensures.value i) c.args.known.now)) in
     let tables = c.in_ok-text-4.ensures ∙ ap (λ x. c.key-4.new.self ++ tokens_of (list_data table_data x)) s in

@@ -3,10 +3,10 @@ use Rattle.clr_rules.specs.declared.needs.Broken.{Broken}
 use Rattle.clr_engine.specs.Drafts.{unheld_in}
 use Rattle.clr_text_diagnosis.proofs.offices.why_draft.Goals as goal
 
-pub returns-in-None : goal.returns-in-None
-returns-in-None c =
+pub returns : goal.returns
+returns c =
     let named = ap (λ (known : List Broken). unheld_in c.args.draft known) (sym c.requires.names) in
-    (c.args.draft, c.requires.read, named ∙ sym c.in_ok-unheld.ensures ∙ c.in-None.is)
+    (c.args.draft, c.requires.read, named ∙ sym c.in_ok-position.ensures ∙ c.in-None.is)
 
 pub returns-in-Some : goal.returns-in-Some
 returns-in-Some c =
@@ -16,6 +16,6 @@ returns-in-Some c =
       position = c.in-Some.position;
       need = c.in-Some.need;
       read = c.requires.read;
-      unheld = named ∙ sym c.in_ok-unheld.ensures ∙ c.in-Some.is;
-      told = c.in_ok-lines.ensures;
+      unheld = named ∙ sym c.in_ok-position.ensures ∙ c.in-Some.is;
+      told = c.in_ok-lines-in-Some.ensures;
     }
