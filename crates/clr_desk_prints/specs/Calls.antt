@@ -8,8 +8,13 @@ use Rattle.clr_desk_prints.specs.Printing.{PrintoutOrFault, printed}
 use Rattle.clr_desk_prints.specs.declared.prints.Print.{Print}
 
 -- a call at an office may answer a print of this
-abbrev pub PrintsOffice : {E : Type 0} → (Office → Result Print E → Office → Type 0) → Office → PrintoutOrFault → Type 0
-PrintsOffice answers o out = (print : Print) × (left : Office) × answers o (Ok print) left × (out ≡ printed print)
+pub record PrintsOffice {E : Type 0} (answers : MutBor Office → Result Print E → MutBor Office → Type 0) (o : Office) (out : PrintoutOrFault) : Type 0 where
+  pub shown : MutBor Office
+  pub shows : shown.now ≡ o
+  pub print : Print
+  pub left : MutBor Office
+  pub met : answers shown (Ok print) left
+  pub prints : out ≡ printed print
 
 -- a call at an office and members may answer a print of this
 pub record PrintsOf {E : Type 0} (answers : MutBor Office → Bor (List (Bor (List ℕ))) → Result Print E → MutBor Office → Type 0)

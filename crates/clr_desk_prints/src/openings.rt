@@ -1,6 +1,5 @@
 //! Answers over the office of a text: what a call prints of it, and hints at names behind its notes.
 ghost use Rattle.std.specs.Prelude.{◌∷◌, IfOk};
-ghost use Rattle.std.specs.Fn.{FnOnceReturnsAtMut};
 ghost use Rattle.clr_office_texts.specs.Drafts.{opened_in};
 ghost use Rattle.clr_desk_prints.specs.Calls.{PrintsAsked, PrintsOf, PrintsOffice};
 ghost use Rattle.clr_desk_prints.specs.Members.{members_or_children};
@@ -22,7 +21,7 @@ fn hinted_print<F: FnOnce(&mut Office) -> Result<Print, AllocError>>(
     print: F,
 ) -> Result<Print, AllocError>
     requires { F.IsAlwaysCallable print }
-    ensures { IfOk result (λ p. IsHinted (PrintsOffice (FnOnceReturnsAtMut F.FnOnce print)) (root.now ∷ names.now) office.old (printed p)) }
+    ensures { IfOk result (λ p. IsHinted (PrintsOffice (F.post print)) (root.now ∷ names.now) office.old (printed p)) }
 {
     let lines = hint_lines(alloc, office, root, names)?;
     let bare = print(office)?;
@@ -40,7 +39,7 @@ pub fn answer_over_office<F: FnOnce(&mut Office) -> Result<Print, AllocError>>(
     print: F,
 ) -> Result<Print, RunFault>
     requires { F.IsAlwaysCallable print }
-    ensures { IsMadePrintout (IsPrintoutIn (IsHinted (PrintsOffice (FnOnceReturnsAtMut F.FnOnce print)) (root.now ∷ names.now)) (opened_in office.now)) result }
+    ensures { IsMadePrintout (IsPrintoutIn (IsHinted (PrintsOffice (F.post print)) (root.now ∷ names.now)) (opened_in office.now)) result }
 {
     match open_office(alloc, office) {
         Ok(mut office) => Ok(hinted_print(alloc, &mut office, root, names, print)?),

@@ -1,6 +1,6 @@
 -- The fault that the reader drops is told.
 use Rattle.std.proofs.Common.{◌≡◌, ℕ, List, Option, Some, None, Result, Ok, Err, refl, string_bytes, subst, sym}
-use Rattle.std.specs.Prelude.{IsErr, MatchOption, option_map}
+use Rattle.std.specs.Prelude.{IsErr, MatchOption}
 use Rattle.serde_json.specs.Data.{Data}
 use Rattle.clr_rows.specs.declared.tables.TableDef.{TableDef}
 use Rattle.clr_rows.specs.declared.faults.RowFault.{RowFault}

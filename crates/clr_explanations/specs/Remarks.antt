@@ -1,5 +1,5 @@
 -- What is said of a fault of an office text.
-use Rattle.std.specs.Prelude.{◌≡◌, ◌≤◌, ℕ, List, [], length, string_bytes, Option, Some, None, Ok, MatchOption, option_map, unwrap_or}
+use Rattle.std.specs.Prelude.{◌≡◌, ◌≤◌, ℕ, List, [], length, string_bytes, Some, None, Ok, MatchOption, option_map, unwrap_or}
 use Rattle.serde_json.specs.Data.{Data}
 use Rattle.clr_rows.specs.declared.tables.TableDef.{TableDef}
 use Rattle.clr_rows.specs.declared.faults.SchemaFault.{SchemaFault}

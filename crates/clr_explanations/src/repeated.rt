@@ -3,7 +3,7 @@ ghost use Rattle.std.specs.Prelude.{◌≡◌, ◌≤◌, Some, IfOk, MatchOptio
 ghost use Rattle.serde_json.specs.View.{view};
 ghost use Rattle.clr_item_explanations.specs.Slips.{said};
 ghost use Rattle.clr_explanations.specs.Items.{place_in_list};
-ghost use Rattle.clr_explanations.specs.Places.{path_text, steps_to};
+ghost use Rattle.clr_explanations.specs.Places.{steps_to};
 ghost use Rattle.clr_explanations.specs.RepeatedCells.{IsAloneWithCell, IsFirstOf, IsFirstWithCell, IsPlaceInWords, NoneBefore, TellsFirst};
 ghost use Rattle.clr_explanations.specs.RepeatedCells.{TellsRepeatedCell, cell_at, place_words_at};
 

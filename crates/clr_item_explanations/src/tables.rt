@@ -1,5 +1,5 @@
 //! Tables that can't be read.
-ghost use Rattle.std.specs.Prelude.{◌≡◌, IfOk};
+ghost use Rattle.std.specs.Prelude.{IfOk};
 ghost use Rattle.serde_json.specs.View.{view};
 ghost use Rattle.clr_text_positions.specs.declared.paths.Key.TheVariants as key;
 ghost use Rattle.clr_item_explanations.specs.Tables.{wrong_column, wrong_column_pair, wrong_paths, wrong_table};

@@ -27,6 +27,7 @@ reversed r e = ap ordering_reverse e
 pub in_with : (b x : Broken) (cs : List Broken) → Among x (with_need b cs) → (b ≡ x) ⊎ Among x cs
 unfolding with_need
 in_with b x [] (inl e) = inl e
+in_with b x [] (inr h) = absurd h
 in_with b x (c ∷ cs) h = by (broken_cmp b c) (λ k. in_with b x cs k) h
   where
     by : (r : Ordering) → (Among x (with_need b cs) → (b ≡ x) ⊎ Among x cs) → Among x (match_ordering r (b ∷ c ∷ cs) (c ∷ cs) (c ∷ with_need b cs))

@@ -1,5 +1,5 @@
 -- The needs that an office breaks now: they are those that a call lists, each is known where all are, and each can be written.
-use Rattle.std.proofs.Common.{◌≡◌, inl, inr, ℕ, suc, Bool, true, false, cond, not, List, [], ◌∷◌, length, filter, Contains, Option, Some, None, refl, sym, ap, ◌∙◌}
+use Rattle.std.proofs.Common.{◌≡◌, inl, inr, ℕ, zero, suc, Bool, true, false, cond, not, List, [], ◌∷◌, length, filter, Contains, Option, Some, None, refl, sym, ap, ◌∙◌}
 use Rattle.std.specs.Prelude.{slice_get}
 use Rattle.std.specs.List.{AllByRecursion}
 use Rattle.std.specs.Option.{option_map, option_or}
@@ -52,23 +52,23 @@ module _ (o : Office) where
 -- where each is known, none is the first that isn't
 none_beside : (known needs : List Broken) → ((b : Broken) → Among b needs → Among b known) → first_beside known needs ≡ None
 unfolding first_beside
-none_beside known needs all = ap (λ (bs : List Broken). slice_get bs 0) (none needs all)
+none_beside known needs each = ap (λ (bs : List Broken). slice_get bs 0) (none needs each)
   where
     none : (bs : List Broken) → ((b : Broken) → Among b bs → Among b known) → filter (λ b. not (is_known known b)) bs ≡ []
-    none [] all = refl
-    none (b ∷ bs) all = let is : true ≡ is_known known b = told_known known b true (contained b known (all b (inl refl))) in
-        rw (sym is) (none bs (λ c h. all c (inr h)))
+    none [] each = refl
+    none (b ∷ bs) each = let is : true ≡ is_known known b = told_known known b true (contained b known (each b (inl refl))) in
+        rw (sym is) (none bs (λ c h. each c (inr h)))
 
 none_unknown : (book : List Rule) (known : List Broken) (at : ℕ) (ws : List Workspace) → ((b : Broken) → Among b (broken_in_kept book ws) → Among b known)
     → unknown_from book known at ws ≡ None
 unfolding unknown_from broken_in_kept
-none_unknown book known at [] all = refl
-none_unknown book known at (w ∷ ws) all =
-    rw (none_unknown book known (suc at) ws (λ b h. all b (from_second (cond w.kept (broken_needs book w.current) []) b (broken_in_kept book ws) h)))
-    (by w.kept (λ b h. all b (from_first (cond w.kept (broken_needs book w.current) []) b (broken_in_kept book ws) h)))
+none_unknown book known at [] each = refl
+none_unknown book known at (w ∷ ws) each =
+    rw (none_unknown book known (suc at) ws (λ b h. each b (from_second (cond w.kept (broken_needs book w.current) []) b (broken_in_kept book ws) h)))
+    (by w.kept (λ b h. each b (from_first (cond w.kept (broken_needs book w.current) []) b (broken_in_kept book ws) h)))
   where
     by : (kept : Bool) → ((b : Broken) → Among b (cond kept (broken_needs book w.current) []) → Among b known)
-        → option_or (option_map (λ need. (at, need)) (cond kept (first_beside known (broken_needs book w.current)) None)) None ≡ None
+        → option_or {T = ℕ × Broken} (option_map (λ need. (at, need)) (cond kept (first_beside known (broken_needs book w.current)) None)) None ≡ None
     by true listed = rw (none_beside known (broken_needs book w.current) listed) refl
     by false listed = refl
 

@@ -1,5 +1,5 @@
 //! Tables that can be read and make no schema.
-ghost use Rattle.std.specs.Prelude.{◌≡◌, ◌++◌, codes, map, string_bytes, take, IfOk};
+ghost use Rattle.std.specs.Prelude.{◌≡◌, map, string_bytes, take, IfOk};
 ghost use Rattle.serde_json.specs.View.{view};
 ghost use Rattle.clr_text_positions.specs.declared.paths.Key.TheVariants as key;
 ghost use Rattle.clr_rows.specs.Schemas.{is_column_name};
