@@ -38,7 +38,6 @@ use Rattle.clr_layer_changes.specs.declared.options.LayerOptions.{LayerOptions}
 use Rattle.clr_desk_layers.specs.Designs as designs
 use Rattle.clr_desk_layers.specs.Designs.{IsPrintOfAccepted, IsPrintOfDesign, IsPrintOfLayers, IsPrintOfLive, IsPrintOfScript, faulty_layer_printout, refusal_print, text_print}
 use Rattle.clr_rules.specs.declared.needs.Broken.{Broken}
-use Rattle.clr_rules.specs.Needs.{broken_cmp}
 use Rattle.clr_rules.proofs.BrokenOrder.{broken_total}
 use Rattle.clr_rules.proofs.Elements.{Among, among, contained, same_rising}
 use Rattle.clr_designs.specs.Designs.{with_live}
@@ -202,7 +201,7 @@ one_accept_print o print other (text, accepted, is) (text_too, accepted_too, is_
 
 same_mended : (o : Office) (known list other : List Broken) → AreMended o known list → AreMended o known other → list ≡ other
 same_mended o known list other one two =
-    same_rising broken_cmp broken_total list other one.ascending two.ascending (passed list other one two) (passed other list two one)
+    same_rising broken_total list other one.ascending two.ascending (passed list other one two) (passed other list two one)
   where
     passed : (xs ys : List Broken) → AreMended o known xs → AreMended o known ys → (x : Broken) → Among x xs → Among x ys
     passed xs ys here there x h = among x ys ((there.exactly x).1 ((here.exactly x).0 (contained x xs h)))
