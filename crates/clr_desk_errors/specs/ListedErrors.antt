@@ -1,5 +1,5 @@
 -- The broken needs of LIVE as they are listed: whether each is known, where it is, and the few words that a map would say there.
-use Rattle.std.specs.Prelude.{◌≡◌, Bool, false, not, List, [], ◌∷◌, map, All, Option, Some, None, option_map, string_bytes}
+use Rattle.std.specs.Prelude.{◌≡◌, Bool, false, not, List, [], ◌∷◌, map, All, Option, None, option_map, string_bytes}
 use Rattle.std.specs.List.{list_any}
 use Rattle.std.specs.Option.{option_and_then, option_map_or, option_or}
 use Rattle.clr_rows.specs.declared.cells.CellId.{CellId}

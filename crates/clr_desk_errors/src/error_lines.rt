@@ -1,10 +1,10 @@
 //! The broken needs of LIVE as lines.
 
-ghost use Rattle.std.specs.Prelude.{◌≡◌, ◌++◌, filter, map, string_bytes, IfOk, OnOk};
+ghost use Rattle.std.specs.Prelude.{◌≡◌, ◌++◌, filter, map, IfOk, OnOk};
 ghost use Rattle.std.specs.List.{flat_map};
 ghost use Rattle.clr_desk_errors.specs.ErrorLines.{error_line, error_text, errors_text, known_word, place_words, row_line, rule_errors};
 ghost use Rattle.clr_desk_errors.specs.ErrorLines.{IsErrorsPrint};
-ghost use Rattle.clr_desk_errors.specs.ListedErrors.{AreListed, is_any_unknown};
+ghost use Rattle.clr_desk_errors.specs.ListedErrors.{is_any_unknown};
 ghost use Rattle.clr_old_errors.specs.RuleCounts.{is_of_rule};
 ghost use Rattle.clr_office_reading.specs.Offices.{known_in};
 ghost use Rattle.clr_office_texts.specs.Drafts.{draft_in};
