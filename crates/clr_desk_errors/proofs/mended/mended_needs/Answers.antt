@@ -1,6 +1,5 @@
 use Rattle.std.proofs.Common.{subst, sym}
 use Rattle.std.specs.List.Sorted.{IsStrictlySortedBy}
-use Rattle.clr_rules.specs.declared.needs.Broken.{Broken}
 use Rattle.clr_rules.specs.Needs.{broken_cmp}
 use Rattle.clr_engine.specs.BrokenNow.{AreBrokenNow}
 use Rattle.clr_desk_errors.proofs.MendedLemmas.{are_mended}
