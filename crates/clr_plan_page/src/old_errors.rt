@@ -4,7 +4,7 @@ ghost use Rattle.std.specs.Prelude.{◌≡◌, ◌++◌, map, IfOk, OnOk};
 ghost use Rattle.std.specs.List.{enumerate_from, flat_map};
 ghost use Rattle.clr_html.specs.Words.{words_of_row};
 ghost use Rattle.clr_html.specs.declared.blocks.Block.TheVariants as block;
-ghost use Rattle.clr_plan_page.specs.OldErrors.{AreErrorsShown, AreOldErrors, IsErrorsSection, TellsErrors, error_rows};
+ghost use Rattle.clr_plan_page.specs.OldErrors.{AreErrorsShown, AreOldErrors, IsErrorsSection, error_rows};
 
 use crate::sections::{Builder, row_of, table_of};
 use clr_html::{Block, Section, Table, TableRow};

@@ -1,7 +1,7 @@
 //! What is said of a need that is broken already.
 
 ghost use Rattle.std.specs.Prelude.{◌≡◌, ◌++◌, IfOk, OnOk, option_map, string_bytes};
-ghost use Rattle.clr_plan_sentences.specs.OldErrors.{asked_anew, change_words, changed_rows, is_old, left_words, need_at, old_text, second_change_words};
+ghost use Rattle.clr_plan_sentences.specs.OldErrors.{asked_anew, change_words, changed_rows, is_old, left_words, need_at, old_text};
 ghost use Rattle.clr_merge_sets.specs.MemberChanges.{set_of};
 
 use crate::labels::add_label;

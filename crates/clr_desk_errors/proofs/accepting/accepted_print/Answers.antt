@@ -1,4 +1,4 @@
-use Rattle.std.proofs.Common.{false, ℕ, List, ap, subst, sym, ◌∙◌}
+use Rattle.std.proofs.Common.{false, ℕ, List, ap, subst, ◌∙◌}
 use Rattle.clr_steps.specs.Offices.{Office}
 use Rattle.clr_desk_errors.specs.Accepting.{IsAccepted, accepted_text}
 use Rattle.clr_desk_prints.specs.Printing.{printout_of}
