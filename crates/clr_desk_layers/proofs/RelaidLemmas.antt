@@ -1,5 +1,5 @@
 -- What is read of the text of a draft, with another content of LIVE.
-use Rattle.std.proofs.Common.{◌≡◌, ◌<◌, ◌∷◌, ℕ, List, Option, Some, None, Result, Ok, length, ap, refl, sym, ◌∙◌, arith}
+use Rattle.std.proofs.Common.{◌≡◌, ◌<◌, ◌∷◌, ℕ, List, Option, Some, None, Result, Ok, length, ap, sym, ◌∙◌, arith}
 use Rattle.clr_rows.specs.Contents.{Changes, Content, changes, taken_over}
 use Rattle.clr_rows.specs.Schemas.{FitsSchema}
 use Rattle.clr_rows.proofs.ChangeLemmas.{taken_over-own}
