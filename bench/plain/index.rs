@@ -2,7 +2,7 @@
 use crate::geometry::Place;
 use crate::rows::{Cell, Held, Shared, Value};
 use crate::rules::{Broken, Column, Need, Rule, end_of};
-use std::collections::HashMap;
+use std::collections::{HashMap, HashSet};
 use std::hash::{BuildHasherDefault, Hash, Hasher};
 
 const SQUARE: i64 = 100_000;
@@ -300,14 +300,14 @@ pub fn audit(rules: &[Rule], rows: &[FiledRow]) -> Vec<Broken> {
     list
 }
 
-/// The rows of a content by their spots, for each rule; or the least broken need.
-pub fn index_or_broken(rules: &[Rule], rows: &[FiledRow]) -> Result<Vec<RuleIndex>, Broken> {
+/// The rows of a content by their spots, for each rule; or the least broken need that isn't known.
+pub fn index_or_broken(rules: &[Rule], known: &HashSet<Broken>, rows: &[FiledRow]) -> Result<Vec<RuleIndex>, Broken> {
     let mut indexes = Vec::new();
     for (number, rule) in rules.iter().enumerate() {
         let index = RuleIndex::of(rule, rows);
         let mut least: Option<Broken> = None;
         index.each_broken(number as u16, rule, rows, &mut |broken| {
-            if least.is_none_or(|it| broken < it) {
+            if least.is_none_or(|it| broken < it) && !known.contains(&broken) {
                 least = Some(broken);
             }
         });

@@ -21,14 +21,14 @@ use tree::{LIVE, Office};
 /// Lines, and whether nothing was refused; none where a text can't be read.
 type Answer = Option<(String, bool)>;
 
-/// Makes the indexes of LIVE and of each kept workspace, or tells which need is broken there.
+/// Makes the indexes of LIVE and of each kept workspace, or tells which need is broken there that isn't known.
 fn admit(office: &mut Office) -> Result<(), String> {
     for at in 0..office.spaces.len() {
         if at != LIVE && !office.spaces[at].is_kept {
             continue;
         }
         let name = if at == LIVE { String::new() } else { format!("{} ", office.spaces[at].name) };
-        let indexes = index::index_or_broken(&office.rules, &office.rows(at));
+        let indexes = index::index_or_broken(&office.rules, &office.known, &office.rows(at));
         let indexes = indexes.map_err(|broken| format!("unheld {name}{}\n", clearance::broken_text(&office.schema, broken)))?;
         office.spaces[at].index = Some(indexes);
     }

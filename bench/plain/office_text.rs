@@ -2,9 +2,9 @@
 use crate::geometry::Place;
 use crate::json::{NotJson, Read, Reader, push_text};
 use crate::rows::{Cell, Form, Kind, Row, Schema, Shared, Table, Value};
-use crate::rules::{Column, Rule, Side};
+use crate::rules::{Broken, Column, Need, Rule, Side};
 use crate::tree::{LIVE, Layer, Mark, Office, Space};
-use std::collections::{BTreeMap, HashMap};
+use std::collections::{BTreeMap, HashMap, HashSet};
 
 fn demand(is_so: bool) -> Read<()> {
     if is_so { Ok(()) } else { Err(NotJson) }
@@ -107,6 +107,7 @@ struct RuleText {
     sides: HashMap<String, (String, Vec<(String, Value)>)>,
     columns: HashMap<String, Vec<String>>,
     distance: i64,
+    known: Vec<Vec<i64>>,
 }
 
 fn side_text(reader: &mut Reader) -> Read<(String, Vec<(String, Value)>)> {
@@ -130,6 +131,7 @@ fn rule_text(reader: &mut Reader) -> Read<RuleText> {
             "subject" | "server" | "a" | "b" => _ = rule.sides.insert(key.into(), side_text(reader)?),
             "columns" | "server_columns" => _ = rule.columns.insert(key.into(), list(reader, text)?),
             "d" => rule.distance = reader.int()?,
+            "known" => rule.known = if_of_form(reader, |reader| list(reader, |reader| list(reader, |reader| reader.int())))?.unwrap_or_default(),
             _ => reader.skip()?,
         }
         Ok(())
@@ -171,6 +173,18 @@ impl RuleText {
             "NEAR" => Rule::Near { a: side("a")?, b: side("b")?, distance: self.distance },
             _ => return Err(NotJson),
         })
+    }
+
+    /// The needs of the rule of this number that are known to be broken.
+    fn known(&self, number: usize, rule: &Rule) -> Read<Vec<Broken>> {
+        let (low, high) = rule.tables();
+        let part = |known: &[i64], at: usize| known.get(at).map_or(Ok(1), |part| u8::try_from(*part).map_err(|_| NotJson));
+        let need = |known: &Vec<i64>| {
+            let first = Cell { table: low, key: *known.first().ok_or(NotJson)? };
+            let second = known.get(1).map(|key| Cell { table: high, key: *key });
+            Ok(Need { rule: number as u16, first, second, parts: (part(known, 2)?, part(known, 3)?) })
+        };
+        self.known.iter().map(need).collect()
     }
 
     fn push_to(&self, to: &mut String) {
@@ -223,7 +237,7 @@ fn workspace(reader: &mut Reader, office: &mut Office, format: i64) -> Read<()> 
             "base" => space.base = layer(reader, &office.schema)?,
             "rows" => space.current = layer(reader, &office.schema)?,
             "marks" => space.marks = list(reader, |reader| mark(reader, &office.schema))?,
-            "kept" if format == 3 => space.is_kept = reader.bool()?,
+            "kept" if format >= 3 => space.is_kept = reader.bool()?,
             _ => reader.skip()?,
         }
         Ok(())
@@ -272,8 +286,12 @@ pub fn read(bytes: &[u8]) -> Read<Office> {
     let rows = list(&mut field("live").ok_or(NotJson)?, row)?;
     let count = rows.len();
     let live: BTreeMap<Cell, Shared> = rows.into_iter().collect();
-    demand(live.len() == count && (1..=3).contains(&format))?;
-    let mut office = Office { schema, rules, tables_text, rules_text, live, spaces: vec![Space::new("LIVE", LIVE)] };
+    demand(live.len() == count && (1..=4).contains(&format))?;
+    let mut known = HashSet::new();
+    for (number, (text, rule)) in rule_texts.iter().zip(&rules).enumerate().filter(|_| format == 4) {
+        known.extend(text.known(number, rule)?);
+    }
+    let mut office = Office { schema, rules, known, tables_text, rules_text, live, spaces: vec![Space::new("LIVE", LIVE)] };
     if let Some(mut reader) = field("workspaces") {
         reader.list(|reader| workspace(reader, &mut office, format))?;
     }
@@ -355,7 +373,7 @@ fn push_workspace(to: &mut String, office: &Office, space: &Space) {
     to.push('}');
 }
 
-/// Puts the office in format 3, in one line, behind what is there.
+/// Puts the office in format 3, in one line, behind what is there. Needs that are broken aren't named.
 pub fn push(to: &mut String, office: &Office) {
     to.push_str("{\"format\":3,\"live\":");
     push_list(to, &office.live, |to, (cell, row)| push_cell(to, &office.schema, *cell, Some(row)));

@@ -69,6 +69,14 @@ impl Rule {
         }
     }
 
+    /// The tables of the first and of the second subject of a need, in the order of cells.
+    pub fn tables(&self) -> (u16, u16) {
+        match self {
+            Rule::Unique { subject, .. } | Rule::Partner { subject, .. } | Rule::EndNode { subject, .. } => (subject.table, subject.table),
+            Rule::Crossing { a, b, .. } | Rule::Near { a, b, .. } => (a.table.min(b.table), a.table.max(b.table)),
+        }
+    }
+
     pub fn is_subject(&self, held: Held) -> bool {
         match self {
             Rule::Unique { subject, .. } | Rule::Partner { subject, .. } | Rule::EndNode { subject, .. } => subject.has(held),

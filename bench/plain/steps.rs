@@ -5,8 +5,10 @@ use crate::geometry::Place;
 use crate::index::{audit, index_or_broken};
 use crate::office_text;
 use crate::rows::{Cell, Form, Held, Kind, Row, Schema, Shared, Value, key_fault};
+use crate::rules::Broken;
 use crate::scene::Scene;
 use crate::tree::{Change, LIVE, Layer, Mark, Office, Space};
+use std::collections::HashSet;
 
 const MOST_SPACES: usize = 256;
 const MOST_LEVELS: usize = 8;
@@ -177,8 +179,13 @@ fn roll_all(office: &mut Office, at: usize) -> Done {
 
 fn refresh(office: &mut Office, at: usize) -> Done {
     demand_no_conflict(office, at)?;
-    let changes = demand_rules(office, at, office.changes_of_refresh(at))?;
     let parent = office.spaces[at].parent;
+    let mut changes = office.changes_of_refresh(at);
+    if office.spaces[parent].index.is_none() {
+        changes = demand_rules(office, at, changes)?;
+    } else if office.spaces[at].index.is_some() {
+        demand_rules(office, parent, office.changes(at))?;
+    }
     office.spaces[at].drop_savepoints();
     office.make(at, changes);
     for cell in office.spaces[at].base.keys().copied().collect::<Vec<_>>() {
@@ -233,9 +240,20 @@ fn mark(office: &mut Office, at: usize, name: &str) -> Done {
     Ok(())
 }
 
+/// The needs that the parent breaks, if the rules are to hold there, with rows that a workspace has too.
+fn broken_above(office: &Office, at: usize) -> HashSet<Broken> {
+    let parent = office.spaces[at].parent;
+    if office.spaces[parent].index.is_none() {
+        return HashSet::new();
+    }
+    let is_same = |cell: Cell| office.row(parent, cell) == office.row(at, cell);
+    let broken = audit(&office.rules, &office.rows(parent)).into_iter();
+    broken.filter(|need| is_same(need.first) && need.second.is_none_or(is_same)).collect()
+}
+
 fn hold(office: &mut Office, at: usize) -> Done {
     if !office.spaces[at].is_kept {
-        let indexes = index_or_broken(&office.rules, &office.rows(at)).map_err(|broken| format!("12 RuleBroken {}", broken_text(&office.schema, broken)))?;
+        let indexes = index_or_broken(&office.rules, &broken_above(office, at), &office.rows(at)).map_err(|broken| format!("12 RuleBroken {}", broken_text(&office.schema, broken)))?;
         office.spaces[at].index = Some(indexes);
         office.spaces[at].is_kept = true;
     }

@@ -1,8 +1,8 @@
 // LIVE and the workspaces over it, stored by their differences: docs/MODEL.md, Workspaces.
 use crate::index::{FiledRow, RuleIndex};
 use crate::rows::{Cell, Schema, Shared};
-use crate::rules::Rule;
-use std::collections::BTreeMap;
+use crate::rules::{Broken, Rule};
+use std::collections::{BTreeMap, HashSet};
 
 /// Rows to lie over a content at some cells; none where no row stands.
 pub type Layer = BTreeMap<Cell, Option<Shared>>;
@@ -35,6 +35,8 @@ pub struct Change {
 pub struct Office {
     pub schema: Schema,
     pub rules: Vec<Rule>,
+    /// The needs that the text names as broken: only for them an office may be opened though it breaks them.
+    pub known: HashSet<Broken>,
     pub tables_text: String,
     pub rules_text: String,
     pub live: BTreeMap<Cell, Shared>,

@@ -1,5 +1,4 @@
 pub mod ItemLemmas
 pub mod ListLemmas
-pub mod RowLemmas
 pub mod TellingLemmas
 pub mod ValueLemmas

@@ -1,0 +1,11 @@
+pub mod AnswersInTurn
+pub mod HeadlineLemmas
+pub mod LastingLemmas
+pub mod ListedLemmas
+pub mod NumberLemmas
+pub mod OrderLemmas
+pub mod Prefixes
+pub mod RunLemmas
+pub mod SafeLemmas
+pub mod Standing
+pub mod TurnLemmas

@@ -1,0 +1,6 @@
+pub mod Headlines
+pub mod Laws
+pub mod MergeSets
+pub mod Runs
+pub mod Safety
+pub mod Turns

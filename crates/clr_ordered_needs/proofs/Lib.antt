@@ -1,0 +1,13 @@
+pub mod BreakLaws
+pub mod CarriedCovers
+pub mod CarriedNeeds
+pub mod CoverLaws
+pub mod EmptyOrder
+pub mod HelpLaws
+pub mod Lists
+pub mod OrderedAgreement
+pub mod OrderedPositions
+pub mod Sequences
+pub mod StateLaws
+pub mod TurnLives
+pub mod UpToBlockers
