@@ -2,6 +2,7 @@
 ghost use Rattle.std.specs.Prelude.{◌≡◌, unwrap_or, Ok, IfOk, Option};
 ghost use Rattle.serde_json.specs.Data.{Data};
 ghost use Rattle.serde_json.specs.View.{view};
+ghost use Rattle.clr_office_reading.specs.Offices.{format_of};
 ghost use Rattle.clr_item_explanations.specs.Tellings.{Tells, TellsIfAny, Wrong};
 ghost use Rattle.clr_explanations.specs.Items.{item_at_spot};
 ghost use Rattle.clr_explanations.specs.WrongItems.{unknown};
@@ -115,19 +116,33 @@ fn slip_of_rule(
     }
 }
 
-/// Returns why a rule can't stand over the schema.
-#[tactic(auto, using(crate::proofs::NamedFaults::names_bad_rule, crate::proofs::NamedFaults::no_format_of_rules, crate::proofs::NamedFaults::no_tables))]
-pub fn rule_slip(alloc: Global, json: &Json, spot: FaultyItem) -> Result<Slip, AllocError>
+/// Returns why a rule of a text of this format can't stand over the schema.
+#[tactic(auto, using(crate::proofs::NamedFaults::names_bad_rule, crate::proofs::NamedFaults::no_tables))]
+fn rule_slip_in(
+    alloc: Global,
+    json: &Json,
+    spot: FaultyItem,
+    format: Format,
+) -> Result<Slip, AllocError>
+    requires { format_of (view json.now) ≡ Ok format }
     ensures { IfOk result (λ slip. TellsBadRule (view json.now) spot (said slip)) }
 {
-    let Some(format) = format_in(json)? else {
-        return slip_or_unknown(alloc, None);
-    };
     match schema_in(alloc, json)? {
         Some(schema) => {
             let slip = slip_of_rule(alloc, json, spot, format, &schema)?;
             Ok(slip)
         }
+        None => slip_or_unknown(alloc, None),
+    }
+}
+
+/// Returns why a rule can't stand over the schema.
+#[tactic(auto, using(crate::proofs::NamedFaults::no_format_of_rules))]
+pub fn rule_slip(alloc: Global, json: &Json, spot: FaultyItem) -> Result<Slip, AllocError>
+    ensures { IfOk result (λ slip. TellsBadRule (view json.now) spot (said slip)) }
+{
+    match format_in(json)? {
+        Some(format) => rule_slip_in(alloc, json, spot, format),
         None => slip_or_unknown(alloc, None),
     }
 }
