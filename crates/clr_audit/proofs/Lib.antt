@@ -6,3 +6,4 @@ pub mod LeastLaws
 pub mod MeetingLaws
 pub mod NeedLaws
 pub mod RoleFiled
+pub mod UnknownLaws

@@ -6,6 +6,7 @@
 //!   filed by spot and by the side that they are of; subjects are held against subjects alone, and
 //!   a server is looked for among servers alone. That this misses none stands on the laws of shared
 //!   spots.
+//! - `first_unknown`: the least broken need that isn't among some that are known, whatever their order.
 //! - `is_seen_to_hold`, over a finder that has the rows of a content: where it is true, every rule holds.
 //!   Where it is false, nothing is said. For each row it looks up, by the spots that the finder keeps, the
 //!   rows that may stand beside it and those that may serve it. That no pair is missed stands on the laws
@@ -17,6 +18,8 @@ mod part_servers;
 mod quick_audits;
 mod role_index;
 mod searching;
+mod unknown_needs;
 
 pub use audits::{audit, first_broken};
 pub use quick_audits::is_seen_to_hold;
+pub use unknown_needs::first_unknown;

@@ -2,16 +2,15 @@
 use Rattle.std.specs.Prelude.{◌≡◌, ℕ, List, Option, Some, None, Result, Ok, Err}
 use Rattle.clr_rules.specs.declared.needs.Broken.{Broken}
 use Rattle.clr_steps.specs.Offices.{Office}
-use Rattle.clr_engine.specs.Drafts.{unheld_in}
 use Rattle.clr_cert.specs.declared.certificates.Certificate.{Certificate}
 use Rattle.clr_cert.specs.declared.faults.CertFault.{CertFault}
 use Rattle.clr_cert.specs.Certificates.{certificate_in}
 use Rattle.clr_rule_text.specs.declared.faults.TextFault.{TextFault}
-use Rattle.clr_office_texts.specs.Drafts.{draft_in}
+use Rattle.clr_office_texts.specs.Drafts.{Opened, opened_in}
 use Rattle.clr_check.specs.declared.cases.CaseFault.{CaseFault}
 use Rattle.clr_check.specs.declared.cases.CaseFault.TheVariants as fault
 
--- an office in which every rule holds that is to hold, and a certificate of it; or why the texts don't give both
+-- an office whose broken needs are known, and a certificate of it; or why the texts don't give both
 abbrev pub Case : Type 0
 Case = Result (Office × Certificate) CaseFault
 
@@ -20,19 +19,19 @@ abbrev pub with_certificate : Office → Result Certificate (ℕ × CertFault) �
 with_certificate o (Ok c) = Ok (o, c)
 with_certificate o (Err e) = Err (fault.BadCertificate e.0 e.1)
 
--- the office with the certificate, unless a rule doesn't hold in LIVE or in a workspace that is kept
+-- the office with the certificate, unless LIVE or a workspace that is kept breaks a need that isn't known
 abbrev pub where_held : Office → List ℕ → Option (ℕ × Broken) → Case
 where_held o certificate None = with_certificate o (certificate_in o.schema certificate)
 where_held o certificate (Some unheld) = Err (fault.Unheld o unheld.0 unheld.1)
 
--- the office's text, then the rules, and then the certificate's text
-abbrev pub of_draft : List ℕ → Result Office TextFault → Case
-of_draft certificate (Ok o) = where_held o certificate (unheld_in o)
+-- the office's text, then its broken needs, and then the certificate's text
+abbrev pub of_draft : List ℕ → Opened → Case
+of_draft certificate (Ok (o, unheld)) = where_held o certificate unheld
 of_draft certificate (Err e) = Err (fault.BadOffice e)
 
--- what two texts give, or the first that fails of the office's text, the rules and the certificate's text
+-- what two texts give, or the first that fails of the office's text, its broken needs and the certificate's text
 unfoldable pub case_of : List ℕ → List ℕ → Case
-case_of office certificate = of_draft certificate (draft_in office)
+case_of office certificate = of_draft certificate (opened_in office)
 
 -- why texts don't give an office and a certificate, or that no memory was found
 abbrev pub IsCaseFault : Case → CaseFault → Type 0

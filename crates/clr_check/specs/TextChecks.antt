@@ -16,7 +16,7 @@ use Rattle.clr_check.specs.declared.checked.Checked.{Checked}
 use Rattle.clr_check.specs.declared.checked.Checked.TheVariants as checked
 
 -- the verdict on a certificate, or want of memory where no test of names fails. Where it is clear, the members are safe, as the headline
--- says in one sentence, every rule holds in the root with the changes of any of them, and a run of quiet commands is a cleared one
+-- says in one sentence, the root with the changes of any of them breaks no need but those that it breaks itself, and a run of quiet commands is a cleared one
 pub record IsCheckedVerdict (o : Office) (c : Certificate) (v : Verdict) : Type 0 where
   pub answer : IsCheckAnswer o (merge_set_of c) (entries_in c.entries) v
   pub free : v ≡ verdict.Clear → StaysFree o (merge_set_of c)

@@ -14,8 +14,8 @@ use std::alloc::Global;
 pub enum CaseFault {
     /// The office text is no office.
     BadOffice(TextFault),
-    /// A rule doesn't hold in the draft of the office text: the position of the first workspace
-    /// that breaks one, and its least broken need. LIVE has position 0, and then come those that
+    /// The draft of the office text breaks a need that the text doesn't name as known: the position of the first workspace
+    /// that breaks one, and its least such need. LIVE has position 0, and then come those that
     /// are kept, in order of creation.
     Unheld {
         draft: Draft,
@@ -45,12 +45,17 @@ fn with_certificate(
     }
 }
 
-/// Returns the office of a draft, whose rules may not hold, with the certificate of a text.
-fn admit_with(alloc: Global, draft: Draft, text: &[u8]) -> Result<(Office, Certificate), CaseFault>
-    ensures case { IfOk result (λ given. where_held draft text.now (unheld_in draft) ≡ Ok (given.0, given.1)) }
-    ensures fault { IfErr result (IsCaseFault (where_held draft text.now (unheld_in draft))) }
+/// Returns the office of a draft, of which some needs are known to be broken, with the certificate of a text.
+fn admit_with(
+    alloc: Global,
+    draft: Draft,
+    known: &[Broken],
+    text: &[u8],
+) -> Result<(Office, Certificate), CaseFault>
+    ensures case { IfOk result (λ given. where_held draft text.now (unheld_in draft known.now) ≡ Ok (given.0, given.1)) }
+    ensures fault { IfErr result (IsCaseFault (where_held draft text.now (unheld_in draft known.now))) }
 {
-    match draft.admit() {
+    match draft.admit(known) {
         Ok(office) => with_certificate(alloc, office, text),
         Err((draft, fault)) => match fault {
             AdmitFault::Broken { position, need } => Err(CaseFault::Unheld {
@@ -63,10 +68,10 @@ fn admit_with(alloc: Global, draft: Draft, text: &[u8]) -> Result<(Office, Certi
     }
 }
 
-/// Reads an office text, in which every rule is to hold in LIVE and in each workspace that is kept,
+/// Reads an office text, in which each need that is broken in LIVE or in a workspace that is kept is known,
 /// and the text of a certificate of it. Fails with the first of `BadOffice`, `Unheld` and
 /// `BadCertificate` that applies, or with `OutOfMemory`.
-#[tactic(auto, unfolding(crate::specs::Cases::case_of))]
+#[tactic(auto, unfolding(crate::specs::Cases::case_of, clr_office_texts::specs::Drafts::opened_in))]
 pub fn read_case(
     alloc: Global,
     office: &[u8],
@@ -76,7 +81,7 @@ pub fn read_case(
     ensures fault { IfErr result (IsCaseFault (case_of office.now certificate.now)) }
 {
     match read_office(alloc, office) {
-        Ok(draft) => admit_with(alloc, draft, certificate),
+        Ok(read) => admit_with(alloc, read.draft, read.known.as_slice(), certificate),
         Err(TextFault::OutOfMemory) => Err(CaseFault::OutOfMemory),
         Err(fault) => Err(CaseFault::BadOffice(fault)),
     }

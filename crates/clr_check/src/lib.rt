@@ -3,14 +3,14 @@
 //!
 //! - `check` [`answer`, `free`, `safe`, `headline`, `runs`] gives the verdict on the certificate's
 //!   root, members and entries, or want of memory; it is never want of memory where the root isn't
-//!   kept or a test of names fails. Where it is Clear, every rule holds with the changes of any of
-//!   the members over the root, no other member is in conflict with those rows, the members are
-//!   *safe*, and the headline holds of them: in every list of commands that are quiet for them no
-//!   merge or refresh of a member meets a conflict or breaks a rule, every rule holds in the root
-//!   after each command, and after any two such lists that merge the same members the root has the
-//!   same rows. What `Office::perform_all` answers to quiet commands is then a cleared run. Nothing
-//!   is asked of the certificate: an entry that fits no need, or names no version, covers nothing
-//!   and does no harm.
+//!   kept or a test of names fails. Where it is Clear, the root with the changes of more of the
+//!   members over it breaks no need but those that it breaks with fewer; no other member is in
+//!   conflict with those rows, the members are *safe*, and the headline holds of them: in every list
+//!   of commands that are quiet for them no merge or refresh of a member meets a conflict or breaks
+//!   a need anew, and after any two such lists that merge the same members the root has the same
+//!   rows. If every rule holds in the root, it does after each command. What `Office::perform_all`
+//!   answers to quiet commands is then a cleared run. Nothing is asked of the certificate: an entry
+//!   that fits no need, or names no version, covers nothing and does no harm.
 //! - `perform_cleared` [`refused`, `unchanged`, `clear`, `start`, `run`]: an error is an answer of
 //!   the check that isn't Clear, and the office is unchanged. Otherwise the verdict was Clear.
 //!   `stopped` is the number of the first command that isn't quiet in the office in which it would
@@ -25,9 +25,10 @@
 //!   hold, with the certificate of another; or why the texts don't give both, memory aside: the
 //!   first of the office's text, the rules and the certificate's text that fails.
 //! - `check_texts` says, memory aside, exactly which of these fails first, and otherwise gives the
-//!   verdict, which may be want of memory. Where it is clear, every rule holds in the root with the
-//!   changes of any members over it, no other member is in conflict with those rows, the office is
-//!   safe for the members, and the headline holds of them. `judge_texts` [`case`, `verdict`,
+//!   verdict, which may be want of memory. Where it is clear, the root with the changes of more
+//!   members over it breaks no need but those that it breaks with fewer, no other member is in
+//!   conflict with those rows, the office is safe for the members, and the headline holds of them.
+//!   `judge_texts` [`case`, `verdict`,
 //!   `fault`] gives besides the office and the certificate, which a line names; by it the program
 //!   answers `check`.
 #![tactic(auto)]

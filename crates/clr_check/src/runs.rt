@@ -54,9 +54,9 @@ fn perform_quiet(
 
 /// Performs commands one after another where `check` of a certificate is clear, up to the first
 /// that isn't quiet for its root and members in the office in which it would be given. No merge or
-/// refresh of a member among them is answered by a conflict or a broken rule. Every rule holds in
-/// the root afterwards, and the root has the changes of the members whose merge was done over the
-/// rows that it had. Fails with a verdict that isn't clear, or with `OutOfMemory` where no memory
+/// refresh of a member among them is answered by a conflict or a broken rule. If every rule holds in
+/// the root, it does afterwards, and the root has the changes of the members whose merge was done
+/// over the rows that it had. Fails with a verdict that isn't clear, or with `OutOfMemory` where no memory
 /// is found for the check or the replies; then nothing changes.
 /// For example, under a certificate that clears `W1` and `W2` for LIVE, a merge of `W1`, an apply of no edits to LIVE
 /// and a merge of `W2` give the one reply `Done` and stop at 2, since an apply to LIVE isn't quiet. `W2` isn't merged.

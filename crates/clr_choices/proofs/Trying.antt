@@ -37,7 +37,8 @@ get_last (z ∷ zs) x y (suc at) e = elim (get_last zs x y at e) [
   | inr (same, front) ↦ inr (same, ap (λ l. z ∷ l) front)
 ]
 
-pub one_more_name : (names : List Name) (at : ℕ) (name : Name) → at < length names → name ≡ get_or names at name → take (at + 1) names ≡ take at names ++ name ∷ []
+pub one_more_name : (names : List Name) (at : ℕ) (name : Name) → at < length names → name ≡ get_or names at name
+    → take (at + 1) names ≡ take at names ++ name ∷ []
 one_more_name names at name less is = take_more names at name less ∙ ap (λ n. take at names ++ n ∷ []) (sym is)
 
 -- the last trial takes its name, or leaves it
@@ -101,9 +102,11 @@ module _ (o : Office) (root : Name) where
       (subst (λ d. IsPlanOf o (merge_set root cleared) (plan.Cleared d)) (sym certificate) planned))
 
   module _ (names : List Name) (name : Name) (old new : Progress) where
-    more_left : (ts : List Trial) (t : Trial) → left_text o.schema root t ≡ [] → flat_map (left_text o.schema root) (ts ++ t ∷ []) ≡ flat_map (left_text o.schema root) ts
+    more_left : (ts : List Trial) (t : Trial) → left_text o.schema root t ≡ []
+        → flat_map (left_text o.schema root) (ts ++ t ∷ []) ≡ flat_map (left_text o.schema root) ts
     more_left ts t none =
-        flat_map-append (left_text o.schema root) ts (t ∷ []) ∙ ap (λ (l : List ℕ). flat_map (left_text o.schema root) ts ++ l) (append-nil (left_text o.schema root t) ∙ none)
+        flat_map-append (left_text o.schema root) ts (t ∷ []) ∙ ap (λ (l : List ℕ). flat_map (left_text o.schema root) ts ++ l)
+        (append-nil (left_text o.schema root t) ∙ none)
         ∙ append-nil (flat_map (left_text o.schema root) ts)
 
     none_left : (ts : List Trial) (t : Trial) → is_taken t ≡ true → list_any (λ u. not (is_taken u)) (ts ++ t ∷ []) ≡ list_any (λ u. not (is_taken u)) ts

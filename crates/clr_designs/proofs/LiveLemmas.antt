@@ -67,7 +67,8 @@ module _ (o : Office) (content : Content) where
       → IsCommandAnswer o (Apply live_name (edits_between o.live content)) refused left → IsLiveReplaced o content refused left
   live_replaced fits content_fits left None done =
       let refusal_is = live_refusal fits content_fits in
-      let is = not_refused o (Apply live_name (edits_between o.live content)) left (λ h. never_done (first_newly_broken o.book o.live content) (sym refusal_is ∙ h)) done in
+      let is = not_refused o (Apply live_name (edits_between o.live content)) left
+      (λ h. never_done (first_newly_broken o.book o.live content) (sym refusal_is ∙ h)) done in
       (none_broken (first_newly_broken o.book o.live content) (sym refusal_is ∙ is.0), is.1 ∙ live_effect)
   live_replaced fits content_fits left (Some reply) refused =
       let broken = this_broken (first_newly_broken o.book o.live content) reply (sym (live_refusal fits content_fits) ∙ refused.0) in

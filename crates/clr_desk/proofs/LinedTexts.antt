@@ -1,12 +1,14 @@
 -- The text of a JSON value with the ends of lines is its text in lines.
-use Rattle.std.proofs.Common.{◌≡◌, ◌∙◌, ◌<◌, ◌≤◌, ◌+◌, ℕ, zero, suc, ℤ, pos, negsuc, ◌==◌, ◌&&◌, ◌/◌, ◌%◌, Bool, true, false, nat_lt, List, [], ◌∷◌, ◌++◌, ap, ap₂, arith, inl, inr}
+use Rattle.std.proofs.Common.{◌≡◌, ◌∙◌, ◌<◌, ◌≤◌, ◌+◌, ℕ, zero, suc, ℤ, pos, negsuc, ◌==◌, ◌&&◌, ◌/◌, ◌%◌, Bool, true, false, nat_lt, List, [], ◌∷◌, ◌++◌, ap}
+use Rattle.std.proofs.Common.{ap₂, arith, inl, inr}
 use Rattle.std.proofs.Common.{append_assoc, refl, subst, sym}
 use Rattle.std.specs.Fmt.{decimal, digit_glyph, digits, digits_onto, signed_decimal}
 use Rattle.std.specs.Str.{bytes_eq}
 use Rattle.std.proofs.lemmas.Bool.{and_parts, cases_eq, cases_lt, le-ltb, lt-ltb, ne_eqb}
 use Rattle.std.proofs.lemmas.Slice.Eq.{bytes_eq-Decides}
 use Rattle.json.specs.Print.{escape, escape_byte, quoted}
-use Rattle.serde_json.specs.Data.{Data, null, boolean, number, string, array, object, Items, no_items, item, Members, no_members, member, Num, unsigned, negative, float}
+use Rattle.serde_json.specs.Data.{Data, null, boolean, number, string, array, object, Items, no_items, item, Members, no_members, member, Num, unsigned}
+use Rattle.serde_json.specs.Data.{negative, float}
 use Rattle.serde_json.specs.Written.{compact_text, items_text, members_text, number_text}
 use Rattle.clr_desk.specs.declared.line_ends.JsonState.{JsonState}
 use Rattle.clr_desk.specs.declared.line_ends.JsonState.TheVariants.{Within, Escaped, Between}
@@ -48,7 +50,10 @@ low_stays (suc n) e x h =
     let p = and_parts (stays n) (stay_below n) e in
     elim (cases_eq x n) [
       | inl same ↦ (let q = and_parts (bytes_eq (lined_from Within 0 (escape_byte n)) (escape_byte n)) (is_within (place_of Within (escape_byte n))) p.0 in
-          subst Stays (sym same) (record { text = (bytes_eq-Decides (lined_from Within 0 (escape_byte n)) (escape_byte n)).0 q.0; place = within_is (place_of Within (escape_byte n)) q.1 }))
+          subst Stays (sym same) (record {
+            text = (bytes_eq-Decides (lined_from Within 0 (escape_byte n)) (escape_byte n)).0 q.0;
+            place = within_is (place_of Within (escape_byte n)) q.1;
+          }))
       | inr other ↦ low_stays n p.1 x (omega arith)
     ]
 
@@ -261,7 +266,8 @@ mutual
   lined_fields (member k d ms) later =
       let is = lined_value d in
       let rest = lined_fields ms true in
-      let field : (b : ℕ) → lined_from Between b (quoted k ++ 58 ∷ (compact_text d ++ members_text true ms)) ≡ quoted k ++ 58 ∷ (lined_text d ++ lined_members true ms) =
+      let field : (b : ℕ) → lined_from Between b (quoted k ++ 58 ∷ (compact_text d ++ members_text true ms))
+      ≡ quoted k ++ 58 ∷ (lined_text d ++ lined_members true ms) =
       λ b. lined-append Between b (quoted k) (58 ∷ (compact_text d ++ members_text true ms))
       ∙ ap₂ (λ (l m : List ℕ). l ++ m) (quoted_text k b)
       (ap (λ p. lined_from p (last_of b (quoted k)) (58 ∷ (compact_text d ++ members_text true ms))) (quoted_place k)
@@ -275,7 +281,8 @@ mutual
       ∙ last-append 58 (compact_text d) (members_text true ms) ∙ rest.last (last_of 58 (compact_text d)) in
       by_later later field place last
     where
-      by_later : (later : Bool) → ((b : ℕ) → lined_from Between b (quoted k ++ 58 ∷ (compact_text d ++ members_text true ms)) ≡ quoted k ++ 58 ∷ (lined_text d ++ lined_members true ms))
+      by_later : (later : Bool) → ((b : ℕ) → lined_from Between b (quoted k ++ 58 ∷ (compact_text d ++ members_text true ms))
+          ≡ quoted k ++ 58 ∷ (lined_text d ++ lined_members true ms))
           → place_of Between (quoted k ++ 58 ∷ (compact_text d ++ members_text true ms)) ≡ Between
           → ((b : ℕ) → last_of b (quoted k ++ 58 ∷ (compact_text d ++ members_text true ms)) ≡ 125)
           → AreLinedMembers later (member k d ms)

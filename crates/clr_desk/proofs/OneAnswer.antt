@@ -1,5 +1,6 @@
 -- What is asked of texts, and told whole, has one answer alone.
-use Rattle.std.proofs.Common.{◌≡◌, ◌≢◌, ◌∙◌, ◌||◌, ◌++◌, ◌∷◌, ℕ, zero, suc, Bool, true, false, cond, not, List, [], Option, Some, None, Ok, Err, ap, append-nil, append_assoc}
+use Rattle.std.proofs.Common.{◌≡◌, ◌∙◌, ◌||◌, ◌++◌, ◌∷◌, ℕ, zero, suc, Bool, true, false, cond, not, List, [], Option, Some, None, Ok, Err, ap, append-nil}
+use Rattle.std.proofs.Common.{append_assoc}
 use Rattle.std.proofs.Common.{codes, map, refl, slice_get, subst, sym, take}
 use Rattle.std.specs.List.{flat_map, list_any}
 use Rattle.std.proofs.lemmas.Bool.{true≢false}
@@ -22,7 +23,7 @@ use Rattle.clr_check.specs.Answers.{IsCheckAnswer}
 use Rattle.clr_merge_sets.specs.Certificates.{entries_in, merge_set_of}
 use Rattle.clr_merge_sets.specs.MergeSetNames.{merge_set}
 use Rattle.clr_lines.specs.Verdicts.{verdict_text}
-use Rattle.clr_office_texts.specs.Drafts.{draft_in}
+use Rattle.clr_office_texts.specs.Drafts.{opened_in}
 use Rattle.clr_merge_sets.specs.declared.plans.Plan.{Plan}
 use Rattle.clr_merge_sets.specs.declared.plans.Plan.TheVariants as plan
 use Rattle.clr_plan.specs.OnePlan.{AreAlike}
@@ -31,7 +32,7 @@ use Rattle.clr_plan.proofs.OnePlanLemmas.{one_plan}
 use Rattle.clr_plan.specs.PlanLines.{blocked_text, cleared_text, plan_text}
 use Rattle.clr_office.specs.Clearances.{is_without_memory}
 use Rattle.clr_office.specs.Outcomes.{IsPlanned}
-use Rattle.clr_office_reports.specs.Printing.{status_of}
+use Rattle.clr_office.proofs.OneSession.{found_by_status}
 use Rattle.clr_layer_changes.specs.declared.options.GivenLayer.{GivenLayer}
 use Rattle.clr_layer_changes.specs.declared.options.LayerOptions.{LayerOptions}
 use Rattle.clr_desk_layers.specs.Designs as designs
@@ -45,11 +46,6 @@ use Rattle.clr_desk.specs.Formats.{IsFormatPrint, IsInLines, in_lines, in_one_li
 use Rattle.clr_desk.specs.Merges as merging
 use Rattle.clr_desk.specs.Merges.{IsMergePrintout, merge_print, verdict_print}
 use Rattle.clr_desk.specs.OneAnswer.{FoundMemory, IsOnePrint}
-
--- a status other than 3 says that memory was found
-found_by_status : (refused lost : Bool) → status_of refused lost ≢ 3 → lost ≡ false
-found_by_status refused true found = absurd (found refl)
-found_by_status refused false found = refl
 
 -- plans --------------------------------------------------------------------------------------
 
@@ -109,8 +105,8 @@ module _ (o : Office) (c : Certificate) where
       not_clear (one_verdict o (merge_set_of c) (entries_in c.entries) v verdict.Clear (found_verdict v one found) clear)
 
   pub one_merge_print : (names : List Name) → IsOnePrint (IsMergePrintout names o c)
-  one_merge_print names print other (merging.of_merges replies stopped left merged is) (merging.of_merges others halted rest merged_too is_too) found found_too =
-      let same = one_start o (merge_set_of c) (merges names) replies others left rest stopped halted merged.start merged_too.start
+  one_merge_print names print other (merging.of_merges replies stopped left merged is) (merging.of_merges others ended rest merged_too is_too) found found_too =
+      let same = one_start o (merge_set_of c) (merges names) replies others left rest stopped ended merged.start merged_too.start
       (found_by_status _ _ (subst FoundMemory is found)) (found_by_status _ _ (subst FoundMemory is_too found_too)) in
       is ∙ (λ i. merge_print (same.0 i) (same.2 i) (same.1 i)) ∙ sym is_too
   one_merge_print names print other (merging.of_merges replies stopped left merged is) (merging.of_verdict v refusal is_too) found found_too =
@@ -125,8 +121,8 @@ module _ (o : Office) (c : Certificate) where
 
 same_lines : (o : Office) (text other : List ℕ) → IsInLines o text → IsInLines o other → text ≡ other
 same_lines o text other (in_lines is again) (in_lines is_too again_too) = is ∙ sym is_too
-same_lines o text other (in_lines is again) (in_one_line unread is_too again_too) = absurd (unread (subst (λ t. draft_in t ≡ Ok o) is again))
-same_lines o text other (in_one_line unread is again) (in_lines is_too again_too) = absurd (unread (subst (λ t. draft_in t ≡ Ok o) is_too again_too))
+same_lines o text other (in_lines is again) (in_one_line unread is_too again_too) = absurd (unread (subst (λ t. opened_in t ≡ Ok (o, None)) is again))
+same_lines o text other (in_one_line unread is again) (in_lines is_too again_too) = absurd (unread (subst (λ t. opened_in t ≡ Ok (o, None)) is_too again_too))
 same_lines o text other (in_one_line unread is again) (in_one_line unread_too is_too again_too) = is ∙ sym is_too
 
 pub one_format_print : (o : Office) → IsOnePrint (IsFormatPrint o)

@@ -115,7 +115,7 @@ module _ (o : Office) (root : Name) where
       true≢false ((same_text o.schema [] root (plan.Cleared nobody) p alike).1 ∙ blocked)
 
   pub one_choice_print : (names : List Name) → IsOnePrint (IsChoicePrint root names o)
-  one_choice_print names print other (of_trials nobody ts c cleared are planned is) (of_trials anybody us d cleared_too are_too planned_too is_too) found found_too =
+  one_choice_print names print other (of_trials nobody ts c cleared are planned is) (of_trials any us d clear_too are_too planned_too is_too) found found_too =
       is ∙ one_of_trials (members_or_children o root names) ts us c d are are_too planned planned_too ∙ sym is_too
   one_choice_print names print other (of_trials nobody ts c cleared are planned is) (of_nobody p planned_too blocked is_too) found found_too =
       absurd (not_both nobody p cleared planned_too blocked (found_plan o (merge_set root []) p (subst FoundMemory is_too found_too)))

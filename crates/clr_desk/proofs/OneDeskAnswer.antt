@@ -3,7 +3,7 @@ use Rattle.std.proofs.Common.{◌≡◌, ◌∙◌, ◌||◌, ◌∷◌, Bool, t
 use Rattle.std.specs.List.{list_any}
 use Rattle.std.proofs.lemmas.Bool.{false≢true}
 use Rattle.clr_check.specs.Cases.{case_of}
-use Rattle.clr_office_texts.specs.Drafts.{draft_in}
+use Rattle.clr_office_texts.specs.Drafts.{opened_in}
 use Rattle.clr_office.specs.Answers.{is_too_long}
 use Rattle.clr_layer_changes.specs.declared.options.GivenLayer.{GivenLayer}
 use Rattle.clr_desk_command_line.specs.declared.asks.DeskAsk.{DeskAsk}
@@ -22,7 +22,8 @@ use Rattle.clr_desk.specs.Formats.{IsFormatPrint}
 use Rattle.clr_desk.specs.Geographic.{IsGeographicAnswer, options_of}
 use Rattle.clr_desk.specs.Merges.{IsHintedMerge, IsMergePrintout}
 use Rattle.clr_desk.specs.OneAnswer.{IsOnePrint, OneDeskAnswerLaw, is_whole, is_whole_layer}
-use Rattle.clr_desk.proofs.OneAnswer.{one_check_print, one_design, one_design_script, one_format_print, one_live, one_merge_print, one_of_layers, one_plan_print}
+use Rattle.clr_desk.proofs.OneAnswer.{one_check_print, one_design, one_design_script, one_format_print, one_live, one_merge_print, one_of_layers}
+use Rattle.clr_desk.proofs.OneAnswer.{one_plan_print}
 use Rattle.clr_desk.proofs.OneChoice.{one_choice_print}
 use Rattle.clr_desk.proofs.OnePrint.{one_hinted, one_in, one_of_case}
 
@@ -31,28 +32,29 @@ one_geographic : (asked : GeographicAsk) (office : List ℕ) (layers : List Give
 one_geographic (geographic.Features root names system) office layers whole = absurd (false≢true whole)
 one_geographic (geographic.Layer table workspace) office layers whole = absurd (false≢true whole)
 one_geographic (geographic.Office tables rounded) office layers whole =
-    one_in (IsOfficePrint (options_of 1 rounded) layers) (λ o. one_of_layers (options_of 1 rounded) layers IsPrintOfLive one_live o) (draft_in office)
+    one_in (IsOfficePrint (options_of 1 rounded) layers) (λ o. one_of_layers (options_of 1 rounded) layers IsPrintOfLive one_live o) (opened_in office)
 one_geographic (geographic.Design design) office layers whole =
     let options = options_of design.first_key design.is_rounded in
-    one_in (IsDesignPrint design.name options layers) (λ o. one_of_layers options layers (IsPrintOfDesign design.name) (one_design design.name) o) (draft_in office)
+    one_in (IsDesignPrint design.name options layers) (λ o. one_of_layers options layers (IsPrintOfDesign design.name) (one_design design.name) o)
+    (opened_in office)
 one_geographic (geographic.DesignScript design) office layers whole =
     let options = options_of design.first_key design.is_rounded in
     one_in (IsDesignScriptPrint design.name options layers)
-    (λ o. one_of_layers options layers (IsPrintOfScript design.name) (one_design_script design.name) o) (draft_in office)
+    (λ o. one_of_layers options layers (IsPrintOfScript design.name) (one_design_script design.name) o) (opened_in office)
 
 one_within : (asked : DeskAsk) (office second : List ℕ) (layers : List GivenLayer) → is_whole asked ≡ true
     → IsOnePrint (IsDeskAnswerWithin asked office second layers)
 one_within (ask.Certificate root names) office second layers whole =
     one_in (IsHinted (IsCertificatePrint root names) (root ∷ names))
-    (λ o. one_hinted (IsCertificatePrint root names) (root ∷ names) o (one_plan_print o (set_asked o root names))) (draft_in office)
+    (λ o. one_hinted (IsCertificatePrint root names) (root ∷ names) o (one_plan_print o (set_asked o root names))) (opened_in office)
 one_within ask.Check office certificate layers whole = one_of_case IsCheckPrint one_check_print (case_of office certificate)
 one_within (ask.Merge names) office certificate layers whole =
     one_of_case (IsHintedMerge names)
     (λ o c. one_hinted (λ read. IsMergePrintout names read c) (c.root ∷ names) o (one_merge_print o c names)) (case_of office certificate)
-one_within ask.Format office second layers whole = one_in IsFormatPrint one_format_print (draft_in office)
+one_within ask.Format office second layers whole = one_in IsFormatPrint one_format_print (opened_in office)
 one_within (ask.Keep root names) office second layers whole =
     one_in (IsHinted (IsChoicePrint root names) (root ∷ names))
-    (λ o. one_hinted (IsChoicePrint root names) (root ∷ names) o (one_choice_print o root names)) (draft_in office)
+    (λ o. one_hinted (IsChoicePrint root names) (root ∷ names) o (one_choice_print o root names)) (opened_in office)
 one_within (ask.Clashes root names) office second layers whole = absurd (false≢true whole)
 one_within (ask.Why kind) office second layers whole = absurd (false≢true whole)
 one_within (ask.WorkOrder root names) office second layers whole = absurd (false≢true whole)

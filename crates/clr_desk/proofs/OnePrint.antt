@@ -3,10 +3,9 @@ use Rattle.std.proofs.Common.{◌≡◌, ◌≢◌, ◌∙◌, ℕ, Bool, true, 
 use Rattle.clr_rules.specs.declared.needs.Broken.{Broken}
 use Rattle.clr_workspaces.specs.Marks.{Name}
 use Rattle.clr_steps.specs.Offices.{Office}
-use Rattle.clr_engine.specs.Drafts.{unheld_in}
 use Rattle.clr_cert.specs.declared.certificates.Certificate.{Certificate}
 use Rattle.clr_check.specs.Cases.{Case}
-use Rattle.clr_rule_text.specs.declared.faults.TextFault.{TextFault}
+use Rattle.clr_office_texts.specs.Drafts.{Opened}
 use Rattle.clr_office.specs.Clearances.{fault_print}
 use Rattle.clr_office_reports.specs.Printing.{IsNoPrint, IsPrintIn, IsPrintWhereHeld, Printed as Lines}
 use Rattle.clr_desk_prints.specs.NameHints.{HintsAt, IsHinted, with_lines}
@@ -20,21 +19,23 @@ module _ (line other : Lines) where
   where_held o (Some (position, need)) one two = one ∙ sym two
   where_held o None one two = absurd one
 
-  one_line : (given : Result Office TextFault) → IsPrintIn IsNoPrint given line → IsPrintIn IsNoPrint given other → line ≡ other
-  one_line (Ok o) one two = where_held o (unheld_in o) one two
+  one_line : (given : Opened) → IsPrintIn IsNoPrint given line → IsPrintIn IsNoPrint given other → line ≡ other
+  one_line (Ok (o, unheld)) one two = where_held o unheld one two
   one_line (Err e) one two = one ∙ sym two
 
-no_line : (o : Office) → unheld_in o ≡ None → (given : Result Office TextFault) → given ≡ Ok o → (line : Lines) → IsPrintIn IsNoPrint given line → ⊥
-no_line o held given is line h = subst (λ u. IsPrintWhereHeld IsNoPrint o u line) held (subst (λ g. IsPrintIn IsNoPrint g line) is h)
+no_line : (o : Office) (given : Opened) → given ≡ Ok (o, None) → (line : Lines) → IsPrintIn IsNoPrint given line → ⊥
+no_line o given is line h = subst (λ g. IsPrintIn IsNoPrint g line) is h
 
 -- of an office text
 module _ (P : Office → PrintoutOrFault → Type 0) (one_print : (o : Office) → IsOnePrint (P o)) where
-  pub one_in : (given : Result Office TextFault) → IsOnePrint (IsPrintoutIn P given)
-  one_in given print other (of_office o is held here) (of_office p is_too held_too there) found found_too =
-      let same : p ≡ o = (let e : Ok p ≡ Ok o = sym is_too ∙ is in cc) in
+  pub one_in : (given : Opened) → IsOnePrint (IsPrintoutIn P given)
+  one_in given print other (of_office o is here) (of_office p is_too there) found found_too =
+      let e : Ok (p, None) ≡ Ok (o, None) = sym is_too ∙ is in
+      let both : (p, None) ≡ (o, None) = cc in
+      let same : p ≡ o = ap (λ (x : Office × Option (ℕ × Broken)). x.0) both in
       one_print o print other here (subst (λ q. P q other) same there) found found_too
-  one_in given print other (of_office o is held here) (of_fault lines there told) found found_too = absurd (no_line o held given is lines there)
-  one_in given print other (of_fault lines here told) (of_office o is held there) found found_too = absurd (no_line o held given is lines here)
+  one_in given print other (of_office o is here) (of_fault lines there told) found found_too = absurd (no_line o given is lines there)
+  one_in given print other (of_fault lines here told) (of_office o is there) found found_too = absurd (no_line o given is lines here)
   one_in given print other (of_fault lines here told) (of_fault others there told_too) found found_too =
       told ∙ ap as_notes (one_line lines others given here there) ∙ sym told_too
 

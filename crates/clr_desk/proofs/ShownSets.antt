@@ -23,7 +23,8 @@ in_range : (from len at : ℕ) → from ≤ at → at < from + len → Among at 
 in_range from zero at low high = absurd (omega arith)
 in_range from (suc len) at low high = by (ltb from at) refl (in_range (from + 1) len at)
   where
-    by : (b : Bool) → ltb from at ≡ b → (from + 1 ≤ at → at < from + 1 + len → Among at (range_with_len (from + 1) len)) → Among at (range_with_len from (suc len))
+    by : (b : Bool) → ltb from at ≡ b → (from + 1 ≤ at → at < from + 1 + len → Among at (range_with_len (from + 1) len))
+        → Among at (range_with_len from (suc len))
     by true t rest = let less : from < at = grind (arith, nat_tests) in inr (rest (omega arith) (omega arith))
     by false t rest = let same : from ≡ at = grind (arith, nat_tests) in inl same
 

@@ -3,7 +3,7 @@ use Rattle.std.specs.Prelude.{◌≡◌, ◌∷◌, ◌||◌, ◌⊎◌, ℕ, Bo
 use Rattle.std.specs.List.{list_any}
 use Rattle.std.specs.Io.KnownBytes.{Appends}
 use Rattle.clr_check.specs.Cases.{case_of}
-use Rattle.clr_office_texts.specs.Drafts.{draft_in}
+use Rattle.clr_office_texts.specs.Drafts.{opened_in}
 use Rattle.clr_layer_changes.specs.declared.options.GivenLayer.{GivenLayer}
 use Rattle.clr_office.specs.Answers.{is_too_long}
 use Rattle.clr_process_io.specs.declared.faults.RunFault.{RunFault}
@@ -27,20 +27,20 @@ use Rattle.clr_desk_pages.specs.Reports.{IsReportPrint}
 -- what is to be printed for what is asked of an office text, a second text and layers
 abbrev pub IsDeskAnswerWithin : DeskAsk → List ℕ → List ℕ → List GivenLayer → PrintoutOrFault → Type 0
 IsDeskAnswerWithin (ask.Certificate root names) office second layers print =
-    IsPrintoutIn (IsHinted (IsCertificatePrint root names) (root ∷ names)) (draft_in office) print
+    IsPrintoutIn (IsHinted (IsCertificatePrint root names) (root ∷ names)) (opened_in office) print
 IsDeskAnswerWithin ask.Check office certificate layers print = IsPrintoutOfCase IsCheckPrint (case_of office certificate) print
 IsDeskAnswerWithin (ask.Merge names) office certificate layers print = IsPrintoutOfCase (IsHintedMerge names) (case_of office certificate) print
-IsDeskAnswerWithin ask.Format office second layers print = IsPrintoutIn IsFormatPrint (draft_in office) print
-IsDeskAnswerWithin (ask.Keep root names) office second layers print = IsPrintoutIn (IsHinted (IsChoicePrint root names) (root ∷ names)) (draft_in office) print
+IsDeskAnswerWithin ask.Format office second layers print = IsPrintoutIn IsFormatPrint (opened_in office) print
+IsDeskAnswerWithin (ask.Keep root names) office second layers print = IsPrintoutIn (IsHinted (IsChoicePrint root names) (root ∷ names)) (opened_in office) print
 IsDeskAnswerWithin (ask.Clashes root names) office second layers print =
-    IsPrintoutIn (IsHinted (IsClashesPrint root names) (root ∷ names)) (draft_in office) print
+    IsPrintoutIn (IsHinted (IsClashesPrint root names) (root ∷ names)) (opened_in office) print
 IsDeskAnswerWithin (ask.Why kind) office second layers print = IsWhyPrint kind office second print
 IsDeskAnswerWithin (ask.Map root names) office second layers print =
-    IsPrintoutIn (IsHinted (IsMapPrint root names) (root ∷ names)) (draft_in office) print
+    IsPrintoutIn (IsHinted (IsMapPrint root names) (root ∷ names)) (opened_in office) print
 IsDeskAnswerWithin (ask.Report root names) office second layers print =
-    IsPrintoutIn (IsHinted (IsReportPrint root names) (root ∷ names)) (draft_in office) print
+    IsPrintoutIn (IsHinted (IsReportPrint root names) (root ∷ names)) (opened_in office) print
 IsDeskAnswerWithin (ask.WorkOrder root names) office second layers print =
-    IsPrintoutIn (IsHinted (IsOrderPrint root names) (root ∷ names)) (draft_in office) print
+    IsPrintoutIn (IsHinted (IsOrderPrint root names) (root ∷ names)) (opened_in office) print
 IsDeskAnswerWithin (ask.Geographic asked) office second layers print = IsGeographicAnswer asked office layers print
 
 -- what is answered, where it is given whether a text is too long

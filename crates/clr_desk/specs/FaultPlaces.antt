@@ -1,5 +1,6 @@
 -- Where the fault of a text is that an answer fails with.
-use Rattle.std.specs.Prelude.{◌≡◌, ℕ, List, [], Result, Ok, Err, slice_get, unwrap_or}
+use Rattle.std.specs.Prelude.{◌≡◌, ℕ, List, [], Result, Ok, Err, slice_get}
+use Rattle.std.specs.Option.{option_map_or}
 use Rattle.clr_rows.specs.declared.tables.TableDef.{TableDef}
 use Rattle.clr_workspaces.specs.Marks.{Name}
 use Rattle.clr_steps.specs.Offices.{Office}
@@ -14,7 +15,7 @@ use Rattle.clr_process_io.specs.declared.faults.RunFault.TheVariants as run_faul
 
 -- the name of the file of a text, or no name
 abbrev pub file_name : List Name → ℕ → Name
-file_name files at = unwrap_or (slice_get files at) []
+file_name files at = option_map_or (λ name. name) (slice_get files at) []
 
 -- the place and the sentence of the fault of an office text; and nothing where it is an office
 abbrev pub IsOfficePlace : List ℕ → Name → List ℕ → Result Office TextFault → Type 0

@@ -1,6 +1,6 @@
 -- What is printed in the texts of geographic information systems, and of such texts.
 use Rattle.std.specs.Prelude.{ℕ, Bool, List, [], ◌∷◌}
-use Rattle.clr_office_texts.specs.Drafts.{draft_in}
+use Rattle.clr_office_texts.specs.Drafts.{opened_in}
 use Rattle.clr_desk_command_line.specs.declared.asks.GeographicAsk.{GeographicAsk}
 use Rattle.clr_desk_command_line.specs.declared.asks.GeographicAsk.TheVariants as ask
 use Rattle.clr_layer_changes.specs.declared.options.GivenLayer.{GivenLayer}
@@ -17,11 +17,11 @@ options_of first_key rounded = record { first_key = first_key; rounded = rounded
 
 -- what is to be printed for what is asked of an office text and layers
 abbrev pub IsGeographicAnswer : GeographicAsk → List ℕ → List GivenLayer → PrintoutOrFault → Type 0
-IsGeographicAnswer (ask.Features root names system) office layers print = IsFeaturesAnswer root names system (draft_in office) print
+IsGeographicAnswer (ask.Features root names system) office layers print = IsFeaturesAnswer root names system (opened_in office) print
 IsGeographicAnswer (ask.Layer table workspace) office layers print =
-    IsPrintoutIn (IsHinted (IsLayerPrint table workspace) (workspace ∷ [])) (draft_in office) print
-IsGeographicAnswer (ask.Office tables rounded) office layers print = IsPrintoutIn (IsOfficePrint (options_of 1 rounded) layers) (draft_in office) print
+    IsPrintoutIn (IsHinted (IsLayerPrint table workspace) (workspace ∷ [])) (opened_in office) print
+IsGeographicAnswer (ask.Office tables rounded) office layers print = IsPrintoutIn (IsOfficePrint (options_of 1 rounded) layers) (opened_in office) print
 IsGeographicAnswer (ask.Design design) office layers print =
-    IsPrintoutIn (IsDesignPrint design.name (options_of design.first_key design.is_rounded) layers) (draft_in office) print
+    IsPrintoutIn (IsDesignPrint design.name (options_of design.first_key design.is_rounded) layers) (opened_in office) print
 IsGeographicAnswer (ask.DesignScript design) office layers print =
-    IsPrintoutIn (IsDesignScriptPrint design.name (options_of design.first_key design.is_rounded) layers) (draft_in office) print
+    IsPrintoutIn (IsDesignScriptPrint design.name (options_of design.first_key design.is_rounded) layers) (opened_in office) print

@@ -1,16 +1,16 @@
 //! Certificates alone.
 ghost use Rattle.std.specs.Prelude.{◌≡◌, ◌∷◌, false, map, IfOk};
 ghost use Rattle.clr_merge_sets.specs.MergeSetNames.{merge_set};
-ghost use Rattle.clr_office_texts.specs.Drafts.{draft_in};
+ghost use Rattle.clr_office_texts.specs.Drafts.{opened_in};
 ghost use Rattle.clr_merge_sets.specs.Plans.{is_cleared as is_cleared_plan};
 ghost use Rattle.clr_desk.specs.Certificates.{IsCertificatePrint, IsPlanPrint, plan_print};
 ghost use Rattle.clr_desk_prints.specs.NameHints.{IsHinted};
 ghost use Rattle.clr_desk_prints.specs.Printing.{IsMadePrintout, IsPrintoutIn, printed};
 
 use clr_cert::write_certificate;
-use clr_desk_prints::{Print, members_asked, notes_of, plan_members, with_hints};
+use clr_desk_prints::{Print, answer_over_members, plan_members};
 use clr_engine::Office;
-use clr_office::{Plan, RunFault, Words, open_office, texts_of_names};
+use clr_office::{Plan, RunFault, Words};
 use clr_plan::plan_lines;
 use std::alloc::{AllocError, Global};
 
@@ -63,34 +63,16 @@ fn print_of_set(
     plan_print(alloc, office, root, members, &plan)
 }
 
-/// Returns what is printed of the plan of the members that names ask for.
-fn print_of_names(
-    alloc: Global,
-    office: &Office,
-    root: &str,
-    names: &[Words],
-) -> Result<Print, AllocError>
-    ensures { IfOk result (λ p. IsCertificatePrint root.now names.now office.now (printed p)) }
-{
-    let asked = members_asked(alloc, office, root, names)?;
-    let members = texts_of_names(alloc, asked.as_slice())?;
-    print_of_set(alloc, office, root, members.as_slice())
-}
-
-/// Returns the certificate of members over the office of a text, of all children of the root where no name is given.
+/// Returns the certificate of members over the office of a text; without names, of all children of the root.
 pub fn answer_certificate(
     alloc: Global,
     office: &[u8],
     root: &str,
     names: &[Words],
 ) -> Result<Print, RunFault>
-    ensures { IsMadePrintout (IsPrintoutIn (IsHinted (IsCertificatePrint root.now names.now) (root.now ∷ names.now)) (draft_in office.now)) result }
+    ensures { IsMadePrintout (IsPrintoutIn (IsHinted (IsCertificatePrint root.now names.now) (root.now ∷ names.now)) (opened_in office.now)) result }
 {
-    match open_office(alloc, office) {
-        Ok(office) => {
-            let print = print_of_names(alloc, &office, root, names)?;
-            Ok(with_hints(alloc, &office, root, names, print)?)
-        }
-        Err(answer) => notes_of(alloc, answer),
-    }
+    answer_over_members(alloc, office, root, names, |office, members| {
+        print_of_set(alloc, office, root, members)
+    })
 }

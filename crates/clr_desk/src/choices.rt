@@ -2,7 +2,7 @@
 ghost use Rattle.std.specs.Prelude.{◌≡◌, ◌∷◌, ◌++◌, [], codes, false, map, IfOk};
 ghost use Rattle.clr_cert.specs.Texts.{certificate_text};
 ghost use Rattle.clr_merge_sets.specs.MergeSetNames.{merge_set};
-ghost use Rattle.clr_office_texts.specs.Drafts.{draft_in};
+ghost use Rattle.clr_office_texts.specs.Drafts.{opened_in};
 ghost use Rattle.clr_merge_sets.specs.declared.plans.Plan.TheVariants as plan;
 ghost use Rattle.clr_choices.specs.Clearable.{IsPlanOf};
 ghost use Rattle.clr_desk.specs.Choices.{IsChoicePrint, names_line};
@@ -13,9 +13,9 @@ use crate::certificates::plan_print;
 use crate::names_lines::names_line;
 use clr_cert::{Certificate, write_certificate};
 use clr_choices::{Choice, choose, plan_members};
-use clr_desk_prints::{Print, members_asked, notes_of, with_hints};
+use clr_desk_prints::{Print, answer_over_office, members_asked};
 use clr_engine::Office;
-use clr_office::{Plan, RunFault, Words, open_office, texts_of_names};
+use clr_office::{Plan, RunFault, Words, texts_of_names};
 use clr_rows::Schema;
 use std::alloc::{AllocError, Global};
 
@@ -74,13 +74,9 @@ pub fn answer_keep(
     root: &str,
     names: &[Words],
 ) -> Result<Print, RunFault>
-    ensures { IsMadePrintout (IsPrintoutIn (IsHinted (IsChoicePrint root.now names.now) (root.now ∷ names.now)) (draft_in office.now)) result }
+    ensures { IsMadePrintout (IsPrintoutIn (IsHinted (IsChoicePrint root.now names.now) (root.now ∷ names.now)) (opened_in office.now)) result }
 {
-    match open_office(alloc, office) {
-        Ok(office) => {
-            let print = print_of_names(alloc, &office, root, names)?;
-            Ok(with_hints(alloc, &office, root, names, print)?)
-        }
-        Err(answer) => notes_of(alloc, answer),
-    }
+    answer_over_office(alloc, office, root, names, |office| {
+        print_of_names(alloc, office, root, names)
+    })
 }

@@ -1,7 +1,7 @@
 //! The smallest sets of members that can't be merged together.
 ghost use Rattle.std.specs.Prelude.{◌≡◌, ◌∷◌, map, IfOk};
 ghost use Rattle.clr_merge_sets.specs.MergeSetNames.{merge_set};
-ghost use Rattle.clr_office_texts.specs.Drafts.{draft_in};
+ghost use Rattle.clr_office_texts.specs.Drafts.{opened_in};
 ghost use Rattle.clr_merge_clashes.specs.MergeClashes.{IsFaultOfNames};
 ghost use Rattle.clr_desk.specs.Clashes.{IsClashesPrint, IsMergeSetPrint, found_print};
 ghost use Rattle.clr_desk_prints.specs.NameHints.{IsHinted};
@@ -10,10 +10,10 @@ ghost use Rattle.clr_desk_prints.specs.Printing.{IsMadePrintout, IsPrintoutIn, p
 use crate::certificates::plan_print;
 use crate::clash_lines::clashes_lines;
 use clr_clearance::Verdict;
-use clr_desk_prints::{Print, members_asked, notes_of, with_hints};
+use clr_desk_prints::{Print, answer_over_members};
 use clr_engine::Office;
 use clr_merge_clashes::{MergeClashes, merge_clashes};
-use clr_office::{Plan, RunFault, Words, open_office, texts_of_names};
+use clr_office::{Plan, RunFault, Words};
 use std::alloc::{AllocError, Global};
 
 /// Returns all sets, as a text.
@@ -63,20 +63,6 @@ fn print_of_merge_set(
     }
 }
 
-/// Returns the sets of the members that names ask for.
-fn print_of_names(
-    alloc: Global,
-    office: &Office,
-    root: &str,
-    names: &[Words],
-) -> Result<Print, AllocError>
-    ensures { IfOk result (λ p. IsClashesPrint root.now names.now office.now (printed p)) }
-{
-    let asked = members_asked(alloc, office, root, names)?;
-    let members = texts_of_names(alloc, asked.as_slice())?;
-    print_of_merge_set(alloc, office, root, members.as_slice())
-}
-
 /// Returns the smallest sets of members over the office of a text that can't be merged in every order.
 pub fn answer_clashes(
     alloc: Global,
@@ -84,13 +70,9 @@ pub fn answer_clashes(
     root: &str,
     names: &[Words],
 ) -> Result<Print, RunFault>
-    ensures { IsMadePrintout (IsPrintoutIn (IsHinted (IsClashesPrint root.now names.now) (root.now ∷ names.now)) (draft_in office.now)) result }
+    ensures { IsMadePrintout (IsPrintoutIn (IsHinted (IsClashesPrint root.now names.now) (root.now ∷ names.now)) (opened_in office.now)) result }
 {
-    match open_office(alloc, office) {
-        Ok(office) => {
-            let print = print_of_names(alloc, &office, root, names)?;
-            Ok(with_hints(alloc, &office, root, names, print)?)
-        }
-        Err(answer) => notes_of(alloc, answer),
-    }
+    answer_over_members(alloc, office, root, names, |office, members| {
+        print_of_merge_set(alloc, office, root, members)
+    })
 }

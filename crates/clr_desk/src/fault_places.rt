@@ -2,23 +2,14 @@
 ghost use Rattle.std.specs.Prelude.{◌≡◌, IfOk};
 ghost use Rattle.clr_cert.specs.Certificates.{certificate_in};
 ghost use Rattle.clr_office_texts.specs.Drafts.{draft_in};
-ghost use Rattle.clr_desk.specs.FaultPlaces.{IsCertificatePlace, IsCertificatePlaceOver, IsFaultPlace, IsOfficePlace, file_name};
+ghost use Rattle.clr_desk.specs.FaultPlaces.{IsCertificatePlace, IsCertificatePlaceOver, IsFaultPlace, IsOfficePlace};
 
 use clr_office::{RunFault, Words};
 use clr_office_texts::{TextFault, read_office};
+use clr_process_io::file_name;
 use clr_rows::Schema;
 use clr_text_diagnosis::{short_certificate_fault, short_office_fault};
 use std::alloc::{AllocError, Global};
-
-/// Returns the name of the file of a text, or no name.
-fn file_name(files: &[Words], at: usize) -> &str
-    ensures { result.now ≡ file_name files.now at }
-{
-    match files.get(at) {
-        Some(name) => name.as_str(),
-        None => "",
-    }
-}
 
 /// Returns the place of the fault of an office text, in the file of this name.
 fn office_place(alloc: Global, file: &str, office: &[u8]) -> Result<Vec<u8>, AllocError>
@@ -55,7 +46,7 @@ fn certificate_place(
     ensures { IfOk result (λ line. IsCertificatePlaceOver certificate.now file.now line.items (draft_in office.now)) }
 {
     match read_office(alloc, office) {
-        Ok(draft) => place_over_schema(alloc, draft.schema(), file, certificate),
+        Ok(read) => place_over_schema(alloc, read.draft.schema(), file, certificate),
         Err(TextFault::OutOfMemory) => Err(AllocError),
         Err(_) => Ok(Vec::new(alloc)),
     }

@@ -1,7 +1,6 @@
 //! The text of an office, a row a line.
 ghost use Rattle.std.specs.Prelude.{◌≡◌, Ok, None, true, false, IfOk};
-ghost use Rattle.clr_engine.specs.Drafts.{unheld_in};
-ghost use Rattle.clr_office_texts.specs.Drafts.{draft_in};
+ghost use Rattle.clr_office_texts.specs.Drafts.{draft_in, opened_in};
 ghost use Rattle.clr_office_texts.specs.Writing.{bytes_of};
 ghost use Rattle.clr_desk.specs.Formats.{IsFormatPrint, IsInLines};
 ghost use Rattle.clr_desk_prints.specs.Printing.{IsMadePrintout, IsPrintoutIn, printed};
@@ -13,13 +12,12 @@ use clr_office::{RunFault, open_office};
 use clr_office_texts::write_office;
 use std::alloc::{AllocError, Global};
 
-/// Returns whether lines are read as an office in which the rules hold, and which has this text.
+/// Returns whether lines are read as an office whose broken needs are known, and which has this text.
 fn is_read_as(alloc: Global, lines: &[u8], office: &Office, text: &[u8]) -> Result<bool, AllocError>
-    requires held { unheld_in office.now ≡ None }
     requires text { text.now ≡ bytes_of office.now }
     requires again { draft_in text.now ≡ Ok office.now }
-    ensures yes { IfOk result (λ same. same ≡ true → draft_in lines.now ≡ Ok office.now) }
-    ensures no { IfOk result (λ same. same ≡ false → ¬ (draft_in lines.now ≡ Ok office.now)) }
+    ensures yes { IfOk result (λ same. same ≡ true → opened_in lines.now ≡ Ok (office.now, None)) }
+    ensures no { IfOk result (λ same. same ≡ false → ¬ (opened_in lines.now ≡ Ok (office.now, None))) }
 {
     let _office = office;
     match open_office(alloc, lines) {
@@ -29,10 +27,9 @@ fn is_read_as(alloc: Global, lines: &[u8], office: &Office, text: &[u8]) -> Resu
     }
 }
 
-/// Returns the text of an office in which the rules hold, a row a line, ended by `\n`. Where that weren't read as the same office it
+/// Returns the text of an office, a row a line, ended by `\n`. Where that weren't read as the same office it
 /// would be the text in one line.
 fn text_in_lines(alloc: Global, office: &Office) -> Result<Vec<u8>, AllocError>
-    requires { unheld_in office.now ≡ None }
     ensures { IfOk result (λ text. IsInLines office.now text.items) }
 {
     let text = write_office(alloc, office)?;
@@ -46,7 +43,6 @@ fn text_in_lines(alloc: Global, office: &Office) -> Result<Vec<u8>, AllocError>
 
 /// Returns what is printed of an office in lines.
 fn format_print(alloc: Global, office: &Office) -> Result<Print, AllocError>
-    requires { unheld_in office.now ≡ None }
     ensures { IfOk result (λ p. IsFormatPrint office.now (printed p)) }
 {
     let text = text_in_lines(alloc, office)?;
@@ -55,7 +51,7 @@ fn format_print(alloc: Global, office: &Office) -> Result<Print, AllocError>
 
 /// Returns the office of a text, a row a line.
 pub fn answer_format(alloc: Global, office: &[u8]) -> Result<Print, RunFault>
-    ensures { IsMadePrintout (IsPrintoutIn IsFormatPrint (draft_in office.now)) result }
+    ensures { IsMadePrintout (IsPrintoutIn IsFormatPrint (opened_in office.now)) result }
 {
     match open_office(alloc, office) {
         Ok(office) => Ok(format_print(alloc, &office)?),

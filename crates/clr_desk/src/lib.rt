@@ -1,6 +1,6 @@
-//! The answers of the second program, each told as a text, notes and a status.
+//! The answers of the second program, each as a text, notes and a status.
 //!
-//! - `answer` [`answers`]: where the sinks tell their bytes and there is a status, the bytes on both and
+//! - `answer` [`answers`]: if the sinks show their bytes and there is a status, the bytes on both and
 //!   the status are what `IsDeskAnswerTo` says, and each fault is answered only where the texts have it,
 //!   want of memory aside. So: of `certificate` the records of a certificate by which the members are
 //!   safe, and nothing else, or the lines of the plan as notes; of `check` the line of the verdict, with status 0 only where it is clear and the

@@ -63,8 +63,8 @@ program_asks = record {
   free = free;
 }
 
-either : (b : Bool) (o : Option (DeskAsk × List Text)) → is_some (if b then Some (tt {0}) else option_map (λ asked. tt {0}) o) ≡ true → (not b || is_some o) ≡ true
-    → is_some o ≡ true
+either : (b : Bool) (o : Option (DeskAsk × List Text)) → is_some (if b then Some (tt {0}) else option_map (λ asked. tt {0}) o) ≡ true
+    → (not b || is_some o) ≡ true → is_some o ≡ true
 either true o some readable = readable
 either false (Some asked) some readable = refl
 either false None some readable = absurd cc

@@ -10,7 +10,8 @@ use Rattle.clr_rows.specs.Schemas.{is_key}
 use Rattle.clr_records.specs.Decimals.{number_of}
 use Rattle.clr_command_line.specs.Asks.{database_and, database_of, given_names, given_value}
 use Rattle.clr_desk_command_line.specs.declared.asks.DeskAsk.{DeskAsk}
-use Rattle.clr_desk_command_line.specs.declared.asks.DeskAsk.TheVariants.{Certificate, Check, Merge, Format, Keep, Clashes, Why, WorkOrder, Map, Report, Geographic}
+use Rattle.clr_desk_command_line.specs.declared.asks.DeskAsk.TheVariants.{Certificate, Check, Merge, Format, Keep, Clashes, Why, WorkOrder, Map, Report}
+use Rattle.clr_desk_command_line.specs.declared.asks.DeskAsk.TheVariants.{Geographic}
 use Rattle.clr_desk_command_line.specs.declared.asks.DesignAsk.{DesignAsk}
 use Rattle.clr_desk_command_line.specs.declared.asks.GeographicAsk.{GeographicAsk}
 use Rattle.clr_desk_command_line.specs.declared.asks.GeographicAsk.TheVariants.{Features, Layer, Office, Design, DesignScript}

@@ -18,15 +18,16 @@ use Rattle.clr_layer_changes.specs.declared.options.GivenLayer.{GivenLayer}
 use Rattle.clr_layer_changes.specs.declared.options.LayerOptions.{LayerOptions}
 use Rattle.clr_designs.specs.Scripts.{design_script, design_steps}
 use Rattle.clr_designs.specs.Designs.{AreDone, design_refusal, with_design, with_live}
-use Rattle.clr_office_texts.specs.Drafts.{draft_in}
+use Rattle.clr_office_texts.specs.Drafts.{draft_in, opened_in}
 use Rattle.clr_office_reports.specs.Outcomes.{dump_text}
 use Rattle.clr_desk_prints.specs.Printing.{PrintoutOrFault, printout_of}
 use Rattle.clr_desk_layers.specs.LayerFaultLines.{fault_line}
 
--- the text of an office, ended by `\n`, which is read as the same office
+-- the text of an office, ended by `\n`, which is read as the same office, and in which each broken need is known
 pub record IsOfficeText (o : Office) (text : List ℕ) : Type 0 where
   pub bytes : text ≡ dump_text o
   pub again : draft_in text ≡ Ok o
+  pub admitted : opened_in text ≡ Ok (o, None)
 
 -- a text alone, with status 0
 abbrev pub text_print : List ℕ → PrintoutOrFault

@@ -1,6 +1,6 @@
 //! Offices and designs that are made of layers, for the office of a text.
 
-ghost use Rattle.clr_office_texts.specs.Drafts.{draft_in};
+ghost use Rattle.clr_office_texts.specs.Drafts.{opened_in};
 ghost use Rattle.clr_desk_prints.specs.Printing.{IsMadePrintout, IsPrintoutIn};
 ghost use Rattle.clr_desk_layers.specs.Designs.{IsDesignPrint, IsDesignScriptPrint, IsOfficePrint};
 
@@ -22,7 +22,7 @@ pub fn answer_design(
     options: LayerOptions,
     layers: &[GivenLayer],
 ) -> Result<Print, RunFault>
-    ensures { IsMadePrintout (IsPrintoutIn (IsDesignPrint name.now options layers.now) (draft_in office.now)) result }
+    ensures { IsMadePrintout (IsPrintoutIn (IsDesignPrint name.now options layers.now) (opened_in office.now)) result }
 {
     match open_office(alloc, office) {
         Ok(mut office) => Ok(design_print(alloc, &mut office, name, options, layers)?),
@@ -39,7 +39,7 @@ pub fn answer_design_script(
     options: LayerOptions,
     layers: &[GivenLayer],
 ) -> Result<Print, RunFault>
-    ensures { IsMadePrintout (IsPrintoutIn (IsDesignScriptPrint name.now options layers.now) (draft_in office.now)) result }
+    ensures { IsMadePrintout (IsPrintoutIn (IsDesignScriptPrint name.now options layers.now) (opened_in office.now)) result }
 {
     match open_office(alloc, office) {
         Ok(mut office) => Ok(script_print(alloc, &mut office, name, options, layers)?),
@@ -55,7 +55,7 @@ pub fn answer_office(
     options: LayerOptions,
     layers: &[GivenLayer],
 ) -> Result<Print, RunFault>
-    ensures { IsMadePrintout (IsPrintoutIn (IsOfficePrint options layers.now) (draft_in office.now)) result }
+    ensures { IsMadePrintout (IsPrintoutIn (IsOfficePrint options layers.now) (opened_in office.now)) result }
 {
     match open_office(alloc, office) {
         Ok(mut office) => Ok(office_print(alloc, &mut office, options, layers)?),

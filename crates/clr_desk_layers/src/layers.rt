@@ -1,16 +1,15 @@
 //! Tables as layers.
 ghost use Rattle.std.specs.Prelude.{◌∷◌, [], IfOk};
 ghost use Rattle.clr_rows.specs.Schemas.{FitsSchema};
-ghost use Rattle.clr_office_texts.specs.Drafts.{draft_in};
+ghost use Rattle.clr_office_texts.specs.Drafts.{opened_in};
 ghost use Rattle.clr_desk_layers.specs.Layers.{IsLayerPrint, IsPrintOfTable};
 ghost use Rattle.clr_desk_prints.specs.NameHints.{IsHinted};
 ghost use Rattle.clr_desk_prints.specs.Printing.{IsMadePrintout, IsPrintoutIn, printed};
 
 use crate::layer_refusals::{no_table, no_workspace, wkt_column};
-use clr_desk_prints::{Print, RunFault, notes_of, with_hints};
+use clr_desk_prints::{Print, RunFault, answer_over_office};
 use clr_engine::Office;
 use clr_layer_text::table_layer;
-use clr_office_reports::open_office;
 use clr_rows::{Schema, Sheet};
 use std::alloc::{AllocError, Global};
 
@@ -61,13 +60,9 @@ pub fn answer_layer(
     table: &str,
     workspace: &str,
 ) -> Result<Print, RunFault>
-    ensures { IsMadePrintout (IsPrintoutIn (IsHinted (IsLayerPrint table.now workspace.now) (workspace.now ∷ [])) (draft_in office.now)) result }
+    ensures { IsMadePrintout (IsPrintoutIn (IsHinted (IsLayerPrint table.now workspace.now) (workspace.now ∷ [])) (opened_in office.now)) result }
 {
-    match open_office(alloc, office) {
-        Ok(office) => {
-            let print = layer_print(alloc, &office, table, workspace)?;
-            Ok(with_hints(alloc, &office, workspace, &[], print)?)
-        }
-        Err(answer) => notes_of(alloc, answer),
-    }
+    answer_over_office(alloc, office, workspace, &[], |office| {
+        layer_print(alloc, office, table, workspace)
+    })
 }

@@ -5,7 +5,7 @@ use Rattle.clr_steps.specs.Offices.{Office}
 use Rattle.clr_steps.specs.Quiet.{MergeSet}
 use Rattle.clr_merge_sets.specs.declared.plans.Plan.{Plan}
 use Rattle.clr_plan_features.specs.PlanFeatures.{AreFeatures}
-use Rattle.clr_rule_text.specs.declared.faults.TextFault.{TextFault}
+use Rattle.clr_office_texts.specs.Drafts.{Opened}
 use Rattle.clr_desk_prints.specs.Members.{set_asked}
 use Rattle.clr_desk_prints.specs.NameHints.{IsHinted}
 use Rattle.clr_desk_prints.specs.Printing.{IsFoundPlan, IsPrintoutIn, PrintoutOrFault, plan_text_print}
@@ -40,7 +40,7 @@ no_system_print text = Ok (record {
 })
 
 -- what is printed of an office text and the text of a system, if one is given
-pub data IsFeaturesAnswer (root : Name) (names : List Name) (system : Option (List ℕ)) (given : Result Office TextFault) (print : PrintoutOrFault) : Type 0
+pub data IsFeaturesAnswer (root : Name) (names : List Name) (system : Option (List ℕ)) (given : Opened) (print : PrintoutOrFault) : Type 0
   where
     without_system : system ≡ None → IsPrintoutIn (AreHintedFeatures root names None) given print → IsFeaturesAnswer root names system given print
     in_system : (code : ℕ) → system ≡ Some (system_name code) → IsPrintoutIn (AreHintedFeatures root names (Some code)) given print

@@ -3,16 +3,16 @@
 ghost use Rattle.std.specs.Prelude.{map, IfOk};
 ghost use Rattle.std.specs.Option.{option_copied};
 ghost use Rattle.clr_merge_sets.specs.MergeSetNames.{merge_set};
-ghost use Rattle.clr_office_texts.specs.Drafts.{draft_in};
-ghost use Rattle.clr_desk_pages.specs.Features.{AreFeaturesOfSet, AreHintedFeatures, IsFeaturesAnswer, IsFeaturesPrint};
+ghost use Rattle.clr_office_texts.specs.Drafts.{opened_in};
+ghost use Rattle.clr_desk_pages.specs.Features.{AreFeaturesOfSet, AreHintedFeatures, IsFeaturesAnswer};
 ghost use Rattle.clr_desk_prints.specs.Printing.{IsMadePrintout, IsPrintoutIn, printed};
 
 use crate::plans::{found_plan, print_of_plan_text};
 use crate::systems::{print_of_no_system, system_of};
-use clr_desk_prints::{Print, members_asked, notes_of, with_hints};
+use clr_desk_prints::{Print, answer_over_members};
 use clr_engine::Office;
 use clr_merge_sets::read_member_changes;
-use clr_office::{RunFault, Words, open_office, texts_of_names};
+use clr_office::{RunFault, Words};
 use clr_plan_features::plan_features;
 use std::alloc::{AllocError, Global};
 
@@ -32,21 +32,6 @@ fn print_of_set(
     Ok(print_of_plan_text(alloc, text, &plan))
 }
 
-/// Returns what is printed of the features of the plan of the members that names ask for.
-fn print_of_names(
-    alloc: Global,
-    office: &Office,
-    root: &str,
-    names: &[Words],
-    system: Option<u32>,
-) -> Result<Print, AllocError>
-    ensures { IfOk result (λ p. IsFeaturesPrint root.now names.now system office.now (printed p)) }
-{
-    let asked = members_asked(alloc, office, root, names)?;
-    let members = texts_of_names(alloc, asked.as_slice())?;
-    print_of_set(alloc, office, root, members.as_slice(), system)
-}
-
 /// Returns what is printed of the features of the plan of members over the office of a text, in a system of coordinates if there
 /// is one.
 fn answer_in(
@@ -56,22 +41,18 @@ fn answer_in(
     names: &[Words],
     system: Option<u32>,
 ) -> Result<Print, RunFault>
-    ensures { IsMadePrintout (IsPrintoutIn (AreHintedFeatures root.now names.now system) (draft_in office.now)) result }
+    ensures { IsMadePrintout (IsPrintoutIn (AreHintedFeatures root.now names.now system) (opened_in office.now)) result }
 {
-    match open_office(alloc, office) {
-        Ok(office) => {
-            let print = print_of_names(alloc, &office, root, names, system)?;
-            Ok(with_hints(alloc, &office, root, names, print)?)
-        }
-        Err(answer) => notes_of(alloc, answer),
-    }
+    answer_over_members(alloc, office, root, names, |office, members| {
+        print_of_set(alloc, office, root, members, system)
+    })
 }
 
-/// Returns the features of the plan of members over the office of a text, of all children of the root where no name is given, as GeoJSON in metres, and as notes hints at names that no workspace
-/// has. It counts as a refusal where the plan isn't cleared. The text of a system of coordinates is `EPSG:` and its number in that register; for any
-/// other, a note that it names no system is all that is printed, with status 2, and the office text isn't read. Where a rule doesn't hold the line
-/// that says so is the only note, and there is no text. Fails with `BadOffice` where the text is no office, and with `OutOfMemory` for want of memory,
-/// which may come in place of any other answer.
+/// Returns the features of the plan of members over the office of a text, as GeoJSON in metres, and as notes hints at names that no workspace has. Without
+/// names the members are all children of the root. It counts as a refusal unless the plan is cleared. The text of a system of coordinates is `EPSG:` and
+/// its number in that register. For any other text, a note that it names no system is all that is printed, with status 2, and the office text isn't read.
+/// If a rule doesn't hold, the line that says so is the only note, and there is no text. Fails with `BadOffice` if the text is no office, and with
+/// `OutOfMemory` for want of memory, which may come in place of any other answer.
 pub fn answer_geojson(
     alloc: Global,
     office: &[u8],
@@ -79,7 +60,7 @@ pub fn answer_geojson(
     names: &[Words],
     system: Option<&Words>,
 ) -> Result<Print, RunFault>
-    ensures { IsMadePrintout (IsFeaturesAnswer root.now names.now (option_copied system.entry) (draft_in office.now)) result }
+    ensures { IsMadePrintout (IsFeaturesAnswer root.now names.now (option_copied system.entry) (opened_in office.now)) result }
 {
     let Some(text) = system else {
         return answer_in(alloc, office, root, names, None);

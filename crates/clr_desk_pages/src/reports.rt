@@ -1,16 +1,16 @@
 //! The reports of plans.
 ghost use Rattle.std.specs.Prelude.{◌∷◌, map, IfOk};
 ghost use Rattle.clr_merge_sets.specs.MergeSetNames.{merge_set};
-ghost use Rattle.clr_office_texts.specs.Drafts.{draft_in};
+ghost use Rattle.clr_office_texts.specs.Drafts.{opened_in};
 ghost use Rattle.clr_desk_pages.specs.Reports.{IsReportOfSet, IsReportPrint};
 ghost use Rattle.clr_desk_prints.specs.NameHints.{IsHinted};
 ghost use Rattle.clr_desk_prints.specs.Printing.{IsMadePrintout, IsPrintoutIn, printed};
 
 use crate::plans::{found_plan, print_of_plan_text};
-use clr_desk_prints::{Print, members_asked, notes_of};
+use clr_desk_prints::{Print, answer_over_members};
 use clr_engine::Office;
 use clr_merge_sets::read_member_changes;
-use clr_office::{RunFault, Words, hint_lines, open_office, texts_of_names};
+use clr_office::{RunFault, Words};
 use clr_plan_page::plan_report;
 use std::alloc::{AllocError, Global};
 
@@ -29,38 +29,19 @@ fn print_of_set(
     Ok(print_of_plan_text(alloc, text, &plan))
 }
 
-/// Returns what is printed of the report of the plan of the members that names ask for.
-fn print_of_names(
-    alloc: Global,
-    office: &mut Office,
-    root: &str,
-    names: &[Words],
-) -> Result<Print, AllocError>
-    ensures { IfOk result (λ p. IsReportPrint root.now names.now office.old (printed p)) }
-{
-    let asked = members_asked(alloc, office, root, names)?;
-    let members = texts_of_names(alloc, asked.as_slice())?;
-    print_of_set(alloc, office, root, members.as_slice())
-}
-
-/// Returns the report of the plan of members over the office of a text, of all children of the root where no name is given, as a page of hypertext in one file, and as notes hints at names that
-/// no workspace has. It counts as a refusal where the plan isn't cleared. Where a rule doesn't hold the line that says so is the only note, and
-/// there is no text. Fails with `BadOffice` where the text is no office, and with `OutOfMemory` for want of memory, which may come in place
-/// of any other answer.
+/// Returns the report of the plan of members over the office of a text, as a page of hypertext in one file, and as notes hints at names that no workspace
+/// has. Without names the members are all children of the root. It counts as a refusal unless the plan is cleared. If a rule doesn't hold, the line that
+/// says so is the only note, and there is no text. Fails with `BadOffice` if the text is no office, and with `OutOfMemory` for want of memory, which may
+/// come in place of any other answer.
 pub fn answer_report(
     alloc: Global,
     office: &[u8],
     root: &str,
     names: &[Words],
 ) -> Result<Print, RunFault>
-    ensures { IsMadePrintout (IsPrintoutIn (IsHinted (IsReportPrint root.now names.now) (root.now ∷ names.now)) (draft_in office.now)) result }
+    ensures { IsMadePrintout (IsPrintoutIn (IsHinted (IsReportPrint root.now names.now) (root.now ∷ names.now)) (opened_in office.now)) result }
 {
-    match open_office(alloc, office) {
-        Ok(mut office) => {
-            let lines = hint_lines(alloc, &office, root, names)?;
-            let print = print_of_names(alloc, &mut office, root, names)?;
-            Ok(print.with_notes(lines.as_slice())?)
-        }
-        Err(answer) => notes_of(alloc, answer),
-    }
+    answer_over_members(alloc, office, root, names, |office, members| {
+        print_of_set(alloc, office, root, members)
+    })
 }

@@ -1,4 +1,5 @@
 pub mod ChildLemmas
 pub mod Made
 pub mod OneHint
+pub mod OpeningLemmas
 pub mod PrintLemmas

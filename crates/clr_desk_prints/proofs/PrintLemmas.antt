@@ -5,14 +5,15 @@ use Rattle.clr_cert.specs.declared.certificates.Certificate.{Certificate}
 use Rattle.clr_check.specs.Cases.{Case, IsCaseFault}
 use Rattle.clr_check.specs.declared.cases.CaseFault.{CaseFault}
 use Rattle.clr_check.specs.declared.cases.CaseFault.TheVariants as no_case
-use Rattle.clr_rule_text.specs.declared.faults.TextFault.{TextFault}
+use Rattle.clr_office_texts.specs.Drafts.{Opened}
 use Rattle.clr_office.specs.Clearances.{fault_print}
 use Rattle.clr_office_reports.specs.Printing.{IsNoPrint}
 use Rattle.clr_office_reports.specs.Printing.{IsOutput as AreLinesMade, IsPrintIn as IsLinesIn, IsTextFault as IsLinesFault, Printed as Lines}
 use Rattle.clr_process_io.specs.declared.faults.RunFault.{RunFault}
 use Rattle.clr_process_io.specs.declared.faults.RunFault.TheVariants as run_fault
 use Rattle.clr_office_reports.specs.declared.outputs.Output.{Output}
-use Rattle.clr_desk_prints.specs.Printing.{AreLinesAsNotes, IsMadePrintout, IsPrintoutFault, IsPrintoutIn, IsPrintoutOfCase, PrintoutOrFault, as_notes, of_fault}
+use Rattle.clr_desk_prints.specs.Printing.{AreLinesAsNotes, IsMadePrintout, IsPrintoutFault, IsPrintoutIn, IsPrintoutOfCase, PrintoutOrFault, as_notes}
+use Rattle.clr_desk_prints.specs.Printing.{of_fault}
 use Rattle.clr_desk_prints.specs.Printing.{of_why, unless_lost}
 use Rattle.clr_desk_prints.specs.declared.prints.Print.{Print}
 
@@ -40,8 +41,8 @@ module _ (Q : Lines → Type 0) (P : PrintoutOrFault → Type 0) (leads : (lines
   noted (Err e) (Ok print) made are = absurd are
   noted (Err e) (Err f) made are = subst (IsPrintoutFault P) (sym are) (fault_noted e made)
 
--- of an office text that gives no office in which the rules hold
-pub office_fault : (P : Office → PrintoutOrFault → Type 0) (given : Result Office TextFault) (answer : Result Output RunFault) (result : Result Print RunFault)
+-- of an office text that gives no office whose broken needs are known
+pub office_fault : (P : Office → PrintoutOrFault → Type 0) (given : Opened) (answer : Result Output RunFault) (result : Result Print RunFault)
     → AreLinesMade (IsLinesIn IsNoPrint given) answer → AreLinesAsNotes answer result → IsMadePrintout (IsPrintoutIn P given) result
 office_fault P given = noted (IsLinesIn IsNoPrint given) (IsPrintoutIn P given) (λ lines h. of_fault lines h refl)
 

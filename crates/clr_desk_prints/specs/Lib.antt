@@ -1,3 +1,4 @@
+pub mod Calls
 pub mod Members
 pub mod NameHints
 pub mod Printing

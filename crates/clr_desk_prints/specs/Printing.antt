@@ -2,13 +2,12 @@
 use Rattle.std.specs.Prelude.{◌≡◌, ℕ, Bool, true, false, List, [], None, Result, Ok, Err, not, if◌then◌else◌}
 use Rattle.clr_steps.specs.Offices.{Office}
 use Rattle.clr_steps.specs.Quiet.{MergeSet}
-use Rattle.clr_engine.specs.Drafts.{unheld_in}
 use Rattle.clr_cert.specs.declared.certificates.Certificate.{Certificate}
 use Rattle.clr_check.specs.Cases.{Case}
 use Rattle.clr_check.specs.declared.cases.CaseFault.{CaseFault}
 use Rattle.clr_merge_sets.specs.declared.plans.Plan.{Plan}
 use Rattle.clr_merge_sets.specs.Plans.{is_cleared, is_out_of_memory}
-use Rattle.clr_rule_text.specs.declared.faults.TextFault.{TextFault}
+use Rattle.clr_office_texts.specs.Drafts.{Opened}
 use Rattle.clr_office.specs.Clearances.{fault_print}
 use Rattle.clr_office.specs.Outcomes.{IsPlanned}
 use Rattle.clr_office_reports.specs.Printing.{IsNoPrint, status_of}
@@ -67,9 +66,9 @@ as_notes (Err e) = Err e
 
 -- texts --------------------------------------------------------------------------------------
 
--- what is printed of an office text: what is asked of its office, or as notes why there is none, or which rule doesn't hold
-pub data IsPrintoutIn (IsPrint : Office → PrintoutOrFault → Type 0) (given : Result Office TextFault) (print : PrintoutOrFault) : Type 0 where
-  of_office : (o : Office) → given ≡ Ok o → unheld_in o ≡ None → IsPrint o print → IsPrintoutIn IsPrint given print
+-- what is printed of an office text: what is asked of its office, or as notes why there is none, or which need is broken and isn't known
+pub data IsPrintoutIn (IsPrint : Office → PrintoutOrFault → Type 0) (given : Opened) (print : PrintoutOrFault) : Type 0 where
+  of_office : (o : Office) → given ≡ Ok (o, None) → IsPrint o print → IsPrintoutIn IsPrint given print
   of_fault : (lines : Lines) → IsLinesIn IsNoPrint given lines → print ≡ as_notes lines → IsPrintoutIn IsPrint given print
 
 -- what is printed for an office text and a certificate's text

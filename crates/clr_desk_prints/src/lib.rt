@@ -1,21 +1,21 @@
-//! What the answers of the second program share: prints, hints at names, the members that names ask for, and their plan.
+//! What the answers of the second program share: prints, answers over the office of a text, the members that names ask for, and their plan.
 //!
-//! - `Print`: a text for standard output, notes for standard error, and an ending, which tells the exit status. A print that
+//! - `Print`: a text for standard output, notes for standard error, and an ending, which gives the exit status. A print that
 //!   found no memory shows no text.
 //! - `notes_of`: the lines of an office text that is refused, as notes.
-//! - `with_hints`, and `hint_lines` of `clr_office`: hints at names that no workspace has, each at the workspace whose name is most like it, where one is like
-//!   enough, and no others (`IsHinted`).
-//! - `members_asked`: the members that names ask for, which are all children of the root where there is no name (`members_or_children`).
+//! - `answer_over_office`, `answer_over_members`: what a call prints of the office of a text, and of the members that names ask for. Behind its notes are
+//!   hints at names that no workspace has, each at the workspace whose name is most like it, if one is like enough, and no others (`IsHinted`).
+//! - `members_asked`: the members that names ask for, which are all children of the root if there is no name (`members_or_children`).
 //! - `plan_members`: the plan of members, with what it promises (`IsPlanned`).
 #![tactic(auto)]
 
 mod children;
-mod name_hints;
+mod openings;
 mod plans;
 mod prints;
 
 pub use children::members_asked;
 pub use clr_office::{RunFault, hint_lines};
-pub use name_hints::with_hints;
+pub use openings::{answer_over_members, answer_over_office};
 pub use plans::plan_members;
 pub use prints::{Ending, Print, notes_of};

@@ -1,5 +1,5 @@
 //! The desk of those who plan: with words it does what a subcommand asks of files, and prints the
-//! answer on standard output and what is to be said beside it on standard error.
+//! answer on standard output and its notes on standard error.
 //!
 //! It is safe; what it does with words, files, streams and statuses no contract says.
 #![tactic(auto)]

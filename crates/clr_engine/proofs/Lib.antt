@@ -1,13 +1,8 @@
 pub mod Answered
-pub mod Changed
-pub mod Contents
+pub mod BrokenNow
 pub mod Dispatch
-pub mod Fits
-pub mod Kept
 pub mod Positions
-pub mod Prepared
 pub mod Readings
-pub mod Scenes
 pub mod Served
 pub mod Steps
 pub mod Unheld

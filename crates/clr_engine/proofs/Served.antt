@@ -22,15 +22,16 @@ use Rattle.clr_steps.specs.declared.commands.Reply.{Reply}
 use Rattle.clr_steps.proofs.SeenLemmas.{name_is, name_law, within}
 use Rattle.clr_engine.specs.Fitting.{IsAdmitted}
 use Rattle.clr_grid.specs.Finders.{AreFinders, IsFinderAt, IsFinderOf}
-use Rattle.clr_engine.specs.KeptContents.{IsPositionOf, StayFinders, kept_content_at, kept_content, kept_contents}
-use Rattle.clr_engine.specs.Fitting.{IsServed}
+use Rattle.clr_engine.specs.KeptContents.{IsPositionOf, kept_content_at}
+use Rattle.clr_judges.specs.KeptContents.{StayFinders, kept_content, kept_contents}
+use Rattle.clr_judges.specs.Fitting.{IsServed}
 use Rattle.clr_grid.proofs.Indexes.{one_at, one_less, one_more, one_set}
-use Rattle.clr_engine.proofs.Kept.{after_creating, after_removing, content_at, same_content}
+use Rattle.clr_judges.proofs.Kept.{after_creating, after_removing, content_at, same_content}
 
 module _ (schema : List TableDef) (book : List Rule) (ws : List Workspace) (sound : IsSound ws) where
   pub served : IsAdmitted (office_of schema book ws) → (finders : List (Option FiledRows)) → AreFinders book (kept_contents ws) finders →
       IsServed book ws finders
-  served admitted finders are = record { sound = sound; fit = (schema, admitted.fit); are = are }
+  served admitted finders are = record { sound = sound; fit = record { tables = schema; book = admitted.fit.book; rows = admitted.fit.rows }; are = are }
 
   -- ---- positions of an office
   got : (vs : List Workspace) (k : ℕ) → k < length vs → slice_get vs k ≡ Some (workspace_at vs k)
@@ -104,37 +105,12 @@ after_unmarking ws at name = by (find_mark (workspace_at ws at).marks name)
     by None = refl
     by (Some i) = same_content ws at (with_marks (λ ms. remove ms i)) refl
 
-pub after_holding : (book : List Rule) (ws : List Workspace) (at : ℕ) (old new : List (Option FiledRows)) (finder : FiledRows) →
-    AreFinders book (kept_contents ws) old
-    → IsFinderOf book (workspace_at ws at).current finder → new ≡ slice_set old at (Some finder) → AreFinders book (kept_contents (set_kept ws at true)) new
-after_holding book ws at old new finder are is e =
-    let w = workspace_at ws at in
-    subst (AreFinders book (kept_contents (set_kept ws at true))) (sym e)
-    (subst (λ cs. AreFinders book cs (slice_set old at (Some finder))) (sym (map-set kept_content ws at (with_kept true w)))
-    (one_set book (kept_contents ws) old are at (Some w.current) (Some finder) is))
-
 pub after_releasing : (ws : List Workspace) (at : ℕ) (old new : List (Option FiledRows)) → new ≡ slice_set old at None
     → StayFinders ws old (set_kept ws at false) new
 after_releasing ws at old new e book are =
     subst (AreFinders book (kept_contents (set_kept ws at false))) (sym e)
     (subst (λ cs. AreFinders book cs (slice_set old at None)) (sym (map-set kept_content ws at (with_kept false (workspace_at ws at))))
     (one_set book (kept_contents ws) old are at None None tt))
-
--- ---- one workspace after another
-pub one_found : (book : List Rule) (ws : List Workspace) (at : ℕ) (old new : List (Option FiledRows)) (finder : Option FiledRows) → at < length ws
-    → AreFinders book (take at (kept_contents ws)) old
-    → IsFinderAt book (kept_content (workspace_at ws at)) finder → new ≡ old ++ finder ∷ [] → AreFinders book (take (at + 1) (kept_contents ws)) new
-one_found book ws at old new finder lt are is e =
-    let cs = kept_contents ws in
-    let within : at < length cs = subst (λ n. at < n) (sym (length-map ws kept_content)) lt in
-    subst (AreFinders book (take (at + 1) cs)) (sym e)
-    (subst (λ m. AreFinders book m (old ++ finder ∷ [])) (sym (take_more cs at None within))
-    (one_more book (take at cs) old are (one_at cs at) finder (subst (λ c. IsFinderAt book c finder) (sym (content_at ws at)) is)))
-
-pub all_found : (book : List Rule) (ws : List Workspace) (at : ℕ) (finders : List (Option FiledRows)) → at ≡ length ws
-    → AreFinders book (take at (kept_contents ws)) finders → AreFinders book (kept_contents ws) finders
-all_found book ws at finders all are =
-    subst (λ cs. AreFinders book cs finders) (ap (λ n. take n (kept_contents ws)) (all ∙ sym (length-map ws kept_content)) ∙ take-length (kept_contents ws)) are
 
 -- ---- positions that come and go
 pub was_ok : {P : Type 0} (r : Result Unit AllocError) → is_err r ≡ false → OnOk r P → P

@@ -1,12 +1,20 @@
 -- What commands leave keeps fitting, and keeps the rules.
-use Rattle.std.proofs.Common.{Bool, true, false, sym, ap, subst}
+use Rattle.std.proofs.Common.{◌≡◌, ℕ, Bool, true, false, List, None, sym, ap, subst}
+use Rattle.clr_rows.specs.declared.tables.TableDef.{TableDef}
+use Rattle.clr_change.specs.declared.edits.Edit.{Edit}
+use Rattle.clr_change.specs.Edits.{after_edits, first_bad_edit}
+use Rattle.clr_change.proofs.EditLemmas.{all_edited_fits}
+use Rattle.clr_rules.specs.declared.rules.Rule.{Rule}
+use Rattle.clr_workspaces.specs.Workspaces.{Workspace, workspace_at}
 use Rattle.clr_rules.specs.Books.{FitsBook}
 use Rattle.clr_steps.specs.declared.commands.Command.{Command}
 use Rattle.clr_steps.specs.declared.commands.Reply.{Reply}
-use Rattle.clr_steps.specs.Offices.{Office}
+use Rattle.clr_steps.specs.Offices.{Office, office_of}
 use Rattle.clr_steps.specs.Steps.{Answer, IsAnswer, is_lost, step, step_or_lost}
 use Rattle.clr_steps.proofs.FitLemmas.{fit_law}
 use Rattle.clr_steps.proofs.SchemaLemmas.{schema_law}
+use Rattle.clr_judges.specs.Fitting.{FitBoth}
+use Rattle.clr_judges.proofs.Fits.{content_at}
 use Rattle.clr_engine.specs.Fitting.{IsFitting}
 
 -- what holds before a step and after it holds after an answer
@@ -30,4 +38,13 @@ fits_step o c h =
 pub fits_after : (o : Office) (c : Command) (reply : Reply) (left : Office) → IsFitting o → IsAnswer o c reply left → IsFitting left
 fits_after o c reply left h answered = after_answer IsFitting o c reply left h (fits_step o c h) answered
 
--- after each answer, rules hold where they are to hold
+-- a workspace after edits that can be made
+pub fit_edited : (schema : List TableDef) (book : List Rule) (ws : List Workspace) → IsFitting (office_of schema book ws) → (at : ℕ) (edits : List Edit)
+    → first_bad_edit schema (workspace_at ws at).current 1 edits ≡ None
+    → FitBoth book (workspace_at ws at).current (after_edits (workspace_at ws at).current edits)
+fit_edited schema book ws h at edits none = record {
+  tables = schema;
+  book = h.book;
+  before = content_at schema book ws h.rows at;
+  after = all_edited_fits schema (workspace_at ws at).current edits (content_at schema book ws h.rows at) none;
+}

@@ -1,6 +1,8 @@
--- Drafts, whose rows and rules fit one schema, and offices, in which the rules hold.
+-- Drafts, whose rows and rules fit one schema, and what keeps one from being an office.
 use Rattle.std.specs.Prelude.{◌≡◌, ℕ, zero, suc, List, map, Option, Some, None, slice_get}
 use Rattle.std.specs.Option.{option_or, option_map}
+use Rattle.clr_audit.specs.Unknown.{first_unknown}
+use Rattle.clr_judges.specs.Unheld.{unknown_from}
 use Rattle.clr_rows.specs.Contents.{Content}
 use Rattle.clr_rows.specs.declared.tables.TableDef.{TableDef}
 use Rattle.clr_deltas.specs.Differing.{delta_from}
@@ -12,9 +14,7 @@ use Rattle.clr_rules.specs.declared.rules.Rule.{Rule}
 use Rattle.clr_rules.specs.declared.needs.Broken.{Broken}
 use Rattle.clr_engine.specs.declared.drafts.AdmitFault.{AdmitFault}
 use Rattle.clr_engine.specs.declared.drafts.AdmitFault.TheVariants as fault
-use Rattle.clr_steps.specs.Invariants.{unheld_from}
 use Rattle.clr_steps.specs.Offices.{Office, content_of}
-use Rattle.clr_steps.specs.Refusals.{first_broken}
 
 -- the office that a schema, rules, LIVE's content and parts make
 abbrev pub office_of_parts : List TableDef → List Rule → Content → List Part → Office
@@ -29,9 +29,10 @@ part_at o (suc k) = slice_get o.workspaces k
 abbrev pub delta_in : Office → Workspace → Delta
 delta_in o w = delta_from (content_of o w.parent) w
 
--- the position and the least broken need of the first content in which a rule is broken: LIVE, at 0, or else a kept workspace, in order of creation
-abbrev pub unheld_in : Office → Option (ℕ × Broken)
-unheld_in o = option_or (option_map (λ need. (0, need)) (first_broken o.book o.live)) (unheld_from o.book 1 o.workspaces)
+-- the first content that breaks a need which isn't known: its position, and the least such need. LIVE comes first, at 0, and then each kept workspace, in order
+-- of creation
+abbrev pub unheld_in : Office → List Broken → Option (ℕ × Broken)
+unheld_in o known = option_or (option_map (λ need. (0, need)) (first_unknown o.book known o.live)) (unknown_from o.book known 1 o.workspaces)
 
 -- a draft isn't admitted for that, or for want of memory
 abbrev pub IsUnheld : Option (ℕ × Broken) → AdmitFault → Type 0

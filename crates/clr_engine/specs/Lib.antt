@@ -1,3 +1,4 @@
+pub mod BrokenNow
 pub mod Drafts
 pub mod Fitting
 pub mod KeptContents

@@ -18,14 +18,14 @@ ghost use Rattle.clr_steps.specs.declared.commands.Command.TheVariants as comman
 ghost use Rattle.clr_steps.specs.declared.commands.Reply.TheVariants.{Done, OutOfMemory};
 ghost use Rattle.clr_engine.specs.Fitting.{IsAdmitted, IsFitting};
 ghost use Rattle.clr_grid.specs.Finders.{AreFinders};
-ghost use Rattle.clr_engine.specs.KeptContents.{kept_contents};
+ghost use Rattle.clr_judges.specs.KeptContents.{kept_contents};
 ghost use Rattle.clr_engine.specs.Performed.{IsPerformedAt, name_of};
-ghost use Rattle.clr_engine.specs.Fitting.{IsServed};
+ghost use Rattle.clr_judges.specs.Fitting.{IsServed};
 
-use crate::judges::Judge;
 use crate::plain_commands::{create, finish, mark, release, remove, unmark, write_above};
 use clr_change::{Edit, EditFault, are_same, first_conflict, stage};
 use clr_grid::Finders;
+use clr_judges::Judge;
 use clr_rows::{CellId, Row, Schema};
 use clr_steps::{Command, Keep, Reply};
 use clr_tree::{Rebase, Tree};
@@ -184,7 +184,7 @@ fn is_in_conflict(tree: &Tree, at: usize, above: usize, cell: CellId) -> bool
 }
 
 /// Returns the row that a workspace has at a cell once it is resolved.
-#[tactic(auto, using(crate::proofs::Contents::set_same))]
+#[tactic(auto, using(clr_judges::proofs::Contents::set_same))]
 fn row_to_keep(tree: &Tree, at: usize, above: usize, cell: CellId, keep: Keep) -> Option<&Row>
     requires child { 0 < at }
     requires within { at < length tree.now.list }

@@ -4,15 +4,16 @@ ghost use Rattle.std.specs.Prelude.{◌≡◌, None, option_map, IfOk, IfErr, On
 ghost use Rattle.clr_steps.specs.Offices.{office_of};
 ghost use Rattle.clr_steps.specs.Readings.{name_at};
 ghost use Rattle.clr_workspace_parts.specs.Parts.{first_fault, IsFirstPartFault};
+ghost use Rattle.clr_engine.specs.BrokenNow.{AreBrokenNow};
 ghost use Rattle.clr_engine.specs.Fitting.{IsFitting};
 ghost use Rattle.clr_engine.specs.Drafts.{IsUnheld, office_of_parts, unheld_in};
 
-use crate::judges::Judge;
 use crate::offices::Office;
+use clr_judges::Judge;
 use clr_rows::{Schema, Sheet};
 use clr_rules::{Broken, RuleBook};
 use clr_tree::{Part, PartFault, Tree};
-use std::alloc::Global;
+use std::alloc::{AllocError, Global};
 use std::marker::Model;
 
 /// A database whose rules aren't yet known to hold: its schema, its rules, LIVE's content and the
@@ -52,8 +53,9 @@ impl Model for Draft {
 pub enum AdmitFault {
     /// No memory was found.
     OutOfMemory,
-    /// A rule is broken: the position of the first workspace that breaks one, and its least broken
-    /// need. LIVE has position 0, and then come those that are kept, in order of creation.
+    /// A need is broken that isn't known: the position of the first workspace that breaks such a need,
+    /// and its least such need. LIVE has position 0, and then come those that are kept, in order of
+    /// creation.
     Broken { position: usize, need: Broken },
 }
 
@@ -129,18 +131,41 @@ impl Draft {
         }
     }
 
-    /// Returns the office that has all that the draft has, where every rule holds in LIVE and in
-    /// each workspace that is kept. Otherwise it fails and gives the draft back: with `Broken` and
-    /// the first of these that breaks a rule, or with `OutOfMemory`.
-    /// For example, where rule 1 lets mains cross only at nodes, and mains 1 and 2 cross without one in LIVE, it fails
-    /// with the draft and the need of mains 1 and 2 under rule 1.
-    pub fn admit(self) -> Result<Office, (Draft, AdmitFault)>
-        ensures office { IfOk result (λ office. office ≡ self) }
-        ensures held { OnOk result (unheld_in self ≡ None) }
-        ensures draft { IfErr result (λ refused. refused.0 ≡ self) }
-        ensures fault { IfErr result (λ refused. IsUnheld (unheld_in self) refused.1) }
+    /// Returns the needs that are broken in LIVE or in a workspace that is kept, ascending, each once.
+    /// For example, where LIVE breaks the need of mains 1 and 2 under rule 0, and so does a workspace that is kept, the
+    /// list has this need alone.
+    pub fn broken_needs(&self) -> Result<Vec<Broken>, AllocError>
+        ensures { IfOk result (λ list. AreBrokenNow self.now list.items) }
     {
-        match self.judge.finders(&self.tree) {
+        self.judge.broken_needs(&self.tree)
+    }
+
+    /// Returns the position of the first workspace that breaks a need which isn't among the known
+    /// ones, and its least such need, or none: what `admit` would fail with. LIVE has position 0, and
+    /// then come those that are kept, in order of creation. The known needs may be in any order, be
+    /// there twice, or not be broken. It takes far less memory than `admit`, and less time.
+    /// For example, where mains 1 and 2 break rule 0 in LIVE, it returns 0 and this need if no need is known, and none if
+    /// this one is.
+    pub fn unheld(&self, known: &[Broken]) -> Result<Option<(usize, Broken)>, AllocError>
+        ensures { IfOk result (λ found. found ≡ unheld_in self.now known.now) }
+    {
+        self.judge.unheld(&self.tree, known)
+    }
+
+    /// Returns the office that has all that the draft has, where each need that is broken in LIVE or
+    /// in a workspace that is kept is among the known ones. Otherwise it fails and gives the draft
+    /// back: with `Broken` and the first of these that breaks another need, or with `OutOfMemory`.
+    /// The known needs may be in any order, be there twice, or not be broken. They count here alone:
+    /// later a need is old by the rows that break it.
+    /// For example, where rule 1 lets mains cross only at nodes, and mains 1 and 2 cross without one in LIVE, it fails
+    /// with the draft and the need of mains 1 and 2 under rule 1, unless that need is known.
+    pub fn admit(self, known: &[Broken]) -> Result<Office, (Draft, AdmitFault)>
+        ensures office { IfOk result (λ office. office ≡ self) }
+        ensures held { OnOk result (unheld_in self known.now ≡ None) }
+        ensures draft { IfErr result (λ refused. refused.0 ≡ self) }
+        ensures fault { IfErr result (λ refused. IsUnheld (unheld_in self known.now) refused.1) }
+    {
+        match self.judge.finders(&self.tree, known) {
             Ok(Ok(finders)) => {
                 let Draft {
                     schema,
@@ -148,7 +173,7 @@ impl Draft {
                     mut tree,
                 } = self;
                 tree.sweep();
-                Ok(Office::of_parts(schema, judge, tree, finders))
+                Ok(Office::of_parts(schema, judge, tree, finders, known.is_empty()))
             }
             Ok(Err((position, need))) => Err((self, AdmitFault::Broken { position, need })),
             Err(_) => Err((self, AdmitFault::OutOfMemory)),

@@ -32,7 +32,6 @@
 mod commands;
 mod conflicts;
 mod drafts;
-mod judges;
 mod offices;
 mod plain_commands;
 

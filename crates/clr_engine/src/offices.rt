@@ -1,6 +1,6 @@
 //! Offices, and what is read of them.
 
-ghost use Rattle.std.specs.Prelude.{◌≡◌, ◌+◌, ◌∷◌, false, length, is_some, option_map, IfOk, IfSome, OnErr, OnOk};
+ghost use Rattle.std.specs.Prelude.{◌≡◌, ◌+◌, ◌∷◌, false, true, length, is_some, option_map, IfOk, IfSome, OnErr, OnOk};
 ghost use Rattle.std.specs.Option.{option_copied};
 ghost use Rattle.clr_rows.specs.Contents.{row_at};
 ghost use Rattle.clr_workspaces.specs.Workspaces.{live_workspace};
@@ -13,16 +13,19 @@ ghost use Rattle.clr_steps.specs.Steps.{is_lost, lost_in, run, IsAnswer, TakesNo
 ghost use Rattle.clr_engine.specs.Fitting.{IsAdmitted};
 ghost use Rattle.clr_engine.specs.Drafts.{delta_in, part_at};
 ghost use Rattle.clr_grid.specs.Finders.{AreFinders, IsFinderAt};
-ghost use Rattle.clr_engine.specs.KeptContents.{IsPositionOf, current_at, kept_content_at, kept_contents};
+ghost use Rattle.clr_engine.specs.BrokenNow.{AreBrokenNow};
+ghost use Rattle.clr_engine.specs.KeptContents.{IsPositionOf, current_at, kept_content_at};
+ghost use Rattle.clr_judges.specs.KeptContents.{kept_contents};
+ghost use Rattle.clr_steps.specs.Invariants.{HoldsWhereKept};
 ghost use Rattle.clr_engine.specs.Trees.{IsSwept};
 
 use crate::commands::perform;
 use crate::conflicts::conflicting_cells;
-use crate::judges::Judge;
 use clr_change::ChangeSet;
 use clr_grid::{Finders, SpotIndex};
+use clr_judges::Judge;
 use clr_rows::{CellId, Row, Schema, Sheet};
-use clr_rules::RuleBook;
+use clr_rules::{Broken, RuleBook};
 use clr_steps::{Command, Reply};
 use clr_tree::{DeltaView, Part, Tree, View};
 use std::alloc::AllocError;
@@ -36,6 +39,8 @@ pub struct Office {
     judge: Judge,
     tree: Tree,
     finders: Finders,
+    // whether every rule is known to hold in LIVE and in each workspace that is kept
+    held: bool,
 }
 
 // (so that who lets an office go calls this, and needn't prove anew how each of its parts is dropped)
@@ -46,6 +51,7 @@ impl Drop for Office {
             judge: _judge,
             tree: _tree,
             finders: _finders,
+            held: _held,
         } = self;
     }
 }
@@ -54,8 +60,10 @@ impl Model for Office {
     ghost use Rattle.clr_steps.specs.Offices.{Office as Whole, office_code, office_of};
     ghost use Rattle.clr_engine.specs.Fitting.{IsAdmitted};
     ghost use Rattle.clr_grid.specs.Finders.{AreFinders};
-    ghost use Rattle.clr_engine.specs.KeptContents.{kept_contents};
+    ghost use Rattle.clr_judges.specs.KeptContents.{kept_contents};
     ghost use Rattle.clr_engine.specs.Trees.{IsSwept};
+    ghost use Rattle.clr_steps.specs.Invariants.{HoldsWhereKept};
+    ghost use Rattle.std.specs.Prelude.{◌≡◌, true};
 
     ghost Value = { Whole };
 
@@ -63,14 +71,22 @@ impl Model for Office {
 
     ghost view = { λ o. office_of o.schema o.judge o.tree.list };
 
-    ghost invariant = { λ o. IsAdmitted (office_of o.schema o.judge o.tree.list) × AreFinders o.judge (kept_contents o.tree.list) o.finders × IsSwept o.tree };
+    ghost invariant = { λ o. IsAdmitted (office_of o.schema o.judge o.tree.list) × AreFinders o.judge (kept_contents o.tree.list) o.finders × IsSwept o.tree
+        × (o.held ≡ true → HoldsWhereKept (office_of o.schema o.judge o.tree.list)) };
 }
 
 impl Office {
-    pub(crate) fn of_parts(schema: Schema, judge: Judge, tree: Tree, finders: Finders) -> Office
+    pub(crate) fn of_parts(
+        schema: Schema,
+        judge: Judge,
+        tree: Tree,
+        finders: Finders,
+        held: bool,
+    ) -> Office
         requires admitted { IsAdmitted (office_of schema judge tree.list) }
         requires are { AreFinders judge (kept_contents tree.list) finders }
         requires swept { IsSwept tree }
+        requires held { held ≡ true → HoldsWhereKept (office_of schema judge tree.list) }
         ensures { result ≡ office_of schema judge tree.list }
     {
         Office {
@@ -78,6 +94,7 @@ impl Office {
             judge,
             tree,
             finders,
+            held,
         }
     }
 
@@ -288,6 +305,19 @@ impl Office {
             return None;
         }
         Some(self.tree.delta(position))
+    }
+
+    /// Returns the needs that are broken in LIVE or in a workspace that is kept, ascending, each once. It
+    /// is empty at once where the office was admitted without a known need: no command breaks one then.
+    /// For example, where mains 1 and 2 broke rule 0 in LIVE when the office was admitted, with this need as known, the
+    /// list has this need, and is empty once a node is set where they cross.
+    pub fn broken_needs(&self) -> Result<Vec<Broken>, AllocError>
+        ensures { IfOk result (λ list. AreBrokenNow self.now list.items) }
+    {
+        if self.held {
+            return Ok(Vec::new(self.judge.allocator()));
+        }
+        self.judge.broken_needs(&self.tree)
     }
 
     /// Performs one command, whole or not at all. The reply is the first refusal that applies, or

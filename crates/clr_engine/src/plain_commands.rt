@@ -15,7 +15,7 @@ ghost use Rattle.clr_steps.specs.Steps.{is_lost};
 ghost use Rattle.clr_steps.specs.declared.commands.Command.TheVariants as command;
 ghost use Rattle.clr_steps.specs.declared.commands.Reply.TheVariants.{Done, OutOfMemory, BadName, NameTaken, TooMany};
 ghost use Rattle.clr_grid.specs.Finders.{AreFinders, HasForgotten, HasSettled, IsChangedAt};
-ghost use Rattle.clr_engine.specs.KeptContents.{IsPrepared, StayFinders, kept_contents};
+ghost use Rattle.clr_judges.specs.KeptContents.{IsPrepared, StayFinders, kept_contents};
 ghost use Rattle.clr_engine.specs.Performed.{IsPerformedAt, name_of};
 
 use clr_change::ChangeSet;

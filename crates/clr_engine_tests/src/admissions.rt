@@ -34,7 +34,7 @@ fn lines_of(alloc: Global, draft: &Draft, fault: AdmitFault) -> Option<Vec<u8>> 
 
 /// Returns the lines of why a draft isn't admitted, with its rows of LIVE, or no bytes where it is admitted.
 fn fault_lines(alloc: Global, draft: Draft) -> Option<Vec<u8>> {
-    match draft.admit() {
+    match draft.admit(&[]) {
         Ok(_) => Some(Vec::new(alloc)),
         Err((draft, fault)) => lines_of(alloc, &draft, fault),
     }
@@ -78,7 +78,7 @@ const DRAFTS: [(&str, &str, &str); 5] = [
 /// Returns what is said of the draft of a text.
 fn lines_over(alloc: Global, live: &str, workspaces: &str) -> Option<Vec<u8>> {
     let text = text(alloc, live, workspaces).ok()?;
-    fault_lines(alloc, read_office(alloc, text.as_bytes()).ok()?)
+    fault_lines(alloc, read_office(alloc, text.as_bytes()).ok()?.draft)
 }
 
 /// Returns whether this is said of the draft of a text.

@@ -198,7 +198,7 @@ now rows 0
 
 /// Returns all that the office of a draft has.
 fn picture_of(alloc: Global, draft: Draft) -> Option<Vec<u8>> {
-    match draft.admit() {
+    match draft.admit(&[]) {
         Ok(office) => picture(alloc, &office),
         Err(_) => None,
     }

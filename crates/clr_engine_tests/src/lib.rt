@@ -6,6 +6,8 @@ mod admissions;
 #[cfg(test)]
 mod builds;
 #[cfg(test)]
+mod known_needs;
+#[cfg(test)]
 mod scarce_admissions;
 #[cfg(test)]
 mod scarce_commands;

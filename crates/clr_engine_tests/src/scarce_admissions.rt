@@ -42,7 +42,7 @@ fn if_shown(alloc: Global, office: &Office, answer: bool) -> Option<bool> {
 
 /// Admits a draft that was given back; none where its office has something else.
 fn admit_again(alloc: Global, draft: Draft) -> Option<bool> {
-    match draft.admit() {
+    match draft.admit(&[]) {
         Ok(office) => if_shown(alloc, &office, false),
         Err(_) => None,
     }
@@ -51,7 +51,7 @@ fn admit_again(alloc: Global, draft: Draft) -> Option<bool> {
 /// Returns whether a draft is admitted with the memory that is left, or again with enough; none where its
 /// office has something else.
 fn is_admitted(alloc: Global, hoard: &mut Hoard, draft: Draft) -> Option<bool> {
-    let admitted = draft.admit();
+    let admitted = draft.admit(&[]);
     hoard.give_back();
     match admitted {
         Ok(office) => if_shown(alloc, &office, true),
@@ -62,7 +62,7 @@ fn is_admitted(alloc: Global, hoard: &mut Hoard, draft: Draft) -> Option<bool> {
 
 /// Returns whether a draft is admitted with a budget of bytes, or again with enough; none where its office has something else.
 fn is_admitted_within(alloc: Global, hoard: &mut Hoard, budget: usize) -> Option<bool> {
-    let draft = read_office(alloc, DRAFT.as_bytes()).ok()?;
+    let draft = read_office(alloc, DRAFT.as_bytes()).ok()?.draft;
     match hoard.leave(budget) {
         Ok(()) => is_admitted(alloc, hoard, draft),
         Err(_) => None,

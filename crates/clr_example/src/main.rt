@@ -17,10 +17,10 @@ use std::fs::read_to_string;
 use std::io::Result as IoResult;
 use std::process::ExitCode;
 
-/// Returns the office of a text in which every rule holds.
+/// Returns the office of a text, in which each broken need is known.
 fn open(alloc: Global, text: &str) -> Option<Office> {
-    let draft = read_office(alloc, text.as_bytes()).ok()?;
-    draft.admit().ok()
+    let read = read_office(alloc, text.as_bytes()).ok()?;
+    read.draft.admit(read.known.as_slice()).ok()
 }
 
 /// Returns a certificate of designs, once it is checked: until a command is given that isn't quiet, no merge or refresh of one of its members meets a

@@ -1,6 +1,6 @@
 pub mod FieldLemmas
-pub mod StandingLemmas
-pub mod NameLemmas
 pub mod NamedFaults
 pub mod PathLemmas
+pub mod RepeatedLemmas
+pub mod StandingLemmas
 pub mod Values

@@ -11,13 +11,13 @@ use Rattle.clr_faults.specs.declared.spots.FaultyItem.{FaultyItem}
 use Rattle.clr_text_positions.specs.declared.remarks.Remark.{Remark}
 use Rattle.clr_explanations.specs.Remarks.{IsRemarkIn}
 
-pub said_in : (text : List ℕ) (d : Data) (e : TextFault) (at : FaultyItem) (remark : Remark) → value_in text ≡ Some d → IsRemarkIn d e at remark →
-    MatchOption (value_in text) (string_bytes remark.place ≡ []) (λ x. IsRemarkIn x e at remark)
-said_in text d e at remark is said = subst (λ o. MatchOption o (string_bytes remark.place ≡ []) (λ x. IsRemarkIn x e at remark)) (sym is) said
+pub said_in : (text : List ℕ) (d : Data) (e : TextFault) (at : FaultyItem) (remark : Remark) → value_in text ≡ Some d → IsRemarkIn text d e at remark →
+    MatchOption (value_in text) (string_bytes remark.place ≡ []) (λ x. IsRemarkIn text x e at remark)
+said_in text d e at remark is said = subst (λ o. MatchOption o (string_bytes remark.place ≡ []) (λ x. IsRemarkIn text x e at remark)) (sym is) said
 
 pub said_of_no_value : (text : List ℕ) (e : TextFault) (at : FaultyItem) (remark : Remark) → value_in text ≡ None → string_bytes remark.place ≡ [] →
-    MatchOption (value_in text) (string_bytes remark.place ≡ []) (λ x. IsRemarkIn x e at remark)
-said_of_no_value text e at remark is said = subst (λ o. MatchOption o (string_bytes remark.place ≡ []) (λ x. IsRemarkIn x e at remark)) (sym is) said
+    MatchOption (value_in text) (string_bytes remark.place ≡ []) (λ x. IsRemarkIn text x e at remark)
+said_of_no_value text e at remark is said = subst (λ o. MatchOption o (string_bytes remark.place ≡ []) (λ x. IsRemarkIn text x e at remark)) (sym is) said
 
 pub value_is : (text : List ℕ) (d : Data) → IsUtf8 text → read text ≡ Some d → value_in text ≡ Some d
 unfolding value_in

@@ -1,8 +1,9 @@
 pub mod FaultWords
 pub mod Items
-pub mod Names
+pub mod KnownNeeds
 pub mod Places
 pub mod Readings
 pub mod Remarks
+pub mod RepeatedCells
 pub mod Standing
 pub mod WrongItems

@@ -65,13 +65,16 @@ unfoldable pub path_text : List PathStep → List ℕ
 path_text [] = []
 path_text (s ∷ steps) = first_step_text s ++ flat_map step_text steps
 
-abbrev pub cell_text_of : Option (List ℕ) → Option ℤ → List ℕ
-cell_text_of (Some table) (Some number) = codes ", cell " ++ table ++ codes "/" ++ signed_decimal number
-cell_text_of _ _ = []
+abbrev pub cell_of : Option (List ℕ) → Option ℤ → Option (List ℕ × ℤ)
+cell_of (Some table) (Some key) = Some (table, key)
+cell_of _ _ = None
 
 -- the cell of an item: the table and the key that it has, if it has both
-abbrev pub cell_text : Data → List ℕ
-cell_text item = cell_text_of (option_and_then as_str (get (codes "t") item)) (option_and_then as_i64 (option_and_then as_number (get (codes "k") item)))
+abbrev pub cell_in : Data → Option (List ℕ × ℤ)
+cell_in item = cell_of (option_and_then as_str (get (codes "t") item)) (option_and_then as_i64 (option_and_then as_number (get (codes "k") item)))
+
+abbrev pub cell_text : List ℕ × ℤ → List ℕ
+cell_text cell = codes ", cell " ++ cell.0 ++ codes "/" ++ signed_decimal cell.1
 
 -- a path and what follows it; of the whole text nothing is said
 abbrev pub path_and_cell : List PathStep → List ℕ → List ℕ
@@ -79,7 +82,7 @@ path_and_cell [] cell = []
 path_and_cell (s ∷ steps) cell = codes ", " ++ path_text (s ∷ steps) ++ cell
 
 abbrev pub place_of : Result Data TextFault → FaultyItem → List PathStep → List ℕ
-place_of (Ok item) spot steps = path_and_cell (steps_to spot ++ steps_within steps item) (cell_text item)
+place_of (Ok item) spot steps = path_and_cell (steps_to spot ++ steps_within steps item) (option_map_or cell_text (cell_in item) [])
 place_of (Err e) spot steps = path_and_cell (steps_to spot) []
 
 -- what is said of the place of a fault: the path to its item and on to the value that steps from there lead to, and the cell of the item

@@ -1,9 +1,9 @@
 -- What is wrong with the fields of the item at which a fault stands.
-use Rattle.std.specs.Prelude.{ℕ, List, [], ◌∷◌, codes, Option, Some, None, Result, Ok, Err}
+use Rattle.std.specs.Prelude.{List, [], ◌∷◌, codes, Option, Some, None, Result, Ok, Err}
 use Rattle.std.specs.Option.{option_or}
 use Rattle.serde_json.specs.Data.{Data}
 use Rattle.clr_office_reading.specs.Offices.{format_of}
-use Rattle.clr_office_reading.specs.declared.formats.Format.{Format}
+use Rattle.clr_rule_text.specs.declared.formats.Format.{Format}
 use Rattle.clr_rule_text.specs.declared.faults.TextFault.{TextFault}
 use Rattle.clr_faults.specs.declared.spots.FaultyItem.{FaultyItem}
 use Rattle.clr_faults.specs.declared.spots.FaultyItem.TheVariants.{Whole, Table, Rule, Live, Workspace, Base, Row, Mark, Saved}
@@ -28,7 +28,7 @@ wrong_if_read f (Err e) = None
 -- where no format is read, the number is none of those that are known
 abbrev pub wrong_format : Result Format TextFault → Option Wrong
 wrong_format (Ok format) = None
-wrong_format (Err e) = Some (at_key key.Format (Plain (codes "the format is 1, 2 or 3")))
+wrong_format (Err e) = Some (at_key key.Format (Plain (codes "the format is 1, 2, 3 or 4")))
 
 -- the format of a text, and then its lists
 unfoldable pub wrong_text : Data → Option Wrong
@@ -40,13 +40,16 @@ wrong_text d =
 unfoldable pub wrong_table_in : Data → Data → Option Wrong
 wrong_table_in d item = wrong_if_read (λ format. wrong_table format item) (format_of d)
 
+unfoldable pub wrong_rule_in : Data → Data → Option Wrong
+wrong_rule_in d item = wrong_if_read (λ format. wrong_rule format item) (format_of d)
+
 unfoldable pub wrong_row_in : Within → Data → Data → Option Wrong
 wrong_row_in place d item = wrong_if_read (λ tables. wrong_row tables place item) (tables_in d)
 
 abbrev pub wrong_in_item : FaultyItem → Data → Data → Option Wrong
 wrong_in_item Whole d item = wrong_text d
 wrong_in_item (Table at) d item = wrong_table_in d item
-wrong_in_item (Rule at) d item = wrong_rule item
+wrong_in_item (Rule at) d item = wrong_rule_in d item
 wrong_in_item (Live at) d item = wrong_row_in within.Live d item
 wrong_in_item (Workspace at) d item = wrong_workspace at d
 wrong_in_item (Base at cell) d item = wrong_row_in within.Workspace d item

@@ -4,7 +4,7 @@ ghost use Rattle.serde_json.specs.View.{view};
 ghost use Rattle.clr_office_reading.specs.Offices.{format_of};
 ghost use Rattle.clr_item_explanations.specs.Slips.{said};
 ghost use Rattle.clr_item_explanations.specs.Tellings.{Tells, TellsIfAny};
-ghost use Rattle.clr_explanations.specs.WrongItems.{unknown, wrong_at_spot, wrong_format, wrong_in_item, wrong_row_in, wrong_table_in, wrong_text};
+ghost use Rattle.clr_explanations.specs.WrongItems.{unknown, wrong_at_spot, wrong_format, wrong_in_item, wrong_row_in, wrong_rule_in, wrong_table_in, wrong_text};
 
 use crate::inner_slips::slip_or_unknown;
 use crate::items::item_at;
@@ -27,13 +27,13 @@ fn slip_of_format(alloc: Global, json: &Json) -> Result<Option<Slip>, AllocError
         return Ok(None);
     }
     let steps = [PathStep::Key(Key::Format)];
-    let slip = Slip::of_words(alloc, &steps, "the format is 1, 2 or 3")?;
+    let slip = Slip::of_words(alloc, &steps, "the format is 1, 2, 3 or 4")?;
     Ok(Some(slip))
 }
 
 /// Returns what is wrong with the format of a text, or else with the first of its lists that isn't
 /// one.
-#[tactic(auto, using(clr_item_explanations::proofs::TellingLemmas::first_told, clr_item_explanations::proofs::TellingLemmas::behind_told), unfolding(crate::specs::WrongItems::wrong_text))]
+#[tactic(auto, using(clr_item_explanations::proofs::TellingLemmas::one_after_another), unfolding(crate::specs::WrongItems::wrong_text))]
 fn slip_of_text(alloc: Global, json: &Json) -> Result<Option<Slip>, AllocError>
     ensures { IfOk result (TellsIfAny (wrong_text (view json.now))) }
 {
@@ -60,6 +60,20 @@ fn slip_of_table(alloc: Global, json: &Json, item: &Json) -> Result<Option<Slip>
     match format_in(json)? {
         Some(format) => {
             let found = explain_table(alloc, item, format)?;
+            Ok(found)
+        }
+        None => Ok(None),
+    }
+}
+
+/// Returns what is wrong with the fields of a rule.
+#[tactic(auto, using(crate::proofs::FieldLemmas::rule_read, crate::proofs::FieldLemmas::no_format_of_rule))]
+fn slip_of_rule(alloc: Global, json: &Json, item: &Json) -> Result<Option<Slip>, AllocError>
+    ensures { IfOk result (TellsIfAny (wrong_rule_in (view json.now) (view item.now))) }
+{
+    match format_in(json)? {
+        Some(format) => {
+            let found = explain_rule(alloc, item, format)?;
             Ok(found)
         }
         None => Ok(None),
@@ -97,7 +111,7 @@ fn slip_of_item(
     match spot {
         FaultyItem::Whole => slip_of_text(alloc, json),
         FaultyItem::Table(_) => slip_of_table(alloc, json, item),
-        FaultyItem::Rule(_) => explain_rule(alloc, item),
+        FaultyItem::Rule(_) => slip_of_rule(alloc, json, item),
         FaultyItem::Live(_) => slip_of_row(alloc, json, item, Within::Live),
         FaultyItem::Workspace(at) => explain_workspace(alloc, json, at),
         FaultyItem::Mark(_, _) => explain_mark(alloc, item),

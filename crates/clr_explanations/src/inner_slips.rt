@@ -1,37 +1,33 @@
 //! What is wrong where the reader drops the fault: with the tables, with a rule over the schema, with a row in its table.
-ghost use Rattle.std.specs.Prelude.{◌≡◌, unwrap_or, Ok, IfOk, IfSome, Option};
+ghost use Rattle.std.specs.Prelude.{◌≡◌, unwrap_or, Ok, IfOk, Option};
 ghost use Rattle.serde_json.specs.Data.{Data};
 ghost use Rattle.serde_json.specs.View.{view};
-ghost use Rattle.clr_rule_text.specs.declared.faults.TextFault.TheVariants as text_fault;
+ghost use Rattle.clr_office_reading.specs.Offices.{format_of};
 ghost use Rattle.clr_item_explanations.specs.Tellings.{Tells, TellsIfAny, Wrong};
 ghost use Rattle.clr_explanations.specs.Items.{item_at_spot};
 ghost use Rattle.clr_explanations.specs.WrongItems.{unknown};
-ghost use Rattle.clr_explanations.specs.Remarks.{TellsSchemaFault, TellsFault, TellsRowFault, TellsRowOfNoTable, TellsRuleFault, TellsRuleOfNoName};
+ghost use Rattle.clr_explanations.specs.Remarks.{TellsBadRow, TellsBadRule, TellsBadSchema, TellsKnownFault, TellsRowFault, TellsRowOfNoTable};
+ghost use Rattle.clr_explanations.specs.Remarks.{TellsRuleFault, TellsRuleOfNoName, TellsSchemaFault};
 ghost use Rattle.clr_item_explanations.specs.Slips.{said};
 
 use crate::items::item_at;
+use crate::known_slips::explain_need;
 use crate::readings::{format_in, schema_in};
-use crate::unknown_names::{unknown_name_slip, unknown_table_slip};
-use clr_faults::{FaultyItem, row_fault_at, rule_fault_of, schema_fault_of};
-use clr_item_explanations::{Slip, explain_row_fault, explain_rule_fault, explain_schema};
+use clr_faults::{FaultyItem, known_need_fault_of, row_fault_at, rule_fault_of, schema_fault_of};
+use clr_item_explanations::{Slip, or_words};
 use clr_office_reading::formats::Format;
 use clr_rows::Schema;
+use clr_schema_explanations::{
+    explain_row_fault, explain_rule_fault, explain_schema, unknown_name_slip, unknown_table_slip,
+};
 use serde_json::Value as Json;
 use std::alloc::{AllocError, Global};
 
 /// Returns what is found, or that nothing is.
-#[tactic(auto, using(clr_item_explanations::proofs::TellingLemmas::found_told, crate::proofs::FieldLemmas::unknown_told))]
 pub fn slip_or_unknown(alloc: Global, slip: Option<Slip>) -> Result<Slip, AllocError>
-    ensures kept { IfOk result (λ found. IfSome slip (λ it. found ≡ it)) }
-    ensures told { IfOk result (λ found. (wrong : Option Wrong) → TellsIfAny wrong slip → Tells (unwrap_or wrong unknown) (said found)) }
+    ensures { IfOk result (λ found. (wrong : Option Wrong) → TellsIfAny wrong slip → Tells (unwrap_or wrong unknown) (said found)) }
 {
-    match slip {
-        Some(slip) => Ok(slip),
-        None => {
-            let told = Slip::of_words(alloc, &[], "this can't be read as it stands")?;
-            Ok(told)
-        }
-    }
+    or_words(alloc, slip, &[], "this can't be read as it stands")
 }
 
 /// Returns why the tables of a text of a format make no schema.
@@ -47,10 +43,9 @@ fn slip_of_tables(alloc: Global, json: &Json, format: Format) -> Result<Slip, Al
 
 /// Returns why the tables of a text make no schema.
 #[tactic(auto, using(crate::proofs::NamedFaults::names_bad_schema, crate::proofs::NamedFaults::no_format))]
-pub fn schema_slip(alloc: Global, json: &Json, spot: FaultyItem) -> Result<Slip, AllocError>
-    ensures { IfOk result (λ slip. TellsFault (view json.now) text_fault.BadSchema spot (said slip)) }
+pub fn schema_slip(alloc: Global, json: &Json) -> Result<Slip, AllocError>
+    ensures { IfOk result (λ slip. TellsBadSchema (view json.now) (said slip)) }
 {
-    let _spot = spot;
     match format_in(json)? {
         Some(format) => slip_of_tables(alloc, json, format),
         None => slip_or_unknown(alloc, None),
@@ -87,32 +82,67 @@ fn slip_of_name(
     }
 }
 
-/// Returns why a rule can't stand in a book over a schema.
-#[tactic(auto, using(crate::proofs::NamedFaults::rule_fault_told, crate::proofs::NamedFaults::rule_names_told))]
-fn slip_of_rule(
+/// Returns the first known need that its rule can't have, or what a rule names that the schema hasn't.
+#[tactic(auto, using(crate::proofs::NamedFaults::need_told, crate::proofs::NamedFaults::rule_names_told))]
+fn slip_of_need(
     alloc: Global,
     json: &Json,
     spot: FaultyItem,
+    format: Format,
     schema: &Schema,
 ) -> Result<Slip, AllocError>
-    ensures { IfOk result (λ slip. TellsRuleFault schema.now (view json.now) spot (said slip)) }
+    ensures { IfOk result (λ slip. TellsKnownFault format schema.now (view json.now) spot (said slip)) }
 {
-    match rule_fault_of(alloc, json, schema)? {
-        Some((_, fault)) => explain_rule_fault(alloc, fault),
+    match known_need_fault_of(alloc, json, format, schema)? {
+        Some(need) => explain_need(alloc, need),
         None => slip_of_name(alloc, json, spot, schema),
     }
 }
 
-/// Returns why a rule can't stand over the schema.
+/// Returns why a rule can't stand in a book over a schema.
+#[tactic(auto, using(crate::proofs::NamedFaults::rule_fault_told, crate::proofs::NamedFaults::no_book_fault))]
+fn slip_of_rule(
+    alloc: Global,
+    json: &Json,
+    spot: FaultyItem,
+    format: Format,
+    schema: &Schema,
+) -> Result<Slip, AllocError>
+    ensures { IfOk result (λ slip. TellsRuleFault format schema.now (view json.now) spot (said slip)) }
+{
+    match rule_fault_of(alloc, json, format, schema)? {
+        Some((_, fault)) => explain_rule_fault(alloc, fault),
+        None => slip_of_need(alloc, json, spot, format, schema),
+    }
+}
+
+/// Returns why a rule of a text of this format can't stand over the schema.
 #[tactic(auto, using(crate::proofs::NamedFaults::names_bad_rule, crate::proofs::NamedFaults::no_tables))]
-pub fn rule_slip(alloc: Global, json: &Json, spot: FaultyItem) -> Result<Slip, AllocError>
-    ensures { IfOk result (λ slip. TellsFault (view json.now) text_fault.BadRule spot (said slip)) }
+fn rule_slip_in(
+    alloc: Global,
+    json: &Json,
+    spot: FaultyItem,
+    format: Format,
+) -> Result<Slip, AllocError>
+    requires { format_of (view json.now) ≡ Ok format }
+    ensures { IfOk result (λ slip. TellsBadRule (view json.now) spot (said slip)) }
 {
     match schema_in(alloc, json)? {
         Some(schema) => {
-            let slip = slip_of_rule(alloc, json, spot, &schema)?;
+            let slip = slip_of_rule(alloc, json, spot, format, &schema)?;
             Ok(slip)
         }
+        None => slip_or_unknown(alloc, None),
+    }
+}
+
+/// Returns why a rule can't stand over the schema.
+#[tactic(auto, using(crate::proofs::NamedFaults::no_format_of_rules))]
+pub fn rule_slip(alloc: Global, json: &Json, spot: FaultyItem) -> Result<Slip, AllocError>
+    ensures { IfOk result (λ slip. TellsBadRule (view json.now) spot (said slip)) }
+{
+    match format_in(json)? {
+        Some(format) => rule_slip_in(alloc, json, spot, format),
         None => slip_or_unknown(alloc, None),
     }
 }
@@ -142,7 +172,7 @@ fn slip_of_row(alloc: Global, item: &Json, schema: &Schema) -> Result<Slip, Allo
 /// Returns why the row at an item can't stand in its table.
 #[tactic(auto, using(crate::proofs::NamedFaults::names_bad_row, crate::proofs::NamedFaults::no_tables_of_row, crate::proofs::NamedFaults::no_item))]
 pub fn row_slip(alloc: Global, json: &Json, spot: FaultyItem) -> Result<Slip, AllocError>
-    ensures { IfOk result (λ slip. TellsFault (view json.now) text_fault.BadRow spot (said slip)) }
+    ensures { IfOk result (λ slip. TellsBadRow (view json.now) spot (said slip)) }
 {
     let Some(schema) = schema_in(alloc, json)? else {
         return slip_or_unknown(alloc, None);

@@ -1,7 +1,7 @@
-//! The item of an office text that a fault stands at.
+//! The items of an office text that a fault stands at.
 ghost use Rattle.std.specs.Prelude.{◌≡◌, Ok, IfOk, IsErr, MatchOption};
 ghost use Rattle.serde_json.specs.View.{view};
-ghost use Rattle.clr_explanations.specs.Items.{item_at_spot, item_in_workspace, saved_item};
+ghost use Rattle.clr_explanations.specs.Items.{item_at_spot, item_beside, item_in_workspace, place_in_list, saved_item};
 
 use clr_faults::{FaultyItem, item_in};
 use serde_json::Value as Json;
@@ -52,5 +52,39 @@ pub fn item_at(json: &Json, spot: FaultyItem) -> Result<Option<&Json>, AllocErro
         FaultyItem::Row(at, cell) => item_in_workspace(json, at, "rows", cell),
         FaultyItem::Mark(at, mark) => item_in_workspace(json, at, "marks", mark),
         FaultyItem::Saved(at, mark, cell) => saved_item(json, at, mark, cell),
+    }
+}
+
+/// Returns the place of an item in its list. The whole text is in none.
+pub fn place_in_list(spot: FaultyItem) -> usize
+    ensures { result ≡ place_in_list spot }
+{
+    match spot {
+        FaultyItem::Whole => 0,
+        FaultyItem::Table(at)
+        | FaultyItem::Rule(at)
+        | FaultyItem::Live(at)
+        | FaultyItem::Workspace(at)
+        | FaultyItem::Base(_, at)
+        | FaultyItem::Row(_, at)
+        | FaultyItem::Mark(_, at)
+        | FaultyItem::Saved(_, _, at) => at,
+    }
+}
+
+/// Returns the item at a place of the list that an item is in.
+pub fn item_beside(spot: FaultyItem, place: usize) -> FaultyItem
+    ensures { result ≡ item_beside spot place }
+{
+    match spot {
+        FaultyItem::Whole => FaultyItem::Whole,
+        FaultyItem::Table(_) => FaultyItem::Table(place),
+        FaultyItem::Rule(_) => FaultyItem::Rule(place),
+        FaultyItem::Live(_) => FaultyItem::Live(place),
+        FaultyItem::Workspace(_) => FaultyItem::Workspace(place),
+        FaultyItem::Base(at, _) => FaultyItem::Base(at, place),
+        FaultyItem::Row(at, _) => FaultyItem::Row(at, place),
+        FaultyItem::Mark(at, _) => FaultyItem::Mark(at, place),
+        FaultyItem::Saved(at, mark, _) => FaultyItem::Saved(at, mark, place),
     }
 }

@@ -57,10 +57,10 @@ fn workspace_slip(alloc: Global, json: &Json, spot: FaultyItem) -> Result<Slip, 
 
 /// Returns what is wrong with the item that has the fault.
 fn slip_of(alloc: Global, text: &[u8], json: &Json, found: Found) -> Result<Slip, AllocError>
-    ensures { IfOk result (λ slip. TellsFault (view json.now) found.fault found.spot (said slip)) }
+    ensures { IfOk result (λ slip. TellsFault text.now (view json.now) found.fault found.spot (said slip)) }
 {
     match found.fault {
-        TextFault::BadSchema => schema_slip(alloc, json, found.spot),
+        TextFault::BadSchema => schema_slip(alloc, json),
         TextFault::BadRule => rule_slip(alloc, json, found.spot),
         TextFault::BadRow => row_slip(alloc, json, found.spot),
         TextFault::BadField => field_slip(alloc, json, found.spot),
@@ -75,7 +75,7 @@ fn slip_of(alloc: Global, text: &[u8], json: &Json, found: Found) -> Result<Slip
 #[tactic(auto, using(crate::proofs::NamedFaults::slip_told))]
 fn remark_in(alloc: Global, text: &[u8], json: &Json, found: Found) -> Result<Remark, AllocError>
     ensures within { IfOk result (λ remark. remark.offset ≤ length text.now) }
-    ensures said { IfOk result (IsRemarkIn (view json.now) found.fault found.spot) }
+    ensures said { IfOk result (IsRemarkIn text.now (view json.now) found.fault found.spot) }
 {
     let slip = slip_of(alloc, text, json, found)?;
     remark_of(alloc, text, json, found.spot, slip)

@@ -1,9 +1,9 @@
 //! Where a fault of an office text is, and what is said of that place.
-ghost use Rattle.std.specs.Prelude.{◌≡◌, ◌≤◌, ◌++◌, Some, codes, length, string_bytes, IfOk, OnOk, option_map, option_and_then};
+ghost use Rattle.std.specs.Prelude.{◌≡◌, ◌≤◌, ◌++◌, [], length, string_bytes, IfOk, OnOk, option_map};
 ghost use Rattle.std.specs.List.{flat_map};
-ghost use Rattle.serde_json.specs.Find.{as_i64, as_number, as_str, get};
+ghost use Rattle.std.specs.Option.{option_map_or};
 ghost use Rattle.serde_json.specs.View.{view};
-ghost use Rattle.clr_explanations.specs.Places.{cell_text, cell_text_of, first_step_text, path_and_cell, path_text, place_text, step_text};
+ghost use Rattle.clr_explanations.specs.Places.{cell_in, cell_text, first_step_text, path_and_cell, path_text, place_text, step_text};
 ghost use Rattle.clr_explanations.specs.Places.{steps_within, value_at_step};
 
 use crate::items::item_at;
@@ -99,23 +99,18 @@ pub(crate) fn path_words(alloc: Global, steps: &[PathStep]) -> Result<String, Al
     }
 }
 
-/// Returns the text at `t`, if there is one.
-fn table_in(item: &Json) -> Option<&str>
-    ensures { option_map (λ s. s.now) result ≡ option_and_then as_str (get (codes "t") (view item.now)) }
+/// Returns the cell of an item: the table and the key that it has, if it has both.
+pub(crate) fn cell_in(item: &Json) -> Option<(&str, i64)>
+    ensures { option_map (λ cell. (cell.0.now, cell.1)) result ≡ cell_in (view item.now) }
 {
-    item.get("t")?.as_str()
-}
-
-/// Returns the whole number at `k`, if there is one.
-fn key_in(item: &Json) -> Option<i64>
-    ensures { result ≡ option_and_then as_i64 (option_and_then as_number (get (codes "k") (view item.now))) }
-{
-    item.get("k")?.as_i64()
+    let table = item.get("t")?.as_str()?;
+    let key = item.get("k")?.as_i64()?;
+    Some((table, key))
 }
 
 /// Returns a cell as it follows a path.
 fn table_and_key(alloc: Global, table: &str, key: i64) -> Result<String, AllocError>
-    ensures { IfOk result (λ said. string_bytes said ≡ cell_text_of (Some table.now) (Some key)) }
+    ensures { IfOk result (λ said. string_bytes said ≡ cell_text (table.now, key)) }
 {
     let mut said = String::from_str(alloc, ", cell ")?;
     said.push_str(table)?;
@@ -124,15 +119,12 @@ fn table_and_key(alloc: Global, table: &str, key: i64) -> Result<String, AllocEr
     Ok(said)
 }
 
-/// Returns the cell of an item: the table and the key that it has, if it has both.
+/// Returns the cell of an item as it follows a path, and nothing where it has none.
 fn cell_words(alloc: Global, item: &Json) -> Result<String, AllocError>
-    ensures { IfOk result (λ said. string_bytes said ≡ cell_text (view item.now)) }
+    ensures { IfOk result (λ said. string_bytes said ≡ option_map_or cell_text (cell_in (view item.now)) []) }
 {
-    let Some(table) = table_in(item) else {
-        return Ok(String::new(alloc));
-    };
-    match key_in(item) {
-        Some(key) => table_and_key(alloc, table, key),
+    match cell_in(item) {
+        Some((table, key)) => table_and_key(alloc, table, key),
         None => Ok(String::new(alloc)),
     }
 }

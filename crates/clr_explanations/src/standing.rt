@@ -1,10 +1,12 @@
 //! What is said of an office text whose workspaces can't stand as a whole.
-ghost use Rattle.std.specs.Prelude.{◌≡◌, ◌≢◌, ◌≤◌, length, string_bytes, IfNone, IfOk, IfSome, MatchOption, Some};
+ghost use Rattle.std.specs.Prelude.{◌≡◌, ◌≢◌, ◌≤◌, length, IfNone, IfOk, IfSome, MatchOption, Some};
 ghost use Rattle.serde_json.specs.Data.{Data};
 ghost use Rattle.serde_json.specs.View.{view};
 ghost use Rattle.clr_faults.specs.Spots.{value_in};
-ghost use Rattle.clr_explanations.specs.Standing.{IsPartRemark, IsStandingFault, IsStandingRemark, StandsIfRead};
-ghost use Rattle.clr_item_explanations.specs.FaultNames.{BeginsWithName, part_fault_name};
+ghost use Rattle.clr_explanations.specs.Standing.{IsPartRemark, IsStandingFault, IsStandingRemark, StandsIfRead, workspace_at};
+ghost use Rattle.clr_item_explanations.specs.Slips.{said};
+ghost use Rattle.clr_item_explanations.specs.Tellings.{TellsNamed};
+ghost use Rattle.clr_item_explanations.specs.Workspaces.{part_fault_name, wrong_part};
 
 use crate::places::remark_of;
 use clr_faults::{FaultyItem, unless_lost};
@@ -16,8 +18,9 @@ use serde_json::Value as Json;
 use std::alloc::{AllocError, Global};
 
 /// Returns why a workspace can't stand among all of them.
+#[tactic(auto, using(crate::proofs::StandingLemmas::workspace_there, crate::proofs::StandingLemmas::no_workspace_there))]
 fn slip_of_part(alloc: Global, json: &Json, at: usize, fault: PartFault) -> Result<Slip, AllocError>
-    ensures { IfOk result (λ slip. BeginsWithName (part_fault_name fault) (string_bytes slip.sentence)) }
+    ensures { IfOk result (λ slip. TellsNamed (part_fault_name fault) (wrong_part fault (workspace_at at (view json.now))) (said slip)) }
 {
     match items_at(json, Key::Workspaces).get(at) {
         Some(workspace) => explain_part(alloc, workspace, fault),

@@ -4,7 +4,7 @@ use Rattle.std.specs.Prelude.{IsOk}
 use Rattle.serde_json.specs.Data.{Data}
 use Rattle.clr_rows.specs.declared.tables.TableDef.{TableDef}
 use Rattle.clr_rule_text.specs.declared.faults.TextFault.{TextFault}
-use Rattle.clr_office_reading.specs.declared.formats.Format.{Format}
+use Rattle.clr_rule_text.specs.declared.formats.Format.{Format}
 use Rattle.clr_readings.specs.Readings.{◌>>=◌}
 use Rattle.clr_office_reading.specs.Workspaces.{head_of}
 use Rattle.clr_faults.specs.declared.spots.FaultyItem.TheVariants.{Mark}

@@ -3,7 +3,7 @@ use Rattle.std.specs.Prelude.{◌≡◌, ℕ, List, codes, Ok, IsOk}
 use Rattle.serde_json.specs.Data.{Data}
 use Rattle.clr_rows.specs.declared.tables.TableDef.{TableDef}
 use Rattle.clr_rule_text.specs.declared.faults.TextFault.{TextFault}
-use Rattle.clr_office_reading.specs.declared.formats.Format.{Format}
+use Rattle.clr_rule_text.specs.declared.formats.Format.{Format}
 use Rattle.clr_office_reading.specs.Cells.{live_of}
 use Rattle.clr_office_reading.specs.Offices.{format_of, schema_of}
 use Rattle.clr_office_reading.specs.Patches.{differences_at}
@@ -22,7 +22,7 @@ pub record BehindTables (d : Data) (e : TextFault) (format : Format) (tables : L
 
 pub record BehindRules (d : Data) (e : TextFault) (format : Format) (tables : List TableDef) : Type 0 where
   pub before : BehindTables d e format tables
-  pub read : IsOk (rules_of tables d)
+  pub read : IsOk (rules_of format tables d)
   pub none : HasNone (rule_faults d) e
 
 pub record BehindLive (d : Data) (e : TextFault) (format : Format) (tables : List TableDef) : Type 0 where

@@ -1,5 +1,5 @@
 -- Why tables make no schema, rules no book, and a row can't stand at its cell.
-use Rattle.std.specs.Prelude.{ℕ, List, Option, None, Result, Ok, Err}
+use Rattle.std.specs.Prelude.{ℕ, List, map, Option, None, Result, Ok, Err}
 use Rattle.serde_json.specs.Data.{Data}
 use Rattle.clr_rows.specs.declared.tables.TableDef.{TableDef}
 use Rattle.clr_rows.specs.declared.faults.RowFault.{RowFault}
@@ -8,12 +8,12 @@ use Rattle.clr_rows.specs.Schemas.{schema_fault}
 use Rattle.clr_rules.specs.declared.books.faults.RuleFault.{RuleFault}
 use Rattle.clr_rules.specs.Books.{book_fault}
 use Rattle.clr_rule_text.specs.declared.faults.TextFault.{TextFault}
-use Rattle.clr_office_reading.specs.declared.formats.Format.{Format}
+use Rattle.clr_rule_text.specs.declared.formats.Format.{Format}
 use Rattle.clr_office_reading.specs.Cells.{cell_of}
 use Rattle.clr_readings.specs.Readings.{◌>>=◌}
 use Rattle.clr_rule_text.specs.Fields.{each_in}
 use Rattle.clr_office_reading.specs.Patches.{named_cell_of, put_fault}
-use Rattle.clr_rule_text.specs.Rules.{named_rules_of, rule_over}
+use Rattle.clr_rule_text.specs.Rules.{rule_over, stated_rules_of}
 use Rattle.clr_office_reading.specs.Tables.{tables_of}
 
 -- what a text that can be read has, if anything
@@ -26,10 +26,10 @@ unfoldable pub tables_fault_of : Format → Data → Option SchemaFault
 tables_fault_of format d = if_read (tables_of format d >>= λ tables. Ok (schema_fault tables))
 
 -- the number of the first rule that can't stand in a book over the schema, and why
-unfoldable pub book_fault_of : List TableDef → Data → Option (ℕ × RuleFault)
-book_fault_of tables d = if_read do
-  named ← named_rules_of d
-  rules ← each_in (rule_over tables) named
+unfoldable pub book_fault_of : Format → List TableDef → Data → Option (ℕ × RuleFault)
+book_fault_of format tables d = if_read do
+  stated ← stated_rules_of format d
+  rules ← each_in (rule_over tables) (map (λ s. s.rule) stated)
   Ok (book_fault tables rules)
 
 -- why the row of an item, or no row, can't stand at its cell

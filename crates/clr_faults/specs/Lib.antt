@@ -1,6 +1,7 @@
 pub mod Behind
 pub mod FirstFaults
 pub mod InnerFaults
+pub mod KnownFaults
 pub mod ListFaults
 pub mod Parts
 pub mod Readings

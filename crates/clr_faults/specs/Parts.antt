@@ -6,11 +6,13 @@ use Rattle.clr_rows.specs.declared.tables.TableDef.{TableDef}
 use Rattle.clr_rules.specs.declared.books.faults.RuleFault.{RuleFault}
 use Rattle.clr_rule_text.specs.declared.faults.TextFault.{TextFault}
 use Rattle.clr_rule_text.specs.declared.faults.TextFault.TheVariants.{BadRule}
-use Rattle.clr_office_reading.specs.declared.formats.Format.{Format}
+use Rattle.clr_rule_text.specs.declared.formats.Format.{Format}
 use Rattle.clr_rule_text.specs.Fields.{list_at, list_or_none}
 use Rattle.clr_office_reading.specs.Tables.{table_of}
 use Rattle.clr_faults.specs.FirstFaults.{alone, first_fault_from}
+use Rattle.clr_faults.specs.declared.known_faults.BadNeed.{BadNeed}
 use Rattle.clr_faults.specs.InnerFaults.{book_fault_of}
+use Rattle.clr_faults.specs.KnownFaults.{known_fault_of}
 use Rattle.clr_faults.specs.ListFaults.{cell_fault_in, fault_else, mark_fault_in, row_fault_in, rule_fault_in, workspace_fault_in}
 use Rattle.clr_faults.specs.Readings.{readable}
 
@@ -27,10 +29,16 @@ abbrev pub bad_rule : Option (ℕ × RuleFault) → Option (ℕ × TextFault)
 bad_rule (Some f) = Some (f.0, BadRule)
 bad_rule None = None
 
--- the first rule that can't be read, and else the first that can't stand in a book over the schema
-unfoldable pub first_rule_fault : List TableDef → Data → Option (ℕ × TextFault)
-first_rule_fault tables d = in_list (list_or_none (get (codes "rules") d)) (λ items. fault_else (rule_fault_in tables items) (bad_rule
-    (book_fault_of tables d)))
+-- and of a known need that its rule can't have
+abbrev pub bad_known : Option BadNeed → Option (ℕ × TextFault)
+bad_known (Some found) = Some (found.rule, BadRule)
+bad_known None = None
+
+-- the first rule that can't be read; else the first that can't stand in a book over the schema; else the first with a known need that it can't have
+unfoldable pub first_rule_fault : Format → List TableDef → Data → Option (ℕ × TextFault)
+first_rule_fault format tables d =
+    in_list (list_or_none (get (codes "rules") d)) (λ items.
+    fault_else (rule_fault_in format tables items) (fault_else (bad_rule (book_fault_of format tables d)) (bad_known (known_fault_of format tables d))))
 
 unfoldable pub live_fault : List TableDef → Data → Option (ℕ × TextFault)
 live_fault tables d = in_list (list_at (codes "live") d) (row_fault_in tables)

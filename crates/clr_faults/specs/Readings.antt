@@ -6,7 +6,7 @@ use Rattle.clr_rows.specs.Contents.{Content}
 use Rattle.clr_deltas.specs.Differences.{Differences}
 use Rattle.clr_deltas.specs.Deltas.{Delta}
 use Rattle.clr_rule_text.specs.declared.faults.TextFault.{TextFault}
-use Rattle.clr_office_reading.specs.declared.formats.Format.{Format}
+use Rattle.clr_rule_text.specs.declared.formats.Format.{Format}
 use Rattle.clr_office_reading.specs.Cells.{named_row_of, with_named_row}
 use Rattle.clr_readings.specs.Readings.{◌>>=◌}
 use Rattle.clr_office_reading.specs.Patches.{named_cell_of, with_cell}

@@ -5,7 +5,7 @@ use Rattle.serde_json.specs.Find.{get}
 use Rattle.clr_rows.specs.declared.tables.TableDef.{TableDef}
 use Rattle.clr_rule_text.specs.declared.faults.TextFault.{TextFault}
 use Rattle.clr_rule_text.specs.declared.faults.TextFault.TheVariants.{BadField}
-use Rattle.clr_office_reading.specs.declared.formats.Format.{Format}
+use Rattle.clr_rule_text.specs.declared.formats.Format.{Format}
 use Rattle.clr_office_reading.specs.Cells.{live_of}
 use Rattle.clr_readings.specs.Readings.{◌>>=◌}
 use Rattle.clr_rule_text.specs.Fields.{list_or_none, or_bad_field, words_at}
@@ -29,13 +29,13 @@ abbrev pub over_schema : {A : Type 0} → (Format → List TableDef → Result A
 over_schema f d = format_of d >>= λ format. schema_of format d >>= λ tables. f format tables
 
 abbrev pub rule_faults : Data → Result (Option (ℕ × TextFault)) TextFault
-rule_faults d = over_schema (λ format tables. Ok (first_rule_fault tables d)) d
+rule_faults d = over_schema (λ format tables. Ok (first_rule_fault format tables d)) d
 
 abbrev pub live_faults : Data → Result (Option (ℕ × TextFault)) TextFault
-live_faults d = over_schema (λ format tables. rules_of tables d >>= λ rules. Ok (live_fault tables d)) d
+live_faults d = over_schema (λ format tables. rules_of format tables d >>= λ rules. Ok (live_fault tables d)) d
 
 abbrev pub workspace_faults : Data → Result (Option (ℕ × TextFault)) TextFault
-workspace_faults d = over_schema (λ format tables. rules_of tables d >>= λ rules. live_of tables d >>= λ live. Ok (workspace_fault format tables d)) d
+workspace_faults d = over_schema (λ format tables. rules_of format tables d >>= λ rules. live_of tables d >>= λ live. Ok (workspace_fault format tables d)) d
 
 -- an item of the list at a key
 unfoldable pub list_item_of : List ℕ → ℕ → Data → Result Data TextFault

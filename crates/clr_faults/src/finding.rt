@@ -56,11 +56,11 @@ fn spot_behind_tables(alloc: Global, text: FaultyText) -> Result<FaultyItem, All
     requires { BehindTables (view text.json.now) text.fault text.format text.schema.now }
     ensures { IfOk result (IsFaultAt (view text.entry.json.now) text.entry.fault) }
 {
-    let first = rule_fault(alloc, text.json, text.schema)?;
+    let first = rule_fault(alloc, text.json, text.format, text.schema)?;
     if let Some(at) = place_with(first, text.fault) {
         return Ok(FaultyItem::Rule(at));
     }
-    if has_rules(alloc, text.json, text.schema)? {
+    if has_rules(alloc, text.json, text.format, text.schema)? {
         spot_behind_rules(alloc, text)
     } else {
         Ok(FaultyItem::Whole)

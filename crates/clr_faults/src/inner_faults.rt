@@ -9,8 +9,8 @@ use crate::memory::unless_lost;
 use clr_office_reading::formats::Format;
 use clr_office_reading::live::cell;
 use clr_office_reading::named_cells::named_cell;
-use clr_office_reading::named_rules::named_rules;
 use clr_office_reading::rules::each_rule;
+use clr_office_reading::stated_rules::{parted, stated_rules};
 use clr_office_reading::tables::tables;
 use clr_rows::{CellId, Row, RowFault, Schema, SchemaFault};
 use clr_rules::{RuleBook, RuleFault};
@@ -42,15 +42,17 @@ pub fn schema_fault_of(
 pub fn rule_fault_of(
     alloc: Global,
     json: &Json,
+    format: Format,
     schema: &Schema,
 ) -> Result<Option<(u16, RuleFault)>, AllocError>
-    ensures { IfOk result (λ found. found ≡ book_fault_of schema.now (view json.now)) }
+    ensures { IfOk result (λ found. found ≡ book_fault_of format schema.now (view json.now)) }
 {
-    let named = match named_rules(alloc, json) {
-        Ok(named) => named,
+    let stated = match stated_rules(alloc, json, format) {
+        Ok(stated) => stated,
         Err(fault) => return unless_lost(fault, None),
     };
-    let rules = match each_rule(alloc, schema, named) {
+    let parts = parted(alloc, stated)?;
+    let rules = match each_rule(alloc, schema, parts.0) {
         Ok(rules) => rules,
         Err(fault) => return unless_lost(fault, None),
     };

@@ -8,7 +8,7 @@ ghost use Rattle.clr_office_reading.specs.Cells.{named_row_of};
 ghost use Rattle.clr_readings.specs.Readings.{Gives};
 ghost use Rattle.clr_rule_text.specs.Fields.{text_lacks_memory};
 ghost use Rattle.clr_office_reading.specs.Patches.{named_cell_of};
-ghost use Rattle.clr_rule_text.specs.Rules.{named_rule_of};
+ghost use Rattle.clr_rule_text.specs.Rules.{stated_rule_of};
 ghost use Rattle.clr_office_reading.specs.Tables.{table_of};
 ghost use Rattle.clr_office_reading.specs.Workspaces.{named_mark_of};
 ghost use Rattle.clr_faults.specs.Readings.{mark_reading, readable, rule_reading};
@@ -20,6 +20,7 @@ use clr_office_reading::named_cells::named_cell;
 use clr_office_reading::named_marks::{mark, named_mark};
 use clr_office_reading::named_rules::named_rule;
 use clr_office_reading::rules::rule;
+use clr_office_reading::stated_rules::stated_rule;
 use clr_office_reading::tables::table;
 use clr_rows::Schema;
 use serde_json::Value as Json;
@@ -50,15 +51,17 @@ impl Item for TableItem {
     }
 }
 
-/// A rule, by its names alone.
+/// A rule with its known needs, by its names alone.
 #[derive(Clone, Copy)]
-pub struct NamedRuleItem;
+pub struct StatedRuleItem {
+    pub format: Format,
+}
 
-impl Item for NamedRuleItem {
-    ghost reads = { λ _ d. readable (named_rule_of d) };
+impl Item for StatedRuleItem {
+    ghost reads = { λ s d. readable (stated_rule_of s.format d) };
 
     fn read(&self, alloc: Global, json: &Json) -> Result<(), TextFault> {
-        let _rule = named_rule(alloc, json)?;
+        let _rule = stated_rule(alloc, json, self.format)?;
         Ok(())
     }
 }

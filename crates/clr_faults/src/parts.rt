@@ -2,12 +2,16 @@
 
 ghost use Rattle.std.specs.Prelude.{◌≡◌, IfOk};
 ghost use Rattle.serde_json.specs.View.{view};
-ghost use Rattle.clr_faults.specs.Parts.{cell_fault_at, live_fault, mark_fault, first_rule_fault, table_fault, workspace_fault};
+ghost use Rattle.clr_faults.specs.InnerFaults.{book_fault_of};
+ghost use Rattle.clr_faults.specs.KnownFaults.{known_fault_of};
+ghost use Rattle.clr_faults.specs.ListFaults.{fault_else};
+ghost use Rattle.clr_faults.specs.Parts.{bad_known, bad_rule, cell_fault_at, live_fault, mark_fault, first_rule_fault, table_fault, workspace_fault};
 
 use crate::cell_lists::{cell_fault_in, row_fault_in};
 use crate::first_faults::{FirstFault, first_fault};
 use crate::inner_faults::rule_fault_of;
 use crate::item_kinds::TableItem;
+use crate::known_faults::known_need_fault_of;
 use crate::mark_lists::mark_fault_in;
 use crate::memory::unless_lost;
 use crate::rule_lists::rule_fault_in;
@@ -30,23 +34,45 @@ pub fn table_fault(alloc: Global, json: &Json, format: Format) -> Result<FirstFa
     }
 }
 
+/// Returns the first rule that can't stand in a book over the schema, and else the first with a known need that it can't have;
+/// or none.
+fn rule_fault_over(
+    alloc: Global,
+    json: &Json,
+    format: Format,
+    schema: &Schema,
+) -> Result<FirstFault, AllocError>
+    ensures { IfOk result (λ first. first
+        ≡ fault_else (bad_rule (book_fault_of format schema.now (view json.now))) (bad_known (known_fault_of format schema.now (view json.now)))) }
+{
+    if let Some((number, _)) = rule_fault_of(alloc, json, format, schema)? {
+        return Ok(Some((number as usize, TextFault::BadRule)));
+    }
+    match known_need_fault_of(alloc, json, format, schema)? {
+        Some(found) => Ok(Some((found.rule, TextFault::BadRule))),
+        None => Ok(None),
+    }
+}
+
 /// Returns the first rule that can't be read; else the first that names what the schema hasn't; else
-/// the first that can't stand in a book over it; or none.
+/// the first that can't stand in a book over it; else the first with a known need that it can't have; or none.
 #[tactic(auto, unfolding(crate::specs::Parts::first_rule_fault))]
-pub fn rule_fault(alloc: Global, json: &Json, schema: &Schema) -> Result<FirstFault, AllocError>
-    ensures { IfOk result (λ first. first ≡ first_rule_fault schema.now (view json.now)) }
+pub fn rule_fault(
+    alloc: Global,
+    json: &Json,
+    format: Format,
+    schema: &Schema,
+) -> Result<FirstFault, AllocError>
+    ensures { IfOk result (λ first. first ≡ first_rule_fault format schema.now (view json.now)) }
 {
     let items = match optional_list(json, "rules") {
         Ok(items) => items,
         Err(fault) => return unless_lost(fault, None),
     };
-    if let Some(first) = rule_fault_in(alloc, schema, items)? {
+    if let Some(first) = rule_fault_in(alloc, format, schema, items)? {
         return Ok(Some(first));
     }
-    match rule_fault_of(alloc, json, schema)? {
-        Some((number, _)) => Ok(Some((number as usize, TextFault::BadRule))),
-        None => Ok(None),
-    }
+    rule_fault_over(alloc, json, format, schema)
 }
 
 /// Returns the first row of LIVE that can't be read, and else the first that can't stand behind the

@@ -49,10 +49,15 @@ pub fn known_schema(
 }
 
 /// Tests whether the rules of an office text can be read.
-pub fn has_rules(alloc: Global, json: &Json, schema: &Schema) -> Result<bool, AllocError>
-    ensures { IfOk result (λ has. has ≡ is_ok (rules_of schema.now (view json.now))) }
+pub fn has_rules(
+    alloc: Global,
+    json: &Json,
+    format: Format,
+    schema: &Schema,
+) -> Result<bool, AllocError>
+    ensures { IfOk result (λ has. has ≡ is_ok (rules_of format schema.now (view json.now))) }
 {
-    match read_rules(alloc, json, schema) {
+    match read_rules(alloc, json, format, schema) {
         Ok(_) => Ok(true),
         Err(fault) => unless_lost(fault, false),
     }

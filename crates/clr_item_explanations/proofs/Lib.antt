@@ -1,5 +1,5 @@
 pub mod ItemLemmas
 pub mod ListLemmas
-pub mod RowLemmas
+pub mod NeedLemmas
 pub mod TellingLemmas
 pub mod ValueLemmas

@@ -1,5 +1,6 @@
 -- The first item of a list that is wrong, as a loop finds it.
-use Rattle.std.proofs.Common.{◌≡◌, ◌∙◌, ℕ, ◌+◌, ◌≤◌, ◌<◌, List, [], ◌∷◌, ◌++◌, Bor, length, get_or, drop, take, map, Option, Some, None, refl, sym, subst, ap, add-one}
+use Rattle.std.proofs.Common.{◌≡◌, ◌∙◌, ℕ, ◌+◌, ◌≤◌, ◌<◌, List, [], ◌∷◌, ◌++◌, Bor, length, get_or, drop, take, map, Option, Some, None, refl, sym, subst, ap}
+use Rattle.std.proofs.Common.{add-one}
 use Rattle.std.proofs.Math.Seq.{drop-cons}
 use Rattle.std.proofs.lemmas.List.{drop_all, get_or-map, length-map, map-append, take_more}
 use Rattle.std.specs.List.{enumerate_from}
@@ -69,6 +70,8 @@ pub found_none : (f : ℕ × Data → Option Wrong) (items : List Json) (i : ℕ
 unfolding found_from first_wrong
 found_none f items i all past so = nothing all (sym so ∙ ap (λ ds. first_wrong f (enumerate_from i (map view ds))) (drop_all i items past))
 
+pub ruleset found_in_turn = (found_first, found_right, found_wrong, found_none)
+
 -- items of the list at a key -----------------------------------------------------------------------
 
 abbrev pub of_item : Key → (ℕ → Data → Option Wrong) → ℕ × Data → Option Wrong
@@ -77,13 +80,15 @@ of_item k f p = below (step.Key k ∷ step.At p.0 ∷ []) (f p.0 p.1)
 abbrev pub wrong_from : Key → (ℕ → Data → Option Wrong) → ℕ → List Json → Option Wrong
 wrong_from k f i items = found_from (of_item k f) i items
 
-pub from_first : (k : Key) (f : ℕ → Data → Option Wrong) (items : List Json) (d : Data) → map view items ≡ items_at k d → wrong_from k f 0 items ≡ wrong_in_list k f d
+pub from_first : (k : Key) (f : ℕ → Data → Option Wrong) (items : List Json) (d : Data) → map view items ≡ items_at k d
+    → wrong_from k f 0 items ≡ wrong_in_list k f d
 unfolding wrong_in_list
 from_first k f items d are = found_first (of_item k f) items (items_at k d) are
 
 pub item_right : (k : Key) (f : ℕ → Data → Option Wrong) (items : List Json) (i : ℕ) (v : Json) (all : Option Wrong) → i < length items
     → v ≡ get_or items i v → TellsIfAny (f i (view v)) None → wrong_from k f i items ≡ all → wrong_from k f (i + 1) items ≡ all
-item_right k f items i v all within is right so = found_right (of_item k f) items i v all within is (below_none (step.Key k ∷ step.At i ∷ []) (f i (view v)) right) so
+item_right k f items i v all within is right so =
+    found_right (of_item k f) items i v all within is (below_none (step.Key k ∷ step.At i ∷ []) (f i (view v)) right) so
 
 pub item_wrong : (k : Key) (f : ℕ → Data → Option Wrong) (items : List Json) (i : ℕ) (v : Json) (all : Option Wrong) (slip new : Slip) → i < length items
     → v ≡ get_or items i v → TellsIfAny (f i (view v)) (Some slip) → new.steps.items ≡ step.Key k ∷ step.At i ∷ slip.steps.items → new.sentence ≡ slip.sentence
@@ -94,6 +99,8 @@ item_wrong k f items i v all slip new within is wrong steps sentence hint so =
 pub all_right : (k : Key) (f : ℕ → Data → Option Wrong) (items : List Json) (i : ℕ) (all : Option Wrong) → length items ≤ i → wrong_from k f i items ≡ all
     → TellsIfAny all None
 all_right k f items i all past so = found_none (of_item k f) items i all past so
+
+pub ruleset items_in_turn = (from_first, item_right, item_wrong, all_right)
 
 -- the texts of the items before a place --------------------------------------------------------------
 

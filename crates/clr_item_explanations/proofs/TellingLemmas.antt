@@ -11,13 +11,14 @@ use Rattle.clr_item_explanations.specs.declared.slips.Slip.{Slip}
 use Rattle.clr_item_explanations.specs.Slips.{Said, said}
 use Rattle.clr_item_explanations.specs.Fields.{unknown_word}
 use Rattle.clr_item_explanations.specs.Values.{stands_among}
-use Rattle.clr_item_explanations.specs.Tellings.{IsShown, IsTold, OfCoordinate, OfName, OfValue, OfWord, Plain, Tells, TellsFound, TellsIfAny, TellsNamed, Wrong, below, coordinate_hint, itself}
+use Rattle.clr_item_explanations.specs.Tellings.{IsShown, IsTold, OfCoordinate, OfName, OfValue, OfWord, Plain, Tells, TellsFound, TellsIfAny, TellsNamed}
+use Rattle.clr_item_explanations.specs.Tellings.{Wrong, below, coordinate_hint, itself}
 
 -- one value ----------------------------------------------------------------------------------
 
 -- a slip has these parts
-pub tells : (wrong : Wrong) (slip : Slip) → slip.steps.items ≡ wrong.steps → IsTold wrong.telling (string_bytes slip.sentence) (option_map string_bytes slip.hint)
-    → Tells wrong (said slip)
+pub tells : (wrong : Wrong) (slip : Slip) → slip.steps.items ≡ wrong.steps
+    → IsTold wrong.telling (string_bytes slip.sentence) (option_map string_bytes slip.hint) → Tells wrong (said slip)
 tells wrong slip at told = record { at = at; told = told }
 
 -- a slip has these words and no hint
@@ -60,6 +61,10 @@ wrong_if b wrong slip is told = record { told = record { wrong = wrong; is = rw 
 pub right_else : (b : Bool) (wrong : Wrong) → b ≡ false → TellsIfAny (if b then Some wrong else None) None
 right_else b wrong is = record { told = rw is refl }
 
+pub ruleset right_or_wrong = (right_if, wrong_else)
+
+pub ruleset wrong_or_right = (wrong_if, right_else)
+
 -- one after another --------------------------------------------------------------------------
 
 pub first_told : (one other : Option Wrong) (slip : Slip) → TellsIfAny one (Some slip) → TellsIfAny (option_or one other) (Some slip)
@@ -67,6 +72,8 @@ first_told one other slip t = let so = t.told in record { told = record { wrong 
 
 pub behind_told : (one other : Option Wrong) (slip : Option Slip) → TellsIfAny one None → TellsIfAny other slip → TellsIfAny (option_or one other) slip
 behind_told one other slip t told = let is : one ≡ None = t.told in rw is told
+
+pub ruleset one_after_another = (first_told, behind_told)
 
 -- further ------------------------------------------------------------------------------------
 
@@ -119,7 +126,8 @@ word_told steps shown word words d slip same is at told near = record { at = at;
 pub name_told : (steps : List PathStep) (words name : List ℕ) (names given : List (List ℕ)) (slip : Slip) → slip.steps.items ≡ steps
     → string_bytes slip.sentence ≡ words → given ≡ names → IsHintAtName name given (option_map string_bytes slip.hint)
     → Tells (record { steps = steps; telling = OfName words name names }) (said slip)
-name_told steps words name names given slip at told are near = record { at = at; told = (told, subst (λ n. IsHintAtName name n (option_map string_bytes slip.hint)) are near) }
+name_told steps words name names given slip at told are near =
+    record { at = at; told = (told, subst (λ n. IsHintAtName name n (option_map string_bytes slip.hint)) are near) }
 
 pub name_else : (b : Bool) (steps : List PathStep) (words name : List ℕ) (names : List (List ℕ)) (slip : Slip) → b ≡ false → slip.steps.items ≡ steps
     → string_bytes slip.sentence ≡ words → IsHintAtName name names (option_map string_bytes slip.hint)
@@ -151,10 +159,15 @@ pub plain_or : (b : Bool) (found : Option Wrong) (steps : List PathStep) (words 
 plain_or b found steps words slip is at told none =
     rw is (something _ (record { steps = steps; telling = Plain words }) slip refl (plain_told steps words slip at told none))
 
+pub ruleset words_unless = (unless, plain_unless)
+
+pub ruleset words_if = (plain_or, otherwise)
+
 pub found_told : (wrong : Option Wrong) (otherwise : Wrong) (slip : Slip) → TellsIfAny wrong (Some slip) → Tells (unwrap_or wrong otherwise) (said slip)
 found_told wrong otherwise slip t = let so = t.told in rw so.is so.told
 
-pub else_told : (wrong : Option Wrong) (otherwise : Wrong) (slip : Slip) → TellsIfAny wrong None → Tells otherwise (said slip) → Tells (unwrap_or wrong otherwise) (said slip)
+pub else_told : (wrong : Option Wrong) (otherwise : Wrong) (slip : Slip) → TellsIfAny wrong None → Tells otherwise (said slip)
+    → Tells (unwrap_or wrong otherwise) (said slip)
 else_told wrong otherwise slip t told = let is : wrong ≡ None = t.told in rw is told
 
 -- words --------------------------------------------------------------------------------------
@@ -165,11 +178,14 @@ known_word words word found no_text is stands = rw (← is, stands) (nothing Non
 
 pub unknown_told : (words : List (List ℕ)) (word : List ℕ) (found : Option (List ℕ)) (no_text : Option Wrong) (slip : Slip) → Some word ≡ found
     → stands_among words word ≡ false → Tells (itself (OfWord word words)) (said slip) → TellsIfAny (unknown_word words found no_text) (Some slip)
-unknown_told words word found no_text slip is stands told = rw (← is, stands) (something (Some (itself (OfWord word words))) (itself (OfWord word words)) slip refl told)
+unknown_told words word found no_text slip is stands told =
+    rw (← is, stands) (something (Some (itself (OfWord word words))) (itself (OfWord word words)) slip refl told)
 
 pub no_text_told : (words : List (List ℕ)) (found : Option (List ℕ)) (no_text : Option Wrong) (slip : Option Slip) → None ≡ found → TellsIfAny no_text slip
     → TellsIfAny (unknown_word words found no_text) slip
 no_text_told words found no_text slip is told = rw (← is) told
+
+pub ruleset word_or_none = (known_word, unknown_told, no_text_told)
 
 -- a value as it is written, with words around it
 pub around_told : (steps : List PathStep) (before behind : List ℕ) (d : Data) (slip : Slip) (sentence : List ℕ)
@@ -184,4 +200,5 @@ words_told steps behind d slip sentence is at told none = around_told steps [] b
 
 pub else_plain : (wrong : Option Wrong) (steps : List PathStep) (words : List ℕ) (slip : Slip) → slip.steps.items ≡ steps → string_bytes slip.sentence ≡ words
     → slip.hint ≡ None → TellsIfAny wrong None → Tells (unwrap_or wrong (record { steps = steps; telling = Plain words })) (said slip)
-else_plain wrong steps words slip at told none t = else_told wrong (record { steps = steps; telling = Plain words }) slip t (plain_told steps words slip at told none)
+else_plain wrong steps words slip at told none t =
+    else_told wrong (record { steps = steps; telling = Plain words }) slip t (plain_told steps words slip at told none)

@@ -1,7 +1,7 @@
 -- What is wrong with the fields of an object.
 use Rattle.std.specs.Prelude.{ℕ, List, [], ◌∷◌, ◌++◌, codes, Bool, true, false, ◌||◌, Option, Some, None, is_some, if◌then◌else◌}
 use Rattle.std.specs.Option.{option_map_or}
-use Rattle.serde_json.specs.Data.{Data}
+use Rattle.serde_json.specs.Data.{Data, Items}
 use Rattle.serde_json.specs.Find.{as_array, as_bool, as_object, as_str}
 use Rattle.clr_text_positions.specs.Keys.{key_text}
 use Rattle.clr_text_positions.specs.declared.paths.Key.{Key}
@@ -9,7 +9,7 @@ use Rattle.clr_text_positions.specs.declared.paths.PathStep.TheVariants as step
 use Rattle.clr_item_explanations.specs.declared.fields.Wanted.{Wanted}
 use Rattle.clr_item_explanations.specs.declared.fields.Wanted.TheVariants as wanted
 use Rattle.clr_item_explanations.specs.Tellings.{OfCoordinate, OfValue, OfWord, Plain, Wrong, below, first_wrong, itself}
-use Rattle.clr_item_explanations.specs.Values.{stands_among, value_at, whole_number}
+use Rattle.clr_item_explanations.specs.Values.{listed, stands_among, value_at, whole_number}
 
 -- whether a value may stand there
 abbrev pub admits : Wanted → Data → Bool
@@ -81,3 +81,11 @@ wrong_word_at k words d = wrong_at k (wrong_word words) (missing k wanted.Text) 
 abbrev pub wrong_pair : List ℕ → (Data → Data → Option Wrong) → Data → List Data → Option Wrong
 wrong_pair of f d (one ∷ other ∷ []) = f one other
 wrong_pair of f d _ = Some (itself (OfValue [] d (codes " is no pair of " ++ of)))
+
+abbrev pub wrong_pair_in : List ℕ → (Data → Data → Option Wrong) → Data → Option Items → Option Wrong
+wrong_pair_in of f d None = wrong_value wanted.List d
+wrong_pair_in of f d (Some items) = wrong_pair of f d (listed items)
+
+-- a value is no list of two, or one of the two isn't right
+unfoldable pub wrong_as_pair : List ℕ → (Data → Data → Option Wrong) → Data → Option Wrong
+wrong_as_pair of f d = wrong_pair_in of f d (as_array d)

@@ -1,10 +1,7 @@
-pub mod FaultNames
 pub mod Fields
-pub mod RowFaults
+pub mod KnownNeeds
 pub mod Rows
-pub mod RuleFaults
 pub mod Rules
-pub mod SchemaFaults
 pub mod Slips
 pub mod Tables
 pub mod Tellings

@@ -1,29 +1,26 @@
 -- What is wrong with a rule that can't be read.
-use Rattle.std.specs.Prelude.{ℕ, List, [], ◌∷◌, codes, Option, Some, None, if◌then◌else◌}
+use Rattle.std.specs.Prelude.{ℕ, List, [], ◌∷◌, codes, Option, if◌then◌else◌}
 use Rattle.std.specs.Option.{option_or}
 use Rattle.std.specs.Str.{bytes_eq}
-use Rattle.serde_json.specs.Data.{Data, Items}
-use Rattle.serde_json.specs.Find.{as_array}
+use Rattle.serde_json.specs.Data.{Data}
 use Rattle.clr_text_positions.specs.declared.paths.Key.{Key}
 use Rattle.clr_text_positions.specs.declared.paths.Key.TheVariants as key
 use Rattle.clr_text_positions.specs.declared.paths.PathStep.TheVariants as step
 use Rattle.clr_item_explanations.specs.declared.fields.Wanted.TheVariants as wanted
 use Rattle.clr_item_explanations.specs.declared.rules.RuleField.{RuleField}
 use Rattle.clr_item_explanations.specs.declared.rules.RuleField.TheVariants as field
-use Rattle.clr_item_explanations.specs.Fields.{missing, wrong_at, wrong_field, wrong_fields, wrong_pair, wrong_value, wrong_word_at}
+use Rattle.clr_rule_text.specs.declared.formats.Format.{Format}
+use Rattle.clr_item_explanations.specs.Fields.{missing, wrong_as_pair, wrong_at, wrong_field, wrong_fields, wrong_value, wrong_word_at}
+use Rattle.clr_item_explanations.specs.KnownNeeds.{wrong_known}
 use Rattle.clr_item_explanations.specs.Tellings.{Wrong, below, first_wrong, wrong_in_list}
-use Rattle.clr_item_explanations.specs.Values.{listed, text_at}
+use Rattle.clr_item_explanations.specs.Values.{text_at}
 
 -- a column and a value
 abbrev pub wrong_literal_pair : Data → Data → Option Wrong
 wrong_literal_pair name value = option_or (below (step.At 0 ∷ []) (wrong_value wanted.Text name)) (below (step.At 1 ∷ []) (wrong_value wanted.Value value))
 
-abbrev pub wrong_literal_items : Data → Option Items → Option Wrong
-wrong_literal_items d None = wrong_value wanted.List d
-wrong_literal_items d (Some items) = wrong_pair (codes "a column and a value") wrong_literal_pair d (listed items)
-
 unfoldable pub wrong_literal : Data → Option Wrong
-wrong_literal d = wrong_literal_items d (as_array d)
+wrong_literal d = wrong_as_pair (codes "a column and a value") wrong_literal_pair d
 
 -- a table, and literals where there are any
 unfoldable pub wrong_side : Data → Option Wrong
@@ -55,8 +52,12 @@ rule_fields kind =
     else (if bytes_eq kind (codes "NEAR") then field.Side key.A ∷ field.Side key.B ∷ field.Distance ∷ []
     else []))))
 
+-- the fields of a kind, and then the known needs
+abbrev pub wrong_rule_fields : Format → List ℕ → Data → Option Wrong
+wrong_rule_fields format kind d = option_or (first_wrong (λ one. wrong_rule_field one d) (rule_fields kind)) (wrong_known format kind d)
+
 -- the kind, and then the fields of that kind
-unfoldable pub wrong_rule : Data → Option Wrong
-wrong_rule d =
+unfoldable pub wrong_rule : Format → Data → Option Wrong
+wrong_rule format d =
     option_or (wrong_word_at key.Kind (codes "UNIQUE" ∷ codes "PARTNER" ∷ codes "ENDNODE" ∷ codes "CROSSING" ∷ codes "NEAR" ∷ []) d)
-    (first_wrong (λ one. wrong_rule_field one d) (rule_fields (text_at key.Kind d)))
+    (wrong_rule_fields format (text_at key.Kind d) d)

@@ -1,34 +1,29 @@
 -- What is wrong with a table that can't be read.
 use Rattle.std.specs.Prelude.{[], ◌∷◌, codes, Option, Some, None}
 use Rattle.std.specs.Option.{option_or}
-use Rattle.serde_json.specs.Data.{Data, Items}
-use Rattle.serde_json.specs.Find.{as_array}
-use Rattle.clr_office_reading.specs.declared.formats.Format.{Format}
-use Rattle.clr_office_reading.specs.declared.formats.Format.TheVariants.{First, Second, Third}
+use Rattle.serde_json.specs.Data.{Data}
+use Rattle.clr_rule_text.specs.declared.formats.Format.{Format}
+use Rattle.clr_rule_text.specs.declared.formats.Format.TheVariants.{First, Second, Third, Fourth}
 use Rattle.clr_text_positions.specs.declared.paths.Key.TheVariants as key
 use Rattle.clr_text_positions.specs.declared.paths.PathStep.TheVariants as step
 use Rattle.clr_item_explanations.specs.declared.fields.Wanted.TheVariants as wanted
-use Rattle.clr_item_explanations.specs.Fields.{wrong_fields, wrong_pair, wrong_value, wrong_word, wrong_word_at}
+use Rattle.clr_item_explanations.specs.Fields.{wrong_as_pair, wrong_fields, wrong_value, wrong_word, wrong_word_at}
 use Rattle.clr_item_explanations.specs.Tellings.{Plain, Wrong, at_key, below, wrong_in_list}
-use Rattle.clr_item_explanations.specs.Values.{listed}
 
 -- a name and a kind, of which the kind is read first
 abbrev pub wrong_column_pair : Data → Data → Option Wrong
 wrong_column_pair name kind =
     option_or (below (step.At 1 ∷ []) (wrong_word (codes "INT" ∷ codes "TEXT" ∷ []) kind)) (below (step.At 0 ∷ []) (wrong_value wanted.Text name))
 
-abbrev pub wrong_column_items : Data → Option Items → Option Wrong
-wrong_column_items d None = wrong_value wanted.List d
-wrong_column_items d (Some items) = wrong_pair (codes "a name and a kind") wrong_column_pair d (listed items)
-
 unfoldable pub wrong_column : Data → Option Wrong
-wrong_column d = wrong_column_items d (as_array d)
+wrong_column d = wrong_as_pair (codes "a name and a kind") wrong_column_pair d
 
 -- format 1 has no paths: they are all that is wrong with a table whose fields stand
 abbrev pub wrong_paths : Format → Option Wrong
 wrong_paths First = Some (at_key key.Shape (Plain (codes "PATH is known from format 2 on")))
 wrong_paths Second = None
 wrong_paths Third = None
+wrong_paths Fourth = None
 
 unfoldable pub wrong_table : Format → Data → Option Wrong
 wrong_table format d =

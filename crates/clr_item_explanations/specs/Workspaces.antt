@@ -46,6 +46,14 @@ wrong_mark d =
 
 -- among all of them --------------------------------------------------------------------------
 
+abbrev pub part_fault_name : PartFault → List ℕ
+part_fault_name unfit.OutOfMemory = codes "OutOfMemory"
+part_fault_name unfit.BadName = codes "BadName"
+part_fault_name unfit.NameTaken = codes "NameTaken"
+part_fault_name unfit.NoParent = codes "NoParent"
+part_fault_name unfit.TooMany = codes "TooMany"
+part_fault_name unfit.BadMarks = codes "BadMarks"
+
 -- what a fault of a workspace of this name means
 abbrev pub part_fault_text : PartFault → List ℕ → List ℕ
 part_fault_text unfit.BadName name =

@@ -90,7 +90,7 @@ pub fn items_at(json: &Json, key: Key) -> &[Json]
 
 /// Returns how many items the list at a key has, and 0 where no list stands there.
 #[tactic(auto, using(crate::proofs::ValueLemmas::as_many))]
-pub(crate) fn count_at(json: &Json, key: Key) -> usize
+pub fn count_at(json: &Json, key: Key) -> usize
     ensures { result ≡ length (items_at key (view json.now)) }
 {
     items_at(json, key).len()
@@ -121,7 +121,7 @@ pub(crate) fn value_slip(
 }
 
 /// Returns what is wrong with a value, where it isn't what must stand there.
-#[tactic(auto, using(crate::proofs::TellingLemmas::right_if, crate::proofs::TellingLemmas::wrong_else), unfolding(crate::specs::Fields::wrong_value))]
+#[tactic(auto, using(crate::proofs::TellingLemmas::right_or_wrong), unfolding(crate::specs::Fields::wrong_value))]
 pub(crate) fn explain_value(
     alloc: Global,
     json: &Json,
@@ -160,7 +160,7 @@ fn no_coordinate(alloc: Global, json: &Json) -> Result<Slip, AllocError>
 }
 
 /// Returns what is wrong with a coordinate, where it is no whole number.
-#[tactic(auto, using(crate::proofs::TellingLemmas::right_if, crate::proofs::TellingLemmas::wrong_else), unfolding(crate::specs::Fields::wrong_coordinate))]
+#[tactic(auto, using(crate::proofs::TellingLemmas::right_or_wrong), unfolding(crate::specs::Fields::wrong_coordinate))]
 pub(crate) fn explain_coordinate(alloc: Global, json: &Json) -> Result<Option<Slip>, AllocError>
     ensures { IfOk result (TellsIfAny (wrong_coordinate (view json.now))) }
 {
@@ -233,7 +233,7 @@ pub fn explain_fields(
 
 /// Returns whether a text is one of some.
 #[tactic(auto, using(crate::proofs::ValueLemmas::among_lent))]
-pub(crate) fn stands_among(texts: &[&str], text: &str) -> bool
+pub fn stands_among(texts: &[&str], text: &str) -> bool
     ensures { result ≡ stands_among (map (λ one. one.now) texts.now) text.now }
 {
     texts.contains(&text)
@@ -252,7 +252,7 @@ fn no_word(alloc: Global, json: &Json, word: &str, words: &[&str]) -> Result<Sli
 }
 
 /// Returns what is wrong with a word, where it is none of those that may stand there.
-#[tactic(auto, using(crate::proofs::TellingLemmas::known_word, crate::proofs::TellingLemmas::unknown_told, crate::proofs::TellingLemmas::no_text_told), unfolding(crate::specs::Fields::wrong_word))]
+#[tactic(auto, using(crate::proofs::TellingLemmas::word_or_none), unfolding(crate::specs::Fields::wrong_word))]
 pub(crate) fn explain_word(
     alloc: Global,
     json: &Json,

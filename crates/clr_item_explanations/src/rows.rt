@@ -4,7 +4,8 @@ ghost use Rattle.serde_json.specs.View.{view};
 ghost use Rattle.clr_text_positions.specs.declared.paths.Key.TheVariants as key;
 ghost use Rattle.clr_item_explanations.specs.declared.fields.Wanted.TheVariants as wanted;
 ghost use Rattle.clr_item_explanations.specs.Fields.{wrong_coordinate, wrong_value};
-ghost use Rattle.clr_item_explanations.specs.Rows.{coordinates_text, form_in, is_gone, makes_places, wrong_content, wrong_coordinate_count, wrong_if_gone, wrong_row, wrong_unless_gone};
+ghost use Rattle.clr_item_explanations.specs.Rows.{coordinates_text, form_in, is_gone, makes_places, wrong_content, wrong_coordinate_count, wrong_if_gone};
+ghost use Rattle.clr_item_explanations.specs.Rows.{wrong_row, wrong_unless_gone};
 ghost use Rattle.clr_item_explanations.specs.Tellings.{TellsIfAny, wrong_in_list};
 
 use crate::fields::{
@@ -47,7 +48,7 @@ fn form_at(schema: &Schema, json: &Json) -> Option<Form>
 }
 
 /// Returns what is wrong with the first value of a row that is neither a text nor a whole number.
-#[tactic(auto, using(crate::proofs::ListLemmas::from_first, crate::proofs::ListLemmas::item_right, crate::proofs::ListLemmas::item_wrong, crate::proofs::ListLemmas::all_right))]
+#[tactic(auto, using(crate::proofs::ListLemmas::items_in_turn))]
 fn explain_values(alloc: Global, json: &Json) -> Result<Option<Slip>, AllocError>
     ensures { IfOk result (TellsIfAny (wrong_in_list key.V (λ at value. wrong_value wanted.Value value) (view json.now))) }
 {
@@ -61,7 +62,7 @@ fn explain_values(alloc: Global, json: &Json) -> Result<Option<Slip>, AllocError
 }
 
 /// Returns what is wrong with the first coordinate of a row that is no whole number.
-#[tactic(auto, using(crate::proofs::ListLemmas::from_first, crate::proofs::ListLemmas::item_right, crate::proofs::ListLemmas::item_wrong, crate::proofs::ListLemmas::all_right))]
+#[tactic(auto, using(crate::proofs::ListLemmas::items_in_turn))]
 fn explain_coordinates(alloc: Global, json: &Json) -> Result<Option<Slip>, AllocError>
     ensures { IfOk result (TellsIfAny (wrong_in_list key.S (λ at value. wrong_coordinate value) (view json.now))) }
 {
@@ -75,7 +76,7 @@ fn explain_coordinates(alloc: Global, json: &Json) -> Result<Option<Slip>, Alloc
 }
 
 /// Returns how many coordinates a row of a form has.
-pub(crate) fn coordinates_of(form: Option<Form>) -> &'static str
+pub fn coordinates_of(form: Option<Form>) -> &'static str
     ensures { result.now ≡ coordinates_text form }
 {
     match form {
@@ -119,7 +120,7 @@ fn explain_count(alloc: Global, json: &Json, form: Option<Form>) -> Result<Optio
 }
 
 /// Returns what is wrong with the values and the shape of a row.
-#[tactic(auto, using(crate::proofs::TellingLemmas::first_told, crate::proofs::TellingLemmas::behind_told), unfolding(crate::specs::Rows::wrong_content))]
+#[tactic(auto, using(crate::proofs::TellingLemmas::one_after_another), unfolding(crate::specs::Rows::wrong_content))]
 fn explain_content(alloc: Global, json: &Json, schema: &Schema) -> Result<Option<Slip>, AllocError>
     ensures { IfOk result (TellsIfAny (wrong_content schema.now (view json.now))) }
 {
@@ -169,7 +170,7 @@ fn explain_unless_gone(
 }
 
 /// Returns what is wrong with the fields of a row or of a cell that can't be read, or none where nothing is found.
-#[tactic(auto, using(crate::proofs::TellingLemmas::first_told, crate::proofs::TellingLemmas::behind_told), unfolding(crate::specs::Rows::wrong_row))]
+#[tactic(auto, using(crate::proofs::TellingLemmas::one_after_another), unfolding(crate::specs::Rows::wrong_row))]
 pub fn explain_row(
     alloc: Global,
     json: &Json,

@@ -5,6 +5,7 @@ ghost use Rattle.clr_text_positions.specs.declared.paths.Key.TheVariants as key;
 ghost use Rattle.clr_item_explanations.specs.declared.fields.Wanted.TheVariants as wanted;
 ghost use Rattle.clr_item_explanations.specs.Fields.{wrong_value};
 ghost use Rattle.clr_item_explanations.specs.Rules.{rule_fields, wrong_literal, wrong_literal_pair, wrong_names_at, wrong_rule, wrong_rule_field};
+ghost use Rattle.clr_item_explanations.specs.Rules.{wrong_rule_fields};
 ghost use Rattle.clr_item_explanations.specs.Rules.{wrong_side, wrong_side_at};
 ghost use Rattle.clr_item_explanations.specs.Tellings.{TellsIfAny, first_wrong, wrong_in_list};
 ghost use Rattle.clr_item_explanations.specs.Values.{text_at};
@@ -13,7 +14,9 @@ use crate::fields::{
     Wanted, explain_field, explain_fields, explain_value, explain_word_at, items_at, missing,
     text_at, value_slip,
 };
+use crate::known_needs::explain_known;
 use crate::slips::{Slip, below_any};
+use clr_office_reading::formats::Format;
 use clr_text_positions::{Key, PathStep};
 use serde_json::Value as Json;
 use std::alloc::{AllocError, Global};
@@ -68,7 +71,7 @@ fn rule_fields(json: &Json) -> &'static [RuleField]
 }
 
 /// Returns what is wrong with the name and the value of a literal.
-#[tactic(auto, using(crate::proofs::TellingLemmas::first_told, crate::proofs::TellingLemmas::behind_told))]
+#[tactic(auto, using(crate::proofs::TellingLemmas::one_after_another))]
 fn explain_literal_pair(
     alloc: Global,
     name: &Json,
@@ -85,7 +88,7 @@ fn explain_literal_pair(
 }
 
 /// Returns what is wrong with a literal, which is the name of a column and a value.
-#[tactic(auto, using(crate::proofs::ItemLemmas::literal_no_pair, crate::proofs::ItemLemmas::literal_pair, crate::proofs::ItemLemmas::literal_no_list))]
+#[tactic(auto, using(crate::proofs::ItemLemmas::pair_or_none), unfolding(crate::specs::Rules::wrong_literal))]
 fn explain_literal(alloc: Global, json: &Json) -> Result<Option<Slip>, AllocError>
     ensures { IfOk result (TellsIfAny (wrong_literal (view json.now))) }
 {
@@ -103,7 +106,7 @@ fn explain_literal(alloc: Global, json: &Json) -> Result<Option<Slip>, AllocErro
 }
 
 /// Returns what is wrong with the first literal of a side that can't be read.
-#[tactic(auto, using(crate::proofs::ListLemmas::from_first, crate::proofs::ListLemmas::item_right, crate::proofs::ListLemmas::item_wrong, crate::proofs::ListLemmas::all_right))]
+#[tactic(auto, using(crate::proofs::ListLemmas::items_in_turn))]
 fn explain_literals(alloc: Global, json: &Json) -> Result<Option<Slip>, AllocError>
     ensures { IfOk result (TellsIfAny (wrong_in_list key.Where (λ at literal. wrong_literal literal) (view json.now))) }
 {
@@ -117,7 +120,7 @@ fn explain_literals(alloc: Global, json: &Json) -> Result<Option<Slip>, AllocErr
 }
 
 /// Returns what is wrong with a side that can't be read.
-#[tactic(auto, using(crate::proofs::TellingLemmas::first_told, crate::proofs::TellingLemmas::behind_told), unfolding(crate::specs::Rules::wrong_side))]
+#[tactic(auto, using(crate::proofs::TellingLemmas::one_after_another), unfolding(crate::specs::Rules::wrong_side))]
 fn explain_side(alloc: Global, json: &Json) -> Result<Option<Slip>, AllocError>
     ensures { IfOk result (TellsIfAny (wrong_side (view json.now))) }
 {
@@ -144,7 +147,7 @@ fn explain_side_at(alloc: Global, json: &Json, key: Key) -> Result<Option<Slip>,
 }
 
 /// Returns what is wrong with the first item of a list that is no text.
-#[tactic(auto, using(crate::proofs::ListLemmas::from_first, crate::proofs::ListLemmas::item_right, crate::proofs::ListLemmas::item_wrong, crate::proofs::ListLemmas::all_right))]
+#[tactic(auto, using(crate::proofs::ListLemmas::items_in_turn))]
 fn explain_names(alloc: Global, json: &Json, key: Key) -> Result<Option<Slip>, AllocError>
     ensures { IfOk result (TellsIfAny (wrong_in_list key (λ at name. wrong_value wanted.Text name) (view json.now))) }
 {
@@ -158,7 +161,7 @@ fn explain_names(alloc: Global, json: &Json, key: Key) -> Result<Option<Slip>, A
 }
 
 /// Returns what is wrong with a list of columns that can't be read.
-#[tactic(auto, using(crate::proofs::TellingLemmas::first_told, crate::proofs::TellingLemmas::behind_told), unfolding(crate::specs::Rules::wrong_names_at))]
+#[tactic(auto, using(crate::proofs::TellingLemmas::one_after_another), unfolding(crate::specs::Rules::wrong_names_at))]
 fn explain_columns(alloc: Global, json: &Json, key: Key) -> Result<Option<Slip>, AllocError>
     ensures { IfOk result (TellsIfAny (wrong_names_at key (view json.now))) }
 {
@@ -197,13 +200,28 @@ fn explain_rule_fields(alloc: Global, json: &Json) -> Result<Option<Slip>, Alloc
     Ok(None)
 }
 
-/// Returns what is wrong with a rule that can't be read, or none where nothing is found.
-#[tactic(auto, using(crate::proofs::TellingLemmas::first_told, crate::proofs::TellingLemmas::behind_told), unfolding(crate::specs::Rules::wrong_rule))]
-pub fn explain_rule(alloc: Global, json: &Json) -> Result<Option<Slip>, AllocError>
-    ensures { IfOk result (TellsIfAny (wrong_rule (view json.now))) }
+/// Returns what is wrong with the first field of a rule of its kind that can't be read, or else with its known needs.
+#[tactic(auto, using(crate::proofs::TellingLemmas::one_after_another))]
+fn explain_fields_and_needs(
+    alloc: Global,
+    json: &Json,
+    format: Format,
+) -> Result<Option<Slip>, AllocError>
+    ensures { IfOk result (TellsIfAny (wrong_rule_fields format (text_at key.Kind (view json.now)) (view json.now))) }
+{
+    if let Some(slip) = explain_rule_fields(alloc, json)? {
+        return Ok(Some(slip));
+    }
+    explain_known(alloc, json, format, text_at(json, Key::Kind))
+}
+
+/// Returns what is wrong with a rule of a text of a format that can't be read, or none where nothing is found.
+#[tactic(auto, using(crate::proofs::TellingLemmas::one_after_another), unfolding(crate::specs::Rules::wrong_rule))]
+pub fn explain_rule(alloc: Global, json: &Json, format: Format) -> Result<Option<Slip>, AllocError>
+    ensures { IfOk result (TellsIfAny (wrong_rule format (view json.now))) }
 {
     if let Some(slip) = explain_word_at(alloc, json, Key::Kind, KINDS)? {
         return Ok(Some(slip));
     }
-    explain_rule_fields(alloc, json)
+    explain_fields_and_needs(alloc, json, format)
 }

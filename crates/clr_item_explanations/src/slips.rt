@@ -98,7 +98,7 @@ pub(crate) fn below_any(
 
 /// Returns a slip, or one of these words on the value at these steps where there is none.
 #[tactic(auto, using(crate::proofs::TellingLemmas::found_told, crate::proofs::TellingLemmas::else_plain))]
-pub(crate) fn or_words(
+pub fn or_words(
     alloc: Global,
     slip: Option<Slip>,
     steps: &[PathStep],

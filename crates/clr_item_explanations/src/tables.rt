@@ -1,5 +1,5 @@
 //! Tables that can't be read.
-ghost use Rattle.std.specs.Prelude.{◌≡◌, IfOk};
+ghost use Rattle.std.specs.Prelude.{IfOk};
 ghost use Rattle.serde_json.specs.View.{view};
 ghost use Rattle.clr_text_positions.specs.declared.paths.Key.TheVariants as key;
 ghost use Rattle.clr_item_explanations.specs.Tables.{wrong_column, wrong_column_pair, wrong_paths, wrong_table};
@@ -19,7 +19,7 @@ const KINDS: &[&str] = &["INT", "TEXT"];
 const SHAPES: &[&str] = &["NONE", "POINT", "SEGMENT", "PATH"];
 
 /// Returns what is wrong with the name and the kind of a column.
-#[tactic(auto, using(crate::proofs::TellingLemmas::first_told, crate::proofs::TellingLemmas::behind_told))]
+#[tactic(auto, using(crate::proofs::TellingLemmas::one_after_another))]
 fn explain_column_pair(alloc: Global, name: &Json, kind: &Json) -> Result<Option<Slip>, AllocError>
     ensures { IfOk result (TellsIfAny (wrong_column_pair (view name.now) (view kind.now))) }
 {
@@ -32,7 +32,7 @@ fn explain_column_pair(alloc: Global, name: &Json, kind: &Json) -> Result<Option
 }
 
 /// Returns what is wrong with a column, which is a name and a kind.
-#[tactic(auto, using(crate::proofs::ItemLemmas::column_no_pair, crate::proofs::ItemLemmas::column_pair, crate::proofs::ItemLemmas::column_no_list))]
+#[tactic(auto, using(crate::proofs::ItemLemmas::pair_or_none), unfolding(crate::specs::Tables::wrong_column))]
 fn explain_column(alloc: Global, json: &Json) -> Result<Option<Slip>, AllocError>
     ensures { IfOk result (TellsIfAny (wrong_column (view json.now))) }
 {
@@ -50,7 +50,7 @@ fn explain_column(alloc: Global, json: &Json) -> Result<Option<Slip>, AllocError
 }
 
 /// Returns what is wrong with the first column of a table that can't be read.
-#[tactic(auto, using(crate::proofs::ListLemmas::from_first, crate::proofs::ListLemmas::item_right, crate::proofs::ListLemmas::item_wrong, crate::proofs::ListLemmas::all_right))]
+#[tactic(auto, using(crate::proofs::ListLemmas::items_in_turn))]
 fn explain_columns(alloc: Global, json: &Json) -> Result<Option<Slip>, AllocError>
     ensures { IfOk result (TellsIfAny (wrong_in_list key.Columns (λ at column. wrong_column column) (view json.now))) }
 {
@@ -73,12 +73,12 @@ fn explain_paths(alloc: Global, format: Format) -> Result<Option<Slip>, AllocErr
             &[PathStep::Key(Key::Shape)],
             "PATH is known from format 2 on",
         )?)),
-        Format::Second | Format::Third => Ok(None),
+        Format::Second | Format::Third | Format::Fourth => Ok(None),
     }
 }
 
 /// Returns what is wrong with a table that can't be read, or none where nothing is found.
-#[tactic(auto, using(crate::proofs::TellingLemmas::first_told, crate::proofs::TellingLemmas::behind_told), unfolding(crate::specs::Tables::wrong_table))]
+#[tactic(auto, using(crate::proofs::TellingLemmas::one_after_another), unfolding(crate::specs::Tables::wrong_table))]
 pub fn explain_table(alloc: Global, json: &Json, format: Format) -> Result<Option<Slip>, AllocError>
     ensures { IfOk result (TellsIfAny (wrong_table format (view json.now))) }
 {

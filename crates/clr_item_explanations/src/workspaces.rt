@@ -1,10 +1,10 @@
 //! Workspaces and marks that can't be read, or that can't stand.
 ghost use Rattle.std.specs.Prelude.{◌≡◌, ◌∷◌, map, string_bytes, IfOk};
 ghost use Rattle.serde_json.specs.View.{view};
-ghost use Rattle.clr_item_explanations.specs.FaultNames.{BeginsWithName, part_fault_name};
 ghost use Rattle.clr_item_explanations.specs.Slips.{said};
 ghost use Rattle.clr_item_explanations.specs.Tellings.{Tells, TellsIfAny, TellsNamed};
-ghost use Rattle.clr_item_explanations.specs.Workspaces.{part_fault_key, part_fault_text, wrong_mark, wrong_parent, wrong_part, wrong_workspace};
+ghost use Rattle.clr_item_explanations.specs.Workspaces.{part_fault_key, part_fault_name, part_fault_text, wrong_mark, wrong_parent, wrong_part};
+ghost use Rattle.clr_item_explanations.specs.Workspaces.{wrong_workspace};
 ghost use Rattle.clr_item_explanations.specs.Workspaces.{wrong_workspace_behind};
 ghost use Rattle.clr_item_explanations.specs.Values.{text_at};
 ghost use Rattle.clr_rows.specs.Names.{live_name};
@@ -15,7 +15,7 @@ use crate::slips::Slip;
 use clr_hints::{GOOD_NAME, name_hint};
 use clr_rows::LIVE;
 use clr_text_positions::{Key, PathStep};
-use clr_tree::PartFault;
+use clr_workspace_parts::PartFault;
 use serde_json::Value as Json;
 use std::alloc::{AllocError, Global};
 
@@ -48,7 +48,7 @@ fn explain_parent(alloc: Global, json: &Json, names: &[&str]) -> Result<Option<S
 }
 
 /// Returns what is wrong with a workspace that stands behind those of these names.
-#[tactic(auto, using(crate::proofs::TellingLemmas::first_told, crate::proofs::TellingLemmas::behind_told), unfolding(crate::specs::Workspaces::wrong_workspace_behind))]
+#[tactic(auto, using(crate::proofs::TellingLemmas::one_after_another), unfolding(crate::specs::Workspaces::wrong_workspace_behind))]
 fn explain_workspace_behind(
     alloc: Global,
     names: &[&str],
@@ -169,8 +169,7 @@ fn of_part(alloc: Global, workspace: &Json, fault: PartFault) -> Result<Slip, Al
 
 /// Returns why a workspace can't stand among all of them, for the fault that it has: the name of the fault, and a sentence.
 pub fn explain_part(alloc: Global, workspace: &Json, fault: PartFault) -> Result<Slip, AllocError>
-    ensures name { IfOk result (λ slip. BeginsWithName (part_fault_name fault) (string_bytes slip.sentence)) }
-    ensures told { IfOk result (λ slip. TellsNamed (part_fault_name fault) (wrong_part fault (view workspace.now)) (said slip)) }
+    ensures { IfOk result (λ slip. TellsNamed (part_fault_name fault) (wrong_part fault (view workspace.now)) (said slip)) }
 {
     let slip = of_part(alloc, workspace, fault)?;
     slip.with_name(alloc, part_fault_word(fault))

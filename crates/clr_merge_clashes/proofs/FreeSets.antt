@@ -60,7 +60,11 @@ module _ (o : Office) (t : MergeSet) where
     part_is : member_fault o t ≡ None → AreApart (change_sets o t) → LeavesNoneUncovered (setting_by_position o (merge_set_of_part t positions)) → Part
     part_is fits apart none =
         let mergeable = part_mergeable o t positions fits apart part.ascending part.below in
-        record { fits = no_member_fault o (merge_set_of_part t positions) mergeable; apart = apart_sets o (merge_set_of_part t positions) mergeable; none = none }
+        record {
+          fits = no_member_fault o (merge_set_of_part t positions) mergeable;
+          apart = apart_sets o (merge_set_of_part t positions) mergeable;
+          none = none;
+        }
 
     -- where the members are free, so are some of them
     pub part_free : ClashesDecideSubsets → IsFreeSet o t → Part

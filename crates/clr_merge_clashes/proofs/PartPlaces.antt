@@ -126,7 +126,8 @@ pub range_rises : (from n : ℕ) → IsStrictlySortedBy nat_cmp (range_with_len 
 unfolding IsStrictlySortedBy
 range_rises from zero = tt
 range_rises from (suc n) = (
-  all_by (λ m. nat_cmp from m ≡ Less) (range_with_len (from + 1) n) (λ m h. let (low, high) = from_on (from + 1) n m h in less_number from m (omega (arith, low))),
+  all_by (λ m. nat_cmp from m ≡ Less) (range_with_len (from + 1) n) (λ m h. let (low, high) = from_on (from + 1) n m h in less_number from m
+      (omega (arith, low))),
   range_rises (from + 1) n,
 )
 

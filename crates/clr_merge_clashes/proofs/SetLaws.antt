@@ -164,7 +164,8 @@ module _ (o : Office) (s : MergeSet) (found : Found) (causes : List (Option Verd
       let (cause, e) = is_at causes at less in
       let cause_none : cause ≡ None = sym (ap (option_and_then (λ (r : Option Verdict). r)) e) ∙ none in
       let (name, there, (p, planned, cleared)) = cause_of o s.root s.members causes is.alone at None (e ∙ ap Some cause_none) in
-      subst (λ (names : List Name). IsFreeSet o (merge_set s.root names)) (sym (one_member at name there)) (free_if_cleared o (alone s.root name) p planned cleared)
+      subst (λ (names : List Name). IsFreeSet o (merge_set s.root names)) (sym (one_member at name there))
+      (free_if_cleared o (alone s.root name) p planned cleared)
 
   free_below : (at : ℕ) → Among at free → at < length s.members
   free_below at h = let (less, none) = free_there at h in omega (arith, less, count)

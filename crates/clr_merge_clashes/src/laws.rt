@@ -4,8 +4,8 @@ ghost use Rattle.clr_merge_clashes.specs.Laws.{AllAreLookedAt, ClashesDecidePlan
 
 use clr_clashes::{clashes_decide_subsets, listed_clashes_decide_subsets};
 
-/// Of members of a root, none of them in conflict and no cell changed by two, the plan of some is cleared exactly where they hold none of a list of the smallest clashes of all,
-/// memory aside. So one list tells of each subset whether it can be merged in every order.
+/// Of members of a root, none of them in conflict and no cell changed by two, the plan of some is cleared exactly if they hold none of a list of
+/// the smallest clashes of all, memory aside. So one list says of each subset whether it can be merged in every order.
 pub fn clashes_decide_plans()
     ensures { ClashesDecidePlans }
 {

@@ -1,14 +1,12 @@
 -- What is asked of two texts is answered in one way alone, and no input has two sessions, memory aside.
-use Rattle.std.proofs.Common.{◌≡◌, ◌≢◌, ◌∙◌, ℕ, Bool, true, false, ◌||◌, List, Option, Some, None, Result, Ok, Err, refl, sym, ap, subst}
+use Rattle.std.proofs.Common.{◌≡◌, [], ◌≢◌, ◌∙◌, ℕ, Bool, true, false, ◌||◌, List, Option, Some, None, Result, Ok, Err, refl, sym, ap, subst}
 use Rattle.clr_rows.specs.Names.{live_name}
 use Rattle.clr_rules.specs.declared.needs.Broken.{Broken}
 use Rattle.clr_steps.specs.Offices.{Office}
-use Rattle.clr_engine.specs.Drafts.{unheld_in}
 use Rattle.clr_cert.specs.declared.certificates.Certificate.{Certificate}
 use Rattle.clr_merge_sets.specs.MergeSetNames.{merge_set}
 use Rattle.clr_check.specs.Cases.{Case, case_of}
-use Rattle.clr_office_texts.specs.Drafts.{draft_in}
-use Rattle.clr_rule_text.specs.declared.faults.TextFault.{TextFault}
+use Rattle.clr_office_texts.specs.Drafts.{Opened, opened_in}
 use Rattle.clr_command_line.specs.declared.asks.Ask.{Ask}
 use Rattle.clr_command_line.specs.declared.asks.Ask.TheVariants as ask
 use Rattle.clr_scripts.specs.declared.faults.RecordFault.{RecordFault}
@@ -50,9 +48,9 @@ module _ (Is : Office → Printed → Type 0) (one : (o : Office) → IsOnePrint
   one_where_held o (Some (position, need)) = one_equal _
   one_where_held o None = one o
 
-  one_in : (meant : Result Office TextFault) → IsOnePrint (IsPrintIn Is meant)
+  one_in : (meant : Opened) → IsOnePrint (IsPrintIn Is meant)
   one_in (Err fault) = one_equal _
-  one_in (Ok o) = one_where_held o (unheld_in o)
+  one_in (Ok (o, unheld)) = one_where_held o unheld
 
 one_printed : (o : Office) (read : Result (List Step) (ℕ × RecordFault)) → IsOnePrint (ArePrinted o read)
 one_printed o (Err (number, fault)) = one_equal _
@@ -67,11 +65,11 @@ module _ (IsRight : Office → Certificate → Outcome → Type 0) (one : (o : O
 
 one_within : (asked : Ask) (office second : List ℕ) → IsOnePrint (IsAnswerWithin asked office second)
 one_within ask.Audit office second = one_equal _
-one_within ask.Run office script = one_in (IsScriptPrint script) (λ o. one_printed o (script_in_text o.schema script)) (draft_in office)
+one_within ask.Run office script = one_in (IsScriptPrint script) (λ o. one_printed o (script_in_text o.schema script)) (opened_in office)
 one_within (ask.Plan names) office second =
-    one_in (IsPlanPrint (merge_set live_name names)) (λ o. one_print _ (one_planned o (merge_set live_name names))) (draft_in office)
+    one_in (IsPlanPrint (merge_set live_name names)) (λ o. one_print _ (one_planned o (merge_set live_name names))) (opened_in office)
 one_within (ask.PlanUnder root names) office second =
-    one_in (IsPlanPrint (merge_set root names)) (λ o. one_print _ (one_planned o (merge_set root names))) (draft_in office)
+    one_in (IsPlanPrint (merge_set root names)) (λ o. one_print _ (one_planned o (merge_set root names))) (opened_in office)
 one_within ask.Check office certificate = one_of_case IsVerdictOutcome one_check (case_of office certificate)
 one_within (ask.Merge names) office certificate =
     one_of_case (λ (o : Office) (c : Certificate) (all : Outcome). IsMergeOutcome o c names all) (λ o c. one_merge o c names) (case_of office certificate)

@@ -3,8 +3,7 @@ use Rattle.std.proofs.Common.{◌≡◌, ℕ, List, [], Option, None, Some, Resu
 use Rattle.clr_rules.specs.declared.needs.Broken.{Broken}
 use Rattle.clr_workspaces.specs.Marks.{Name}
 use Rattle.clr_steps.specs.Offices.{Office}
-use Rattle.clr_engine.specs.Drafts.{unheld_in}
-use Rattle.clr_rule_text.specs.declared.faults.TextFault.{TextFault}
+use Rattle.clr_office_texts.specs.Drafts.{Opened}
 use Rattle.clr_process_io.specs.declared.faults.RunFault.{RunFault}
 use Rattle.clr_process_io.specs.declared.faults.RunFault.TheVariants as run_fault
 use Rattle.clr_office_reports.specs.declared.outputs.Output.{Output}
@@ -27,19 +26,18 @@ module _ (P Q : Printed → Type 0) (leads : (print : Printed) → P print → Q
   weaker_made (Ok output) h = leads _ h
   weaker_made (Err e) h = weaker_fault e h
 
-module _ (P : Office → Printed → Type 0) (meant : Result Office TextFault) (o : Office) (is : meant ≡ Ok o) (held : unheld_in o ≡ None) where
+module _ (P : Office → Printed → Type 0) (meant : Opened) (o : Office) (is : meant ≡ Ok (o, None)) where
   opened : (print : Printed) → P o print → IsPrintIn P meant print
-  opened print h = subst (λ m. IsPrintIn P m print) (sym is) (subst (λ first. IsPrintWhereHeld P o first print) (sym held) h)
+  opened print h = subst (λ m. IsPrintIn P m print) (sym is) h
 
-  -- an office in which the rules hold
+  -- an office whose broken needs are known
   pub held_made : (answer : Result Output RunFault) → IsOutput (P o) answer → IsOutput (IsPrintIn P meant) answer
   held_made answer = weaker_made (P o) (IsPrintIn P meant) opened answer
 
--- hints at names of an office in which the rules hold
-pub hints_opened : (names : List Name) (meant : Result Office TextFault) (o : Office) → meant ≡ Ok o → unheld_in o ≡ None → (lines : List ℕ)
-    → AreNameHints o names lines → AreHintsIn names meant lines
-hints_opened names meant o is held lines h =
-    subst (λ m. AreHintsIn names m lines) (sym is) (subst (λ first. AreHintsWhereHeld names o first lines) (sym held) h)
+-- hints at names of an office whose broken needs are known
+pub hints_opened : (names : List Name) (meant : Opened) (o : Office) → meant ≡ Ok (o, None) → (lines : List ℕ) → AreNameHints o names lines
+    → AreHintsIn names meant lines
+hints_opened names meant o is lines h = subst (λ m. AreHintsIn names m lines) (sym is) h
 
 none_where : (names : List Name) (o : Office) (first : Option (ℕ × Broken)) (print : Printed) → IsPrintWhereHeld IsNoPrint o first print
     → AreHintsWhereHeld names o first []
@@ -47,11 +45,11 @@ none_where names o (Some unheld) print _ = refl
 none_where names o None print h = absurd h
 
 -- where something is printed in place of what is asked of an office, there are no hints
-pub no_hints : (names : List Name) (meant : Result Office TextFault) (print : Printed) → IsPrintIn IsNoPrint meant print → AreHintsIn names meant []
+pub no_hints : (names : List Name) (meant : Opened) (print : Printed) → IsPrintIn IsNoPrint meant print → AreHintsIn names meant []
 no_hints names (Err e) print _ = refl
-no_hints names (Ok o) print h = none_where names o (unheld_in o) print h
+no_hints names (Ok (o, unheld)) print h = none_where names o unheld print h
 
-pub no_hints_made : (names : List Name) (meant : Result Office TextFault) (answer : Result Output RunFault) → IsOutput (IsPrintIn IsNoPrint meant) answer
+pub no_hints_made : (names : List Name) (meant : Opened) (answer : Result Output RunFault) → IsOutput (IsPrintIn IsNoPrint meant) answer
     → OnOk answer (AreHintsIn names meant [])
 no_hints_made names meant (Ok output) h = no_hints names meant _ h
 no_hints_made names meant (Err e) _ = tt

@@ -8,7 +8,7 @@ use Rattle.clr_steps.specs.Quiet.{MergeSet}
 use Rattle.clr_merge_sets.specs.MergeSetNames.{merge_set}
 use Rattle.clr_lines.specs.Reports.{audit_text}
 use Rattle.clr_check.specs.Cases.{case_of}
-use Rattle.clr_office_texts.specs.Drafts.{draft_in}
+use Rattle.clr_office_texts.specs.Drafts.{draft_in, opened_in}
 use Rattle.clr_rule_text.specs.declared.faults.TextFault.{TextFault}
 use Rattle.clr_command_line.specs.declared.asks.Ask.{Ask}
 use Rattle.clr_command_line.specs.declared.asks.Ask.TheVariants as ask
@@ -34,9 +34,9 @@ IsPlanPrint s o print = IsPrintOf (IsPlanOutcome o s) print
 -- what is to be printed for what is asked of an office text and a second text
 abbrev pub IsAnswerWithin : Ask → List ℕ → List ℕ → Printed → Type 0
 IsAnswerWithin ask.Audit office second print = print ≡ audit_of (draft_in office)
-IsAnswerWithin ask.Run office script print = IsPrintIn (IsScriptPrint script) (draft_in office) print
-IsAnswerWithin (ask.Plan names) office second print = IsPrintIn (IsPlanPrint (merge_set live_name names)) (draft_in office) print
-IsAnswerWithin (ask.PlanUnder root names) office second print = IsPrintIn (IsPlanPrint (merge_set root names)) (draft_in office) print
+IsAnswerWithin ask.Run office script print = IsPrintIn (IsScriptPrint script) (opened_in office) print
+IsAnswerWithin (ask.Plan names) office second print = IsPrintIn (IsPlanPrint (merge_set live_name names)) (opened_in office) print
+IsAnswerWithin (ask.PlanUnder root names) office second print = IsPrintIn (IsPlanPrint (merge_set root names)) (opened_in office) print
 IsAnswerWithin ask.Check office certificate print = IsCheckPrint (case_of office certificate) print
 IsAnswerWithin (ask.Merge names) office certificate print = IsMergePrint names (case_of office certificate) print
 

@@ -7,9 +7,7 @@ use Rattle.clr_steps.specs.Offices.{Office}
 use Rattle.clr_steps.specs.Readings.{parent_in}
 use Rattle.clr_hints.specs.Names.{IsNearest}
 use Rattle.clr_rules.specs.declared.needs.Broken.{Broken}
-use Rattle.clr_engine.specs.Drafts.{unheld_in}
-use Rattle.clr_rule_text.specs.declared.faults.TextFault.{TextFault}
-use Rattle.clr_office_texts.specs.Drafts.{draft_in}
+use Rattle.clr_office_texts.specs.Drafts.{Opened, opened_in}
 use Rattle.clr_check.specs.Cases.{Case, case_of}
 use Rattle.clr_command_line.specs.declared.asks.Ask.{Ask}
 use Rattle.clr_command_line.specs.declared.asks.Ask.TheVariants as ask
@@ -59,9 +57,9 @@ AreHintsWhereHeld names o (Some unheld) lines = lines ≡ []
 AreHintsWhereHeld names o None lines = AreNameHints o names lines
 
 -- what is said at names of the office of a text, and nothing where there is none
-abbrev pub AreHintsIn : List Name → Result Office TextFault → List ℕ → Type 0
+abbrev pub AreHintsIn : List Name → Opened → List ℕ → Type 0
 AreHintsIn names (Err e) lines = lines ≡ []
-AreHintsIn names (Ok o) lines = AreHintsWhereHeld names o (unheld_in o) lines
+AreHintsIn names (Ok (o, unheld)) lines = AreHintsWhereHeld names o unheld lines
 
 -- what is said at the root of a certificate and at names, where two texts give an office and a certificate
 abbrev pub AreHintsOfCase : List Name → Case → List ℕ → Type 0
@@ -70,7 +68,7 @@ AreHintsOfCase names (Ok given) lines = AreNameHints given.0 (given.1.root ∷ n
 
 -- what is said at the names that are asked for: the root and the members of a plan, and the workspaces of merges
 abbrev pub AreHintsTo : Ask → List ℕ → List ℕ → List ℕ → Type 0
-AreHintsTo (ask.Plan names) office second lines = AreHintsIn (live_name ∷ names) (draft_in office) lines
-AreHintsTo (ask.PlanUnder root names) office second lines = AreHintsIn (root ∷ names) (draft_in office) lines
+AreHintsTo (ask.Plan names) office second lines = AreHintsIn (live_name ∷ names) (opened_in office) lines
+AreHintsTo (ask.PlanUnder root names) office second lines = AreHintsIn (root ∷ names) (opened_in office) lines
 AreHintsTo (ask.Merge names) office second lines = AreHintsOfCase names (case_of office second) lines
 AreHintsTo _ office second lines = lines ≡ []

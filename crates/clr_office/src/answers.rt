@@ -5,7 +5,7 @@ ghost use Rattle.std.specs.Io.KnownBytes.{Appends};
 ghost use Rattle.clr_check.specs.Cases.{case_of};
 ghost use Rattle.clr_merge_sets.specs.MergeSetNames.{merge_set};
 ghost use Rattle.clr_command_line.specs.declared.asks.Ask.TheVariants as ask;
-ghost use Rattle.clr_office_texts.specs.Drafts.{draft_in};
+ghost use Rattle.clr_office_texts.specs.Drafts.{draft_in, opened_in};
 ghost use Rattle.clr_office.specs.Answers.{IsPrintedAnswer, IsAnswerTo, IsAnswerWithin, IsPlanPrint, audit_of, audit_print};
 ghost use Rattle.clr_office.specs.NameHints.{AreHintsIn, AreHintsOfCase, AreHintsTo};
 ghost use Rattle.clr_office_reports.specs.Printing.{IsOutput, IsPrintIn, print_of};
@@ -46,7 +46,7 @@ fn answer_audit(alloc: Global, office: &[u8], disposal: Disposal) -> Result<Outp
     ensures { IsOutput (λ print. print ≡ audit_of (draft_in office.now)) result }
 {
     let draft = match draft_of(alloc, office) {
-        Ok(draft) => draft,
+        Ok(text) => text.draft,
         Err(fault) => return Err(fault),
     };
     let output = audit_draft(alloc, &draft)?;
@@ -83,8 +83,8 @@ fn answer_plan(
     hints: &mut Vec<u8>,
 ) -> Result<Output, RunFault>
     requires { hints.old.items ≡ [] }
-    ensures output { IsOutput (IsPrintIn (IsPlanPrint (merge_set root.now names.now)) (draft_in office.now)) result }
-    ensures hints { OnOk result (AreHintsIn (root.now ∷ names.now) (draft_in office.now) hints.new.items) }
+    ensures output { IsOutput (IsPrintIn (IsPlanPrint (merge_set root.now names.now)) (opened_in office.now)) result }
+    ensures hints { OnOk result (AreHintsIn (root.now ∷ names.now) (opened_in office.now) hints.new.items) }
 {
     match open_office(alloc, office) {
         Ok(office) => {

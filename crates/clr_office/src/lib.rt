@@ -21,7 +21,7 @@
 //!   the office, that line in place of any of these but the audit.
 //! - What is printed says what it is worth. With the line `clear` of `check` the members are *safe*
 //!   in the office of the text (`clr_clearance: Safe`), the headline holds of them (`Headline`),
-//!   and every rule holds in the root with the changes of any of them; a plan that is printed as
+//!   and the root with the changes of any of them breaks no need but those that it breaks; a plan that is printed as
 //!   cleared says that its members are safe, one that is printed as blocked that in its order a
 //!   merge is refused, and, memory aside and where the names fit, it is cleared exactly where they
 //!   are safe (`clr_office: Outcomes: IsPlanned`). So it is of each `plan` in a script, in the

@@ -9,7 +9,7 @@ use Rattle.clr_rule_text.specs.declared.faults.TextFault.{TextFault}
 use Rattle.clr_readings.specs.Readings.{◌>>=◌, Fails}
 use Rattle.clr_rule_text.specs.Fields.{text_lacks_memory}
 use Rattle.clr_readings.proofs.FaultTurns.{fails_with}
-use Rattle.clr_office_reading.specs.declared.formats.Format.{Format}
+use Rattle.clr_rule_text.specs.declared.formats.Format.{Format}
 use Rattle.clr_office_reading.specs.declared.workspaces.Head.{Head}
 use Rattle.clr_office_reading.specs.Workspaces.{contents_of, head_of, delta_of, marks_of, under_one_of}
 use Rattle.clr_office_reading.specs.Patches.{differences_at}

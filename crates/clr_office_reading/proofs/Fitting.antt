@@ -1,5 +1,5 @@
 -- What is read fits the schema.
-use Rattle.std.proofs.Common.{◌≡◌, ℕ, codes, List, [], ◌∷◌, ◌++◌, Option, Some, None, Result, Ok, Err, refl, subst}
+use Rattle.std.proofs.Common.{◌≡◌, ℕ, codes, List, [], ◌∷◌, ◌++◌, map, Option, Some, None, Result, Ok, Err, refl, ap, subst}
 use Rattle.std.specs.FinMap as finite
 use Rattle.std.specs.List.{AllByRecursion}
 use Rattle.serde_json.specs.Data.{Data, Items, no_items, item}
@@ -8,6 +8,8 @@ use Rattle.clr_rows.specs.declared.tables.TableDef.{TableDef}
 use Rattle.clr_rows.specs.Contents.{Content, no_rows, row_at, set_cell}
 use Rattle.clr_rows.specs.Schemas.{FitsSchema, row_fault, schema_fault}
 use Rattle.clr_rows.proofs.FitLemmas.{none_fit, none_keeps, put_keeps}
+use Rattle.clr_rules.specs.declared.needs.Broken.{Broken}
+use Rattle.clr_rules.specs.declared.rules.Rule.{Rule}
 use Rattle.clr_rules.specs.Books.{book_fault}
 use Rattle.clr_deltas.specs.Differences.{Differences}
 use Rattle.clr_deltas.specs.Deltas.{Delta}
@@ -15,17 +17,18 @@ use Rattle.clr_deltas.specs.declared.stored_marks.StoredMark.{StoredMark}
 use Rattle.clr_deltas.specs.declared.stored_marks.StoredMark.TheVariants as stored
 use Rattle.clr_office_reading.specs.declared.cells.NamedRow.{NamedRow}
 use Rattle.clr_rule_text.specs.declared.faults.TextFault.{TextFault}
-use Rattle.clr_office_reading.specs.declared.formats.Format.{Format}
+use Rattle.clr_rule_text.specs.declared.formats.Format.{Format}
 use Rattle.clr_office_reading.specs.declared.named_cells.NamedCell.{NamedCell}
 use Rattle.clr_office_reading.specs.declared.named_marks.NamedMark.{NamedMark}
 use Rattle.clr_office_reading.specs.declared.named_marks.NamedMark.TheVariants as named
 use Rattle.clr_office_reading.specs.Cells.{cell_of, live_of, live_rows_of, with_named_row, with_named_rows}
 use Rattle.clr_readings.specs.Readings.{◌>>=◌}
 use Rattle.clr_rule_text.specs.Fields.{each_in, list_or_none, none_or_fault}
+use Rattle.clr_rule_text.specs.Known.{known_needs}
 use Rattle.clr_office_reading.specs.Fits.{FitsDifferences, FitsDelta, FitsMark, FitsOffice}
 use Rattle.clr_office_reading.specs.Offices.{OfficeText, format_of, office_of, schema_of}
 use Rattle.clr_office_reading.specs.Patches.{differences_at, differences_of, named_cells_at, put_fault, with_cell, with_named_cells}
-use Rattle.clr_rule_text.specs.Rules.{named_rules_of, rule_over, rules_of}
+use Rattle.clr_rule_text.specs.Rules.{rule_over, rules_of, stated_rules_of}
 use Rattle.clr_office_reading.specs.Tables.{tables_of}
 use Rattle.clr_office_reading.specs.Workspaces.{head_of, delta_of, deltas_after, deltas_of, mark_over, marks_of, named_marks_of, under_one_of}
 
@@ -166,27 +169,30 @@ schema_fits format d tables e =
     let good = then_ok (none_or_fault _ (schema_fault read.0)) _ _ read.2 in
     subst (λ ts. schema_fault ts ≡ None) (let f = good.2 in let same : read.0 ≡ tables = cc in same) (none_where_ok _ _ _ good.1)
 
-rules_fit : (tables : List TableDef) (d : Data) (rules : List _) → rules_of tables d ≡ Ok rules → book_fault tables rules ≡ None
+rules_fit : (format : Format) (tables : List TableDef) (d : Data) (rules : List Rule × List Broken) → rules_of format tables d ≡ Ok rules
+    → book_fault tables rules.0 ≡ None
 unfolding rules_of
-rules_fit tables d rules e =
-    let named = then_ok (named_rules_of d) _ _ e in
-    let read = then_ok (each_in (rule_over tables) named.0) _ _ named.2 in
+rules_fit format tables d rules e =
+    let stated = then_ok (stated_rules_of format d) _ _ e in
+    let read = then_ok (each_in (rule_over tables) (map (λ s. s.rule) stated.0)) _ _ stated.2 in
     let good = then_ok (none_or_fault _ (book_fault tables read.0)) _ _ read.2 in
-    subst (λ rs. book_fault tables rs ≡ None) (let f = good.2 in let same : read.0 ≡ rules = cc in same) (none_where_ok _ _ _ good.1)
+    let known = then_ok (known_needs tables 0 read.0 (map (λ s. s.known) stated.0)) _ _ good.2 in
+    subst (λ rs. book_fault tables rs ≡ None)
+    (let f = known.2 in let same : (read.0, known.0) ≡ rules = cc in ap (λ (r : List Rule × List Broken). r.0) same) (none_where_ok _ _ _ good.1)
 
 pub office_fits : (d : Data) (o : OfficeText) → office_of d ≡ Ok o → FitsOffice o
 unfolding office_of
 office_fits d o e =
     let format = then_ok (format_of d) _ _ e in
     let tables = then_ok (schema_of format.0 d) _ _ format.2 in
-    let rules = then_ok (rules_of tables.0 d) _ _ tables.2 in
+    let rules = then_ok (rules_of format.0 tables.0 d) _ _ tables.2 in
     let live = then_ok (live_of tables.0 d) _ _ rules.2 in
     let deltas = then_ok (deltas_of format.0 tables.0 d) _ _ live.2 in
-    let made : OfficeText = record { schema = tables.0; book = rules.0; live = live.0; deltas = deltas.0 } in
+    let made : OfficeText = record { schema = tables.0; book = rules.0.0; known = rules.0.1; live = live.0; deltas = deltas.0 } in
     subst (λ m. FitsOffice m) (let f = deltas.2 in let same : made ≡ o = cc in same)
     (record {
       schema = schema_fits format.0 d tables.0 tables.1;
-      book = rules_fit tables.0 d rules.0 rules.1;
+      book = rules_fit format.0 tables.0 d rules.0 rules.1;
       live = live_fits tables.0 d live.0 live.1;
       deltas = all_deltas_fit format.0 tables.0 d deltas.0 deltas.1;
     })

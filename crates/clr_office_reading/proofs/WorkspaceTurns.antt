@@ -8,7 +8,7 @@ use Rattle.clr_rows.specs.declared.tables.TableDef.{TableDef}
 use Rattle.clr_deltas.specs.NamedDeltas.{stored_delta}
 use Rattle.clr_deltas.specs.Deltas.{Delta}
 use Rattle.clr_rule_text.specs.declared.faults.TextFault.{TextFault}
-use Rattle.clr_office_reading.specs.declared.formats.Format.{Format}
+use Rattle.clr_rule_text.specs.declared.formats.Format.{Format}
 use Rattle.clr_deltas.specs.declared.stored_parts.StoredPart.{StoredPart}
 use Rattle.clr_readings.specs.Readings.{◌>>=◌, Fails}
 use Rattle.clr_rule_text.specs.Fields.{text_lacks_memory}

@@ -9,8 +9,8 @@ use Rattle.clr_rows.specs.declared.tables.Form.TheVariants as form
 use Rattle.clr_rows.specs.declared.tables.TableDef.{TableDef}
 use Rattle.clr_rule_text.specs.declared.faults.TextFault.{TextFault}
 use Rattle.clr_rule_text.specs.declared.faults.TextFault.TheVariants.{BadField}
-use Rattle.clr_office_reading.specs.declared.formats.Format.{Format}
-use Rattle.clr_office_reading.specs.declared.formats.Format.TheVariants.{First, Second, Third}
+use Rattle.clr_rule_text.specs.declared.formats.Format.{Format}
+use Rattle.clr_rule_text.specs.declared.formats.Format.TheVariants.{First, Second, Third, Fourth}
 use Rattle.clr_readings.specs.Readings.{◌>>=◌}
 use Rattle.clr_rule_text.specs.Fields.{each, field_of, list_at, array_of, words_at, words_of}
 
@@ -25,6 +25,7 @@ abbrev pub path_in : Format → Result Form TextFault
 path_in First = Err BadField
 path_in Second = Ok form.Path
 path_in Third = Ok form.Path
+path_in Fourth = Ok form.Path
 
 abbrev pub form_named : Format → List ℕ → Result Form TextFault
 form_named format word =

@@ -15,8 +15,8 @@ use Rattle.clr_deltas.specs.declared.stored_marks.StoredMark.{StoredMark}
 use Rattle.clr_deltas.specs.declared.stored_marks.StoredMark.TheVariants as stored
 use Rattle.clr_rule_text.specs.declared.faults.TextFault.{TextFault}
 use Rattle.clr_rule_text.specs.declared.faults.TextFault.TheVariants.{BadPart}
-use Rattle.clr_office_reading.specs.declared.formats.Format.{Format}
-use Rattle.clr_office_reading.specs.declared.formats.Format.TheVariants.{First, Second, Third}
+use Rattle.clr_rule_text.specs.declared.formats.Format.{Format}
+use Rattle.clr_rule_text.specs.declared.formats.Format.TheVariants.{First, Second, Third, Fourth}
 use Rattle.clr_office_reading.specs.declared.named_marks.NamedMark.{NamedMark}
 use Rattle.clr_office_reading.specs.declared.named_marks.NamedMark.TheVariants as named
 use Rattle.clr_office_reading.specs.declared.workspaces.Head.{Head}
@@ -53,11 +53,12 @@ marks_of tables d = named_marks_of tables d >>= each_in (mark_over tables)
 
 -- workspaces ---------------------------------------------------------------------------------
 
--- a workspace is kept in format 3 alone
+-- a workspace is kept in formats 3 and 4 alone
 abbrev pub kept_of : Format → Data → Result Bool TextFault
 kept_of First d = Ok false
 kept_of Second d = Ok false
 kept_of Third d = flag_or_not (get (codes "kept") d)
+kept_of Fourth d = flag_or_not (get (codes "kept") d)
 
 unfoldable pub head_of : Format → Data → Result Head TextFault
 head_of format d = do

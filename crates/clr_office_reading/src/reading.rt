@@ -15,18 +15,20 @@ use clr_rows::{Schema, Sheet};
 use clr_rule_text::TextFault;
 use clr_rule_text::borrowed::read_value;
 use clr_rule_text::json_values::JsonValue;
-use clr_rule_text::rules::read_rules;
+use clr_rule_text::known_needs::KnownNeeds;
+use clr_rule_text::rules::{BookText, read_rules};
 use clr_rules::RuleBook;
 use json::Scratch;
 use simdutf8::compat::from_utf8;
 use std::alloc::Global;
 
-/// The parts of an office: its schema, its rules, the content of LIVE, and the workspaces under LIVE
-/// by their differences, in order of creation.
+/// The parts of an office: its schema, its rules, the needs of them that the text names as known to be broken, the content
+/// of LIVE, and the workspaces under LIVE by their differences, in order of creation.
 #[derive(Drop)]
 pub struct OfficeParts {
     pub schema: Schema,
     pub book: RuleBook,
+    pub known: KnownNeeds,
     pub live: Sheet,
     pub workspaces: Vec<StoredPart>,
 }
@@ -50,28 +52,29 @@ fn office<J: JsonValue>(alloc: Global, json: &J) -> Result<OfficeParts, TextFaul
 {
     let format = read_format(json)?;
     let schema = schema(alloc, json, format)?;
-    let book = read_rules(alloc, json, &schema)?;
+    let BookText { book, known } = read_rules(alloc, json, format, &schema)?;
     let live = live(alloc, json, &schema)?;
     let workspaces = stored_parts(alloc, json, format, &schema)?;
     Ok(OfficeParts {
         schema,
         book,
+        known,
         live,
         workspaces,
     })
 }
 
-/// Reads an office text of format 1, 2 or 3. A workspace is read by its differences; whether the
+/// Reads an office text of format 1 to 4. A workspace is read by its differences; whether the
 /// workspaces as a whole make a tree is not tested here. The first fault answers, over the parts in
 /// the order format, tables, rules, live, and then each workspace in turn; in a workspace the order
 /// is the name, the parent and the flag, then its base, its rows and its marks. In each of these
 /// parts `BadField` comes before the other faults, and at one cell `BadRow` before `RepeatedCell`.
 ///
 /// Fails with `NotJson` where the bytes aren't JSON, with `BadField` where a key is missing, or a
-/// value is none of those that may stand there (a list of rules, workspaces, cells of a base, of
+/// value is none of those that may stand there (a list of rules, known needs, workspaces, cells of a base, of
 /// rows, marks or literals that is missing is empty), with `BadSchema` where the tables make no
-/// schema, with `BadRule` where a rule names a table or a column that the schema hasn't, or the
-/// rules make no book over it, with `BadRow` where a cell's table isn't known, the row doesn't fit
+/// schema, with `BadRule` where a rule names a table or a column that the schema hasn't, the rules make no book
+/// over it, or a known need is one that its rule can't have, with `BadRow` where a cell's table isn't known, the row doesn't fit
 /// it, or no row could stand where one is gone, with `RepeatedCell` where a cell stands twice in one
 /// list, and with `BadPart` where the parent of a workspace is neither LIVE nor an earlier one. Want
 /// of memory is `OutOfMemory`, which may come in place of any other answer.

@@ -30,7 +30,7 @@ fn path(format: Format) -> Result<Form, TextFault>
 {
     match format {
         Format::First => Err(TextFault::BadField),
-        Format::Second | Format::Third => Ok(Form::Path),
+        Format::Second | Format::Third | Format::Fourth => Ok(Form::Path),
     }
 }
 

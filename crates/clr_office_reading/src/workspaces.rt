@@ -32,7 +32,7 @@ fn read_kept<J: JsonValue>(json: &J, format: Format) -> Result<bool, TextFault>
 {
     match format {
         Format::First | Format::Second => Ok(false),
-        Format::Third => optional_flag(json, "kept"),
+        Format::Third | Format::Fourth => optional_flag(json, "kept"),
     }
 }
 

@@ -4,9 +4,9 @@ use Rattle.clr_rules.specs.declared.needs.Broken.{Broken}
 use Rattle.clr_workspaces.specs.Marks.{Name}
 use Rattle.clr_steps.specs.Offices.{Office}
 use Rattle.clr_steps.specs.Readings.{name_at}
-use Rattle.clr_engine.specs.Drafts.{unheld_in}
 use Rattle.clr_lines.specs.Reports.{unheld_text}
 use Rattle.clr_rule_text.specs.declared.faults.TextFault.{TextFault}
+use Rattle.clr_office_texts.specs.Drafts.{Opened}
 use Rattle.clr_office_reports.specs.Outcomes.{Outcome}
 use Rattle.clr_process_io.specs.declared.faults.RunFault.{RunFault}
 use Rattle.clr_process_io.specs.declared.faults.RunFault.TheVariants as run_fault
@@ -33,21 +33,21 @@ abbrev pub name_below_live : Office → ℕ → Option Name
 name_below_live o zero = None
 name_below_live o (suc position) = name_at o (suc position)
 
--- where a rule doesn't hold: the line that says so, which counts as a refusal
+-- where a need is broken that isn't known: the line that says so, which counts as a refusal
 abbrev pub unheld_print : Office → ℕ → Broken → Printed
 unheld_print o position need = print_of (unheld_text o.schema (name_below_live o position) need) true false
 
--- what is asked of an office in which every rule holds that is to hold; the line of a rule that doesn't hold stands in its place
+-- what is asked of an office whose broken needs are known; the line of one that isn't stands in its place
 abbrev pub IsPrintWhereHeld : (Office → Printed → Type 0) → Office → Option (ℕ × Broken) → Printed → Type 0
 IsPrintWhereHeld IsPrint o (Some (position, need)) print = print ≡ unheld_print o position need
 IsPrintWhereHeld IsPrint o None print = IsPrint o print
 
 -- what is asked of an office, or why there is none
-abbrev pub IsPrintIn : (Office → Printed → Type 0) → Result Office TextFault → Printed → Type 0
+abbrev pub IsPrintIn : (Office → Printed → Type 0) → Opened → Printed → Type 0
 IsPrintIn IsPrint (Err fault) print = print ≡ Err (run_fault.BadOffice fault)
-IsPrintIn IsPrint (Ok o) print = IsPrintWhereHeld IsPrint o (unheld_in o) print
+IsPrintIn IsPrint (Ok (o, unheld)) print = IsPrintWhereHeld IsPrint o unheld print
 
--- nothing is to be printed of an office in which the rules hold
+-- nothing is to be printed of an office whose broken needs are known
 abbrev pub IsNoPrint : Office → Printed → Type 0
 IsNoPrint o print = ⊥
 

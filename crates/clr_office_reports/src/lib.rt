@@ -7,9 +7,9 @@
 //!   and `audit_output`; on all of an office: `workspaces_output`, `dump_output`, `dump_text`,
 //!   `workspaces_lines`. Each is exactly the outcome that its definition says (`clr_office_reports: Outcomes`), memory
 //!   aside. What `dump_text` gives is also read as the same office [`again`].
-//! - `open_office` [`meant`, `held`, `answer`] gives the office of a text, or what is answered in its
-//!   place; `draft_of` one in which rules may not hold, and `unheld_output` the line of a rule that
-//!   doesn't. `texts_of_names` are the texts of names.
+//! - `open_office` [`meant`, `answer`] gives the office of a text whose broken needs are known, or what is answered in its
+//!   place; `draft_of` [`draft`, `known`, `fault`] a draft and its known needs, and `unheld_output` the line of a need that is
+//!   broken and isn't known. `texts_of_names` are the texts of names.
 #![tactic(auto)]
 
 mod name_texts;

@@ -1,8 +1,8 @@
 //! Reports on an office, by the names of its workspaces.
-ghost use Rattle.std.specs.Prelude.{◌≡◌, true, false, Ok, IfOk};
+ghost use Rattle.std.specs.Prelude.{◌≡◌, true, false, None, Ok, IfOk};
 ghost use Rattle.clr_steps.specs.declared.commands.Reply.TheVariants.{NoWorkspace};
 ghost use Rattle.clr_lines.specs.Replies.{reply_text};
-ghost use Rattle.clr_office_texts.specs.Drafts.{draft_in};
+ghost use Rattle.clr_office_texts.specs.Drafts.{draft_in, opened_in};
 ghost use Rattle.clr_office_reports.specs.Outcomes.{audit_outcome, changes_outcome, conflicts_outcome, dump_outcome, dump_text, outcome_of, show_outcome};
 ghost use Rattle.clr_office_reports.specs.Outcomes.{workspaces_outcome};
 
@@ -95,10 +95,12 @@ pub fn workspaces_output(alloc: Global, office: &Office) -> Result<Output, Alloc
     Ok(Output::of_lines(workspaces_lines(alloc, office)?))
 }
 
-/// Returns the text of the whole office, ended by `\n`, which is read as the same office.
+/// Returns the text of the whole office, ended by `\n`, which is read as the same office. It names just the needs as known that
+/// are broken in LIVE or in a kept workspace.
 pub fn dump_text(alloc: Global, office: &Office) -> Result<Vec<u8>, AllocError>
     ensures text { IfOk result (λ text. text.items ≡ dump_text office.now) }
     ensures again { IfOk result (λ text. draft_in text.items ≡ Ok office.now) }
+    ensures admitted { IfOk result (λ text. opened_in text.items ≡ Ok (office.now, None)) }
 {
     let mut text = write_office(alloc, office)?;
     text.push(b'\n')?;

@@ -8,10 +8,10 @@ use clr_rows::Schema;
 use clr_scripts::{Step, read_script};
 use std::alloc::Global;
 
-/// Returns the office of a text in which every rule holds.
+/// Returns the office of a text, in which each broken need is known.
 pub fn office_of(alloc: Global, text: &str) -> Option<Office> {
-    let draft = read_office(alloc, text.as_bytes()).ok()?;
-    draft.admit().ok()
+    let read = read_office(alloc, text.as_bytes()).ok()?;
+    read.draft.admit(read.known.as_slice()).ok()
 }
 
 /// Returns the steps of a script.

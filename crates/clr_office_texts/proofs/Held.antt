@@ -1,6 +1,6 @@
 -- Every rule holds where no workspace is unheld.
 use Rattle.std.proofs.Common.{◌≡◌, ℕ, suc, Bool, true, false, ◌||◌, cond, List, [], ◌∷◌, Option, Some, None, refl, sym, ap, subst, ◌∙◌}
-use Rattle.std.specs.Option.{option_map_or}
+use Rattle.std.specs.Option.{option_map, option_map_or, option_or}
 use Rattle.std.proofs.lemmas.Bool.{false≢true}
 use Rattle.std.proofs.lemmas.Option.{none-some, same_Some}
 use Rattle.clr_rows.specs.Contents.{row_at}
@@ -14,7 +14,7 @@ use Rattle.clr_steps.specs.Offices.{Office, content_of, current_of, find_name, i
 use Rattle.clr_steps.specs.Refusals.{first_broken}
 use Rattle.clr_steps.proofs.NeedLemmas.{holds_if_none}
 use Rattle.clr_steps.proofs.UnheldLemmas.{none_then}
-use Rattle.clr_engine.specs.Drafts.{unheld_in}
+use Rattle.clr_engine.proofs.Unheld.{unheld_of_none_known}
 use Rattle.clr_office_texts.specs.Laws.{HeldLaw}
 
 -- the first workspace of a name breaks no rule, where it is kept and nothing kept is found to break one
@@ -36,7 +36,8 @@ module _ (book : List Rule) (name : Name) where
       let both = none_then (cond v.kept (first_broken book v.current) None) at (unheld_from book (suc at) ws) e in
       none_by (same_name name v.name) at v ws w both.0 (λ later. none_at (suc at) ws w both.1 later k) f k
 
-module _ (o : Office) (name : Name) (none : unheld_in o ≡ None) where
+module _ (o : Office) (name : Name)
+    (none : option_or (option_map (λ need. (0, need)) (first_broken o.book o.live)) (unheld_from o.book 1 o.workspaces) ≡ None) where
   holds_at : (r : Option Workspace) → find_name name o.workspaces ≡ r → option_map_or (λ w. w.kept) r false ≡ true → Holds o.book (row_at (current_of r))
   holds_at None f k = absurd (false≢true k)
   holds_at (Some w) f k =
@@ -50,4 +51,4 @@ module _ (o : Office) (name : Name) (none : unheld_in o ≡ None) where
 
 pub held_law : HeldLaw
 unfolding is_kept workspace content_of
-held_law o none name kept = holds_by o name none (is_live name) kept
+held_law o none name kept = holds_by o name (sym (unheld_of_none_known o) ∙ none) (is_live name) kept

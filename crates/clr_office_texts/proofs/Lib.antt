@@ -1,3 +1,6 @@
+pub mod BrokenFits
+pub mod BrokenLists
+pub mod BrokenNowLemmas
 pub mod Differences
 pub mod Held
 pub mod LineEnds

@@ -20,10 +20,10 @@ use Rattle.json.proofs.Printed.Utf8.{IsUtf8-are_ascii}
 use Rattle.serde_json.specs.Read.{max_depth, of_json, read}
 use Rattle.clr_steps.specs.Offices.{Office}
 use Rattle.clr_readings.specs.Readings.{◌>>=◌}
-use Rattle.clr_office_reading.specs.Offices.{OfficeText, office_if_read, office_in}
+use Rattle.clr_office_reading.specs.Offices.{OfficeText, known_if_read, known_in, office_if_read, office_in}
 use Rattle.clr_rule_text.specs.declared.faults.TextFault.{TextFault}
 use Rattle.clr_rule_text.specs.declared.faults.TextFault.TheVariants.{NotJson}
-use Rattle.clr_office_texts.specs.Drafts.{draft_in, if_standing, whole_office}
+use Rattle.clr_office_texts.specs.Drafts.{draft_in, if_standing, opened_in, whole_office}
 
 -- a text with a line end behind it
 abbrev pub ended : List ℕ → List ℕ
@@ -232,3 +232,18 @@ draft-ended t o is = by (is_utf8 t) refl
     by : (b : Bool) → is_utf8 t ≡ b → draft_in (ended t) ≡ Ok o
     by true e = ap standing (office-ended t e) ∙ is
     by false e = let never : ◌≡◌ {A = Result Office TextFault} (Err NotJson) (Ok o) = sym (ap standing (no_office t e)) ∙ is in cc
+
+pub known-ended : (t : List ℕ) (o : Office) → draft_in t ≡ Ok o → known_in (ended t) ≡ known_in t
+unfolding draft_in known_in
+known-ended t o is = by (is_utf8 t) refl
+  where
+    standing : Result OfficeText TextFault → Result Office TextFault
+    standing read = read >>= λ text. if_standing (whole_office text)
+
+    by : (b : Bool) → is_utf8 t ≡ b → known_if_read (office_in (ended t)) ≡ known_if_read (office_in t)
+    by true e = ap known_if_read (office-ended t e)
+    by false e = absurd (let never : ◌≡◌ {A = Result Office TextFault} (Err NotJson) (Ok o) = sym (ap standing (no_office t e)) ∙ is in cc)
+
+pub opened-ended : (t : List ℕ) (o : Office) → draft_in t ≡ Ok o → opened_in (ended t) ≡ opened_in t
+unfolding opened_in
+opened-ended t o is = rw (draft-ended t o is, is, known-ended t o is) refl

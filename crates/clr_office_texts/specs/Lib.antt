@@ -1,3 +1,4 @@
+pub mod BrokenNow
 pub mod Drafts
 pub mod Laws
 pub mod Writing

@@ -1,4 +1,8 @@
 pub mod CellsRead
+pub mod KnownRead
+pub mod KnownRules
+pub mod KnownSplit
+pub mod KnownWritten
 pub mod ListsRead
 pub mod ListsWritten
 pub mod OfficesRead

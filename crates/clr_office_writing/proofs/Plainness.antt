@@ -1,5 +1,6 @@
 -- What is written of an office text nests little, and has no floats.
 use Rattle.std.proofs.Common.{◌≡◌, ℕ, ℤ, pos, negsuc, ◌≤◌, false, List, [], ◌∷◌, map, Option, Some, None, refl, arith}
+use Rattle.std.specs.List.{enumerate_from}
 use Rattle.serde_json.specs.Data.{Data, string, depth, items_depth}
 use Rattle.serde_json.specs.View.{items_of}
 use Rattle.serde_json.specs.Written.{has_float, items_have_float}
@@ -8,6 +9,7 @@ use Rattle.clr_rows.specs.declared.rows.Value.{Value}
 use Rattle.clr_rows.specs.declared.rows.Value.TheVariants.{Int, Words}
 use Rattle.clr_rows.specs.declared.tables.TableDef.{TableDef}
 use Rattle.clr_rows.specs.Parts.{vertices_of}
+use Rattle.clr_rules.specs.declared.needs.Broken.{Broken}
 use Rattle.clr_deltas.specs.Deltas.{Delta}
 use Rattle.clr_office_reading.specs.declared.named_cells.NamedCell.{NamedCell}
 use Rattle.clr_office_reading.specs.declared.named_marks.NamedMark.{NamedMark}
@@ -17,9 +19,10 @@ use Rattle.clr_rule_text.specs.declared.named_rules.NamedRule.TheVariants.{Uniqu
 use Rattle.clr_rule_text.specs.declared.named_sides.NamedSide.{NamedSide}
 use Rattle.clr_office_reading.specs.Offices.{OfficeText}
 use Rattle.clr_office_writing.specs.CellData.{coordinates_of, named_cell_data, cells_with_names, named_row_data, named_rows, row_data, row_or_gone_data}
+use Rattle.clr_office_writing.specs.KnownData.{known_of_rule, need_data, need_numbers}
 use Rattle.clr_office_writing.specs.Laws.{IsPlain}
-use Rattle.clr_office_writing.specs.OfficeData.{office_data}
-use Rattle.clr_office_writing.specs.RuleData.{literal_data, named_rule, named_rule_data, side_data}
+use Rattle.clr_office_writing.specs.OfficeData.{format_number, office_data}
+use Rattle.clr_office_writing.specs.RuleData.{literal_data, named_rule, named_rule_data, rule_data, side_data}
 use Rattle.clr_office_writing.specs.TableData.{column_data, table_data}
 use Rattle.clr_office_writing.specs.Values.{number_data, value_data}
 use Rattle.clr_office_writing.specs.WorkspaceData.{delta_data, named_mark, named_mark_data}
@@ -43,19 +46,25 @@ side_depth s = omega (arith, list_depth literal_data 1 (λ l. omega (arith, valu
 names_depth : (names : List (List ℕ)) → items_depth (items_of (map string names)) ≤ 0
 names_depth names = list_depth string 0 (λ name. omega arith) names
 
-rule_depth : (r : NamedRule) → depth (named_rule_data r) ≤ 4
-rule_depth (Unique subject columns) = omega (arith, side_depth subject, names_depth columns)
-rule_depth (Partner subject columns server server_columns) = omega (
-  arith,
-  side_depth subject,
-  side_depth server,
-  names_depth columns,
-  names_depth
-      server_columns,
-)
-rule_depth (EndNode subject tip server) = omega (arith, side_depth subject, side_depth server)
-rule_depth (Crossing a b server) = omega (arith, side_depth a, side_depth b, side_depth server)
-rule_depth (Near a b d) = omega (arith, side_depth a, side_depth b)
+need_depth : (b : Broken) → depth (need_data b) ≤ 1
+need_depth b = omega (arith, list_depth number_data 0 (λ z. omega arith) (need_numbers b))
+
+needs_depth : (needs : List Broken) → items_depth (items_of (map need_data needs)) ≤ 1
+needs_depth needs = list_depth need_data 1 need_depth needs
+
+rule_depth : (known : Option (List Broken)) (r : NamedRule) → depth (named_rule_data known r) ≤ 4
+rule_depth None (Unique subject columns) = omega (arith, side_depth subject, names_depth columns)
+rule_depth (Some needs) (Unique subject columns) = omega (arith, side_depth subject, names_depth columns, needs_depth needs)
+rule_depth None (Partner subject columns server server_columns) =
+    omega (arith, side_depth subject, side_depth server, names_depth columns, names_depth server_columns)
+rule_depth (Some needs) (Partner subject columns server server_columns) =
+    omega (arith, side_depth subject, side_depth server, names_depth columns, names_depth server_columns, needs_depth needs)
+rule_depth None (EndNode subject tip server) = omega (arith, side_depth subject, side_depth server)
+rule_depth (Some needs) (EndNode subject tip server) = omega (arith, side_depth subject, side_depth server, needs_depth needs)
+rule_depth None (Crossing a b server) = omega (arith, side_depth a, side_depth b, side_depth server)
+rule_depth (Some needs) (Crossing a b server) = omega (arith, side_depth a, side_depth b, side_depth server, needs_depth needs)
+rule_depth None (Near a b d) = omega (arith, side_depth a, side_depth b)
+rule_depth (Some needs) (Near a b d) = omega (arith, side_depth a, side_depth b, needs_depth needs)
 
 row_depth : (table : List ℕ) (key : ℤ) (row : Row) → depth (row_data table key row) ≤ 2
 row_depth table key row = omega (
@@ -92,7 +101,7 @@ office_depth o =
     omega (
       arith,
       list_depth table_data 3 table_depth o.schema,
-      list_depth named_rule_data 4 rule_depth (map (named_rule o.schema) o.book),
+      list_depth (rule_data o.schema o.known) 4 (λ r. rule_depth (known_of_rule o.known r.0) (named_rule o.schema r.1)) (enumerate_from 0 o.book),
       list_depth named_row_data 2 (λ n. row_depth n.table n.key n.row) (named_rows o.schema o.live),
       list_depth (delta_data o.schema) 6 (delta_depth o.schema) o.deltas,
     )
@@ -120,12 +129,25 @@ side_plain s = rw (list_plain literal_data (λ l. rw (value_plain l.1) refl) s.f
 names_plain : (names : List (List ℕ)) → items_have_float (items_of (map string names)) ≡ false
 names_plain names = list_plain string (λ name. refl) names
 
-rule_plain : (r : NamedRule) → has_float (named_rule_data r) ≡ false
-rule_plain (Unique subject columns) = rw (names_plain columns, side_plain subject) refl
-rule_plain (Partner subject columns server server_columns) = rw (names_plain columns, names_plain server_columns, side_plain subject, side_plain server) refl
-rule_plain (EndNode subject tip server) = rw (side_plain subject, side_plain server) refl
-rule_plain (Crossing a b server) = rw (side_plain a, side_plain b, side_plain server) refl
-rule_plain (Near a b d) = rw (side_plain a, side_plain b, number_plain d) refl
+need_plain : (b : Broken) → has_float (need_data b) ≡ false
+need_plain b = list_plain number_data number_plain (need_numbers b)
+
+needs_plain : (needs : List Broken) → items_have_float (items_of (map need_data needs)) ≡ false
+needs_plain needs = list_plain need_data need_plain needs
+
+rule_plain : (known : Option (List Broken)) (r : NamedRule) → has_float (named_rule_data known r) ≡ false
+rule_plain None (Unique subject columns) = rw (names_plain columns, side_plain subject) refl
+rule_plain (Some needs) (Unique subject columns) = rw (names_plain columns, side_plain subject, needs_plain needs) refl
+rule_plain None (Partner subject columns server server_columns) =
+    rw (names_plain columns, names_plain server_columns, side_plain subject, side_plain server) refl
+rule_plain (Some needs) (Partner subject columns server server_columns) =
+    rw (names_plain columns, names_plain server_columns, side_plain subject, side_plain server, needs_plain needs) refl
+rule_plain None (EndNode subject tip server) = rw (side_plain subject, side_plain server) refl
+rule_plain (Some needs) (EndNode subject tip server) = rw (side_plain subject, side_plain server, needs_plain needs) refl
+rule_plain None (Crossing a b server) = rw (side_plain a, side_plain b, side_plain server) refl
+rule_plain (Some needs) (Crossing a b server) = rw (side_plain a, side_plain b, side_plain server, needs_plain needs) refl
+rule_plain None (Near a b d) = rw (side_plain a, side_plain b, number_plain d) refl
+rule_plain (Some needs) (Near a b d) = rw (side_plain a, side_plain b, number_plain d, needs_plain needs) refl
 
 row_plain : (table : List ℕ) (key : ℤ) (row : Row) → has_float (row_data table key row) ≡ false
 row_plain table key row = rw (
@@ -159,8 +181,9 @@ office_plain : (o : OfficeText) → has_float (office_data o) ≡ false
 unfolding office_data
 office_plain o =
     rw (
+      number_plain (format_number o.known),
       list_plain table_data table_plain o.schema,
-      list_plain named_rule_data rule_plain (map (named_rule o.schema) o.book),
+      list_plain (rule_data o.schema o.known) (λ r. rule_plain (known_of_rule o.known r.0) (named_rule o.schema r.1)) (enumerate_from 0 o.book),
       list_plain named_row_data (λ n. row_plain n.table n.key n.row) (named_rows o.schema o.live),
       list_plain (delta_data o.schema) (delta_plain o.schema) o.deltas,
     ) refl

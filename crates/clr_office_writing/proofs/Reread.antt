@@ -1,8 +1,8 @@
 -- What is written of an office text is read from its tokens as the same value.
-use Rattle.std.proofs.Common.{◌≡◌, ℕ, suc, ◌^◌, ◌≤◌, ℤ, pos, negsuc, Bool, true, List, [], ◌∷◌, map, Option, Some, None, refl, sym, ap, ap₂, ◌∙◌, arith}
+use Rattle.std.proofs.Common.{◌≡◌, ℕ, suc, ◌+◌, ◌^◌, ◌≤◌, ℤ, pos, negsuc, Bool, true, List, [], ◌∷◌, map, Option, Some, None, refl, sym, ap, ap₂, ◌∙◌, arith}
 use Rattle.std.proofs.Common.{append-nil}
-use Rattle.std.specs.Prelude.{max, option_map, option_and_then}
-use Rattle.std.specs.List.{AllByRecursion, list_all}
+use Rattle.std.specs.Prelude.{◌==◌, filter, max, option_map, option_and_then}
+use Rattle.std.specs.List.{AllByRecursion, enumerate_from, list_all}
 use Rattle.std.proofs.lemmas.Bool.{and_parts, ltb-true}
 use Rattle.json.specs.Json as json
 use Rattle.json.specs.Lex.{tokens}
@@ -25,8 +25,9 @@ use Rattle.clr_rows.specs.Numbers.{is_i64}
 use Rattle.clr_rows.specs.Parts.{vertices_of}
 use Rattle.clr_rows.specs.Ranges.{is_place_within}
 use Rattle.clr_rows.specs.Schemas.{FitsSchema, is_number, schema_fault}
+use Rattle.clr_rules.specs.declared.needs.Broken.{Broken}
 use Rattle.clr_rules.specs.declared.rules.Rule.{Rule}
-use Rattle.clr_rules.specs.Books.{FitsBook}
+use Rattle.clr_rules.proofs.Elements.{all_by, among_kept, each_of}
 use Rattle.clr_deltas.specs.Differences.{Differences}
 use Rattle.clr_deltas.specs.Deltas.{Delta}
 use Rattle.clr_deltas.specs.declared.stored_marks.StoredMark.{StoredMark}
@@ -38,14 +39,17 @@ use Rattle.clr_office_reading.specs.Cells.{has_paths}
 use Rattle.clr_office_reading.specs.Fits.{FitsDifferences, FitsDelta, FitsMark, FitsOffice}
 use Rattle.clr_office_reading.specs.Offices.{OfficeText}
 use Rattle.clr_office_writing.specs.CellData.{coordinates_of, named_cell_data, cells_with_names, named_row_data, named_rows, row_data, row_or_gone_data}
-use Rattle.clr_office_writing.specs.OfficeData.{office_data}
-use Rattle.clr_office_writing.specs.RuleData.{literal_data, named_rule, named_rule_data, side_data}
+use Rattle.clr_office_writing.specs.KnownData.{known_of_rule, need_data, need_numbers}
+use Rattle.clr_office_writing.specs.KnownFits.{FitsKnown, FitsRule}
+use Rattle.clr_office_writing.specs.OfficeData.{format_number, office_data}
+use Rattle.clr_office_writing.specs.RuleData.{literal_data, named_rule, named_rule_data, rule_data, side_data}
 use Rattle.clr_office_writing.specs.TableData.{column_data, table_data}
 use Rattle.clr_office_writing.specs.Tokens.{tokens_of}
 use Rattle.clr_office_writing.specs.Values.{number_data, value_data}
 use Rattle.clr_office_writing.specs.WorkspaceData.{delta_data, named_mark, named_mark_data}
 use Rattle.clr_office_writing.proofs.ListsRead.{all_mapped, all_pass}
 use Rattle.clr_office_writing.proofs.CellsRead.{IsReadable, IsReadableOrGone, cells_readable, rows_readable}
+use Rattle.clr_office_writing.proofs.KnownRead.{numbers_within}
 use Rattle.clr_office_writing.proofs.RulesRead.{IsRuleWithin, IsSideWithin, rules_within}
 use Rattle.clr_office_writing.proofs.Plainness.{plain}
 
@@ -88,18 +92,47 @@ side_reread s h = rw (list_reread (λ l. is_number l.1 ≡ true) literal_data li
 names_reread : (names : List (List ℕ)) → of_items (items_outline (items_of (map string names))) ≡ Some (items_of (map string names))
 names_reread names = any_reread string (λ name. refl) names
 
-rule_reread : (r : NamedRule) → IsRuleWithin r → IsReread (named_rule_data r)
-rule_reread (Unique subject columns) h = rw (names_reread columns, side_reread subject h) refl
-rule_reread (Partner subject columns server server_columns) h = rw (
-  names_reread columns,
-  side_reread server h.1,
-  names_reread server_columns,
-  side_reread
-      subject h.0,
-) refl
-rule_reread (EndNode subject t server) h = rw (side_reread server h.1, side_reread subject h.0) refl
-rule_reread (Crossing a b server) h = rw (side_reread a h.0, side_reread b h.1.0, side_reread server h.1.1) refl
-rule_reread (Near a b d) h = rw (side_reread a h.0, side_reread b h.1.0, number_reread d h.1.1) refl
+-- known needs, where a rule has some
+abbrev AreReread : Option (List Broken) → Type 0
+AreReread None = Unit {0}
+AreReread (Some needs) = of_items (items_outline (items_of (map need_data needs))) ≡ Some (items_of (map need_data needs))
+
+rule_reread : (known : Option (List Broken)) → AreReread known → (r : NamedRule) → IsRuleWithin r → IsReread (named_rule_data known r)
+rule_reread None again (Unique subject columns) h = rw (names_reread columns, side_reread subject h) refl
+rule_reread (Some needs) again (Unique subject columns) h = rw (names_reread columns, again, side_reread subject h) refl
+rule_reread None again (Partner subject columns server server_columns) h =
+    rw (names_reread columns, side_reread server h.1, names_reread server_columns, side_reread subject h.0) refl
+rule_reread (Some needs) again (Partner subject columns server server_columns) h =
+    rw (names_reread columns, again, side_reread server h.1, names_reread server_columns, side_reread subject h.0) refl
+rule_reread None again (EndNode subject t server) h = rw (side_reread server h.1, side_reread subject h.0) refl
+rule_reread (Some needs) again (EndNode subject t server) h = rw (again, side_reread server h.1, side_reread subject h.0) refl
+rule_reread None again (Crossing a b server) h = rw (side_reread a h.0, side_reread b h.1.0, side_reread server h.1.1) refl
+rule_reread (Some needs) again (Crossing a b server) h = rw (side_reread a h.0, side_reread b h.1.0, again, side_reread server h.1.1) refl
+rule_reread None again (Near a b d) h = rw (side_reread a h.0, side_reread b h.1.0, number_reread d h.1.1) refl
+rule_reread (Some needs) again (Near a b d) h = rw (side_reread a h.0, side_reread b h.1.0, number_reread d h.1.1, again) refl
+
+module _ (tables : List TableDef) (book : List Rule) (known : List Broken) (names : FitsKnown tables book known) where
+  need_reread : (b : Broken) → FitsRule tables book b → IsReread (need_data b)
+  need_reread b fits =
+      rw (list_reread (λ z. is_i64 z ≡ true) number_data number_reread (need_numbers b)
+      (numbers_within tables fits.of_rule b fits.first fits.kind fits.parts)) refl
+
+  needs_reread : (n : ℕ) → AreReread (known_of_rule known n)
+  needs_reread n = by known names.each
+    where
+      by : (bs : List Broken) → AllByRecursion (FitsRule tables book) bs → AreReread (known_of_rule bs n)
+      by [] fits = tt
+      by (b ∷ bs) fits =
+          let here = filter (λ c. c.rule == n) (b ∷ bs) in
+          list_reread (FitsRule tables book) need_data need_reread here (all_by (FitsRule tables book) here (λ c listed.
+          each_of (FitsRule tables book) c (b ∷ bs) fits (among_kept (λ c. c.rule == n) c (b ∷ bs) listed).0))
+
+  rules_reread : (n : ℕ) (rules : List Rule) → AllByRecursion IsRuleWithin (map (named_rule tables) rules)
+      → of_items (items_outline (items_of (map (rule_data tables known) (enumerate_from n rules)))) ≡ Some (items_of (map (rule_data tables known)
+      (enumerate_from n rules)))
+  rules_reread n [] within = refl
+  rules_reread n (r ∷ rules) within =
+      rw (rule_reread (known_of_rule known n) (needs_reread n) (named_rule tables r) within.0, rules_reread (n + 1) rules within.1) refl
 
 -- rows ---------------------------------------------------------------------------------------
 
@@ -154,13 +187,17 @@ module _ (tables : List TableDef) (schema : schema_fault tables ≡ None) where
         cells_reread l.current fits.current,
       ) refl
 
-office_reread : (o : OfficeText) → FitsOffice o → IsReread (office_data o)
+format_reread : (known : List Broken) → IsReread (number_data (format_number known))
+format_reread [] = number_reread (pos 3) refl
+format_reread (b ∷ bs) = number_reread (pos 4) refl
+
+office_reread : (o : OfficeText) → FitsOffice o → FitsKnown o.schema o.book o.known → IsReread (office_data o)
 unfolding office_data
-office_reread o fits =
+office_reread o fits names =
     rw (
-      number_reread (pos 3) refl,
+      format_reread o.known,
       rows_reread o.schema fits.schema o.live fits.live,
-      list_reread IsRuleWithin named_rule_data rule_reread (map (named_rule o.schema) o.book) (rules_within o.schema o.book fits.book),
+      rules_reread o.schema o.book o.known names 0 o.book (rules_within o.schema o.book fits.book),
       any_reread table_data table_reread o.schema,
       list_reread (FitsDelta o.schema) (delta_data o.schema) (delta_reread o.schema fits.schema) o.deltas fits.deltas,
     ) refl
@@ -187,8 +224,8 @@ mutual
 abbrev value_in : Option (json.Json × List Token) → Option Data
 value_in found = option_and_then of_json (option_and_then (λ p. json.if_last p.0 p.1) found)
 
-pub text_reread : (o : OfficeText) (bytes : List ℕ) → FitsOffice o → tokens bytes ≡ tokens_of (office_data o) → read bytes ≡ Some (office_data o)
-text_reread o bytes fits is =
+pub text_reread : (o : OfficeText) (bytes : List ℕ) → FitsOffice o → FitsKnown o.schema o.book o.known → tokens bytes ≡ tokens_of (office_data o) → read bytes ≡ Some (office_data o)
+text_reread o bytes fits names is =
     let d = office_data o in
     let low : tree.depth (outline d) ≤ max_depth = omega (arith, depth-outline d, (plain o).0) in
-    ap value_in (ap (json.value max_depth) (is ∙ sym (append-nil (tokens_of d))) ∙ value-json_tokens (outline d) max_depth [] low) ∙ office_reread o fits
+    ap value_in (ap (json.value max_depth) (is ∙ sym (append-nil (tokens_of d))) ∙ value-json_tokens (outline d) max_depth [] low) ∙ office_reread o fits names

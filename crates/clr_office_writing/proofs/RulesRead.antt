@@ -17,6 +17,7 @@ use Rattle.clr_rules.specs.declared.columns.Col.{Col}
 use Rattle.clr_rules.specs.declared.columns.Col.TheVariants as column
 use Rattle.clr_rules.specs.declared.books.faults.RuleFault.{RuleFault}
 use Rattle.clr_rules.specs.declared.books.faults.RuleFault.TheVariants.{NoTable, NoColumn, KindsDiffer, WrongShape, BadDistance, BadFilter}
+use Rattle.clr_rules.specs.declared.needs.Broken.{Broken}
 use Rattle.clr_rules.specs.declared.rules.Rule.{Rule}
 use Rattle.clr_rules.specs.declared.rules.Rule.TheVariants as rule
 use Rattle.clr_rules.specs.declared.rules.Tip.{Tip}
@@ -68,19 +69,21 @@ tip_read : (t : Tip) → tip_named (tip_word t) ≡ Ok t
 tip_read tip.First = refl
 tip_read tip.Second = refl
 
-named_rule_read : (r : NamedRule) → IsRuleWithin r → named_rule_of (named_rule_data r) ≡ Ok r
+-- whether a rule has its known needs beside its fields or not
+pub named_rule_read : (known : Option (List Broken)) (r : NamedRule) → IsRuleWithin r → named_rule_of (named_rule_data known r) ≡ Ok r
 unfolding named_rule_of unique_of partner_of end_node_of crossing_of near_of side_at list_of_words_at tip_of
-named_rule_read (Unique subject columns) h = rw (side_read subject h, names_read columns) refl
-named_rule_read (Partner subject columns server server_columns) h = rw (
-  side_read subject h.0,
-  side_read server h.1,
-  names_read columns,
-  names_read
-      server_columns,
-) refl
-named_rule_read (EndNode subject t server) h = rw (side_read subject h.0, side_read server h.1, tip_read t) refl
-named_rule_read (Crossing a b server) h = rw (side_read a h.0, side_read b h.1.0, side_read server h.1.1) refl
-named_rule_read (Near a b d) h = rw (side_read a h.0, side_read b h.1.0, number_read d h.1.1) refl
+named_rule_read None (Unique subject columns) h = rw (side_read subject h, names_read columns) refl
+named_rule_read (Some needs) (Unique subject columns) h = rw (side_read subject h, names_read columns) refl
+named_rule_read None (Partner subject columns server server_columns) h =
+    rw (side_read subject h.0, side_read server h.1, names_read columns, names_read server_columns) refl
+named_rule_read (Some needs) (Partner subject columns server server_columns) h =
+    rw (side_read subject h.0, side_read server h.1, names_read columns, names_read server_columns) refl
+named_rule_read None (EndNode subject t server) h = rw (side_read subject h.0, side_read server h.1, tip_read t) refl
+named_rule_read (Some needs) (EndNode subject t server) h = rw (side_read subject h.0, side_read server h.1, tip_read t) refl
+named_rule_read None (Crossing a b server) h = rw (side_read a h.0, side_read b h.1.0, side_read server h.1.1) refl
+named_rule_read (Some needs) (Crossing a b server) h = rw (side_read a h.0, side_read b h.1.0, side_read server h.1.1) refl
+named_rule_read None (Near a b d) h = rw (side_read a h.0, side_read b h.1.0, number_read d h.1.1) refl
+named_rule_read (Some needs) (Near a b d) h = rw (side_read a h.0, side_read b h.1.0, number_read d h.1.1) refl
 
 -- the tests that a rule of a book passes -----------------------------------------------------
 
@@ -215,8 +218,3 @@ module _ (tables : List TableDef) (schema : schema_fault tables ≡ None) where
 
   pub rules_found : (rules : List Rule) → FitsBook tables rules → each_in (rule_over tables) (map (named_rule tables) rules) ≡ Ok rules
   rules_found rules book = each_found (Passes tables) (rule_over tables) (named_rule tables) rule_found rules (all_pass_in tables rules book)
-
-pub rules_read : (tables : List TableDef) (rules : List Rule) → FitsBook tables rules
-    → each named_rule_of (items_of (map named_rule_data (map (named_rule tables) rules))) ≡ Ok (map (named_rule tables) rules)
-rules_read tables rules book =
-    each_read IsRuleWithin named_rule_of named_rule_data named_rule_read (map (named_rule tables) rules) (rules_within tables rules book)

@@ -1,4 +1,6 @@
 pub mod CellData
+pub mod KnownData
+pub mod KnownFits
 pub mod Laws
 pub mod Lists
 pub mod OfficeData

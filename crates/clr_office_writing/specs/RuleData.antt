@@ -1,5 +1,6 @@
 -- Rules with names of tables and columns, and then as JSON.
-use Rattle.std.specs.Prelude.{ℕ, List, [], codes, map, option_map, slice_get, unwrap_or}
+use Rattle.std.specs.Prelude.{ℕ, List, [], codes, map, Option, option_map, slice_get, unwrap_or}
+use Rattle.std.specs.List.{enumerate_from}
 use Rattle.std.specs.Option.{option_and_then}
 use Rattle.serde_json.specs.Data.{Data, string, array, object, no_items, item, member, no_members}
 use Rattle.clr_rows.specs.declared.limits.TheConstants.{KEY}
@@ -8,6 +9,7 @@ use Rattle.clr_rows.specs.declared.tables.TableDef.{TableDef}
 use Rattle.clr_rows.specs.Schemas.{name_of_table}
 use Rattle.clr_rules.specs.declared.columns.Col.{Col}
 use Rattle.clr_rules.specs.declared.columns.Col.TheVariants as column
+use Rattle.clr_rules.specs.declared.needs.Broken.{Broken}
 use Rattle.clr_rules.specs.declared.rules.Rule.{Rule}
 use Rattle.clr_rules.specs.declared.rules.Rule.TheVariants as rule
 use Rattle.clr_rules.specs.declared.rules.Tip.{Tip}
@@ -16,6 +18,7 @@ use Rattle.clr_rules.specs.declared.sides.Side.{Side}
 use Rattle.clr_rule_text.specs.declared.named_rules.NamedRule.{NamedRule}
 use Rattle.clr_rule_text.specs.declared.named_rules.NamedRule.TheVariants.{Unique, Partner, EndNode, Crossing, Near}
 use Rattle.clr_rule_text.specs.declared.named_sides.NamedSide.{NamedSide}
+use Rattle.clr_office_writing.specs.KnownData.{known_of_rule, with_known}
 use Rattle.clr_office_writing.specs.Values.{list_data, number_data, value_data}
 
 -- with names ---------------------------------------------------------------------------------
@@ -61,22 +64,28 @@ tip_word tip.Second = codes "SECOND"
 abbrev pub names_data : List (List ℕ) → Data
 names_data names = list_data string names
 
-abbrev pub named_rule_data : NamedRule → Data
-named_rule_data (Unique subject columns) =
+-- a rule, with its known needs where it has a list of these
+abbrev pub named_rule_data : Option (List Broken) → NamedRule → Data
+named_rule_data known (Unique subject columns) =
     object (member (codes "columns") (names_data columns) (member (codes "kind") (string (codes "UNIQUE"))
-    (member (codes "subject") (side_data subject) no_members)))
-named_rule_data (Partner subject columns server server_columns) =
-    object (member (codes "columns") (names_data columns) (member (codes "kind") (string (codes "PARTNER")) (member (codes "server") (side_data server)
-    (member (codes "server_columns") (names_data server_columns) (member (codes "subject") (side_data subject) no_members)))))
-named_rule_data (EndNode subject tip server) =
-    object (member (codes "kind") (string (codes "ENDNODE")) (member (codes "server") (side_data server) (member (codes "subject") (side_data subject)
-    (member (codes "tip") (string (tip_word tip)) no_members))))
-named_rule_data (Crossing a b server) =
+    (with_known known (member (codes "subject") (side_data subject) no_members))))
+named_rule_data known (Partner subject columns server server_columns) =
+    object (member (codes "columns") (names_data columns) (member (codes "kind") (string (codes "PARTNER"))
+    (with_known known (member (codes "server") (side_data server) (member (codes "server_columns") (names_data server_columns)
+    (member (codes "subject") (side_data subject) no_members))))))
+named_rule_data known (EndNode subject tip server) =
+    object (member (codes "kind") (string (codes "ENDNODE")) (with_known known (member (codes "server") (side_data server)
+    (member (codes "subject") (side_data subject) (member (codes "tip") (string (tip_word tip)) no_members)))))
+named_rule_data known (Crossing a b server) =
     object (member (codes "a") (side_data a) (member (codes "b") (side_data b) (member (codes "kind") (string (codes "CROSSING"))
-    (member (codes "server") (side_data server) no_members))))
-named_rule_data (Near a b d) =
+    (with_known known (member (codes "server") (side_data server) no_members)))))
+named_rule_data known (Near a b d) =
     object (member (codes "a") (side_data a) (member (codes "b") (side_data b) (member (codes "d") (number_data d)
-    (member (codes "kind") (string (codes "NEAR")) no_members))))
+    (member (codes "kind") (string (codes "NEAR")) (with_known known no_members)))))
 
-abbrev pub rules_data : List TableDef → List Rule → Data
-rules_data tables rules = list_data named_rule_data (map (named_rule tables) rules)
+-- a rule by its number
+abbrev pub rule_data : List TableDef → List Broken → ℕ × Rule → Data
+rule_data tables known r = named_rule_data (known_of_rule known r.0) (named_rule tables r.1)
+
+abbrev pub rules_data : List TableDef → List Rule → List Broken → Data
+rules_data tables rules known = list_data (rule_data tables known) (enumerate_from 0 rules)

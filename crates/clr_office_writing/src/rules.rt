@@ -1,19 +1,20 @@
 //! Rules of a book, written as JSON.
 
 ghost use Rattle.std.specs.Prelude.{◌≡◌, ◌++◌, map, IfOk, OnOk};
+ghost use Rattle.std.specs.Option.{option_map};
 ghost use Rattle.clr_rules.specs.declared.rules.Rule.TheVariants.{Unique, Partner, EndNode, Crossing, Near};
-ghost use Rattle.clr_office_writing.specs.RuleData.{literal_data, name_of_number, named_columns, named_literal, named_rule, named_rule_data};
+ghost use Rattle.clr_office_writing.specs.RuleData.{literal_data, name_of_number, named_columns, named_literal, named_rule, named_rule_data, rule_data};
 ghost use Rattle.clr_office_writing.specs.RuleData.{named_side, names_data, rules_data, side_data, tip_word};
 ghost use Rattle.clr_office_writing.specs.Tokens.{tokens_of};
 ghost use Rattle.clr_office_writing.specs.Values.{list_data};
 
 use crate::json_texts::JsonText;
+use crate::known_needs::{needs_of_rule, write_known};
 use crate::lists::write_each;
 use crate::names::{column_name, numbered_name, write_value};
 use clr_rows::{Schema, Value, Words};
-use clr_rule_text::named_rules::NamedRule;
-use clr_rules::{Col, Rule, RuleBook, Side, Tip};
-use std::alloc::AllocError;
+use clr_rules::{Broken, Col, Rule, RuleBook, Side, Tip};
+use std::alloc::{AllocError, Global};
 
 fn write_literal(
     text: &mut JsonText,
@@ -81,14 +82,17 @@ fn write_unique(
     schema: &Schema,
     subject: &Side,
     columns: &[Col],
+    known: Option<&[Broken]>,
 ) -> Result<(), AllocError>
-    ensures { OnOk result (text.new ≡ text.old ++ tokens_of (named_rule_data (named_rule schema.now (Unique subject.now columns.now)))) }
+    ensures { OnOk result (text.new ≡ text.old
+        ++ tokens_of (named_rule_data (option_map (λ v. v.now) known.entry) (named_rule schema.now (Unique subject.now columns.now)))) }
 {
     text.begin_object()?;
     text.key("columns")?;
     write_columns(text, schema, subject, columns)?;
     text.key("kind")?;
     text.string("UNIQUE")?;
+    write_known(text, known)?;
     text.key("subject")?;
     write_side(text, schema, subject)?;
     text.end_object()
@@ -101,15 +105,18 @@ fn write_partner(
     columns: &[Col],
     server: &Side,
     server_columns: &[Col],
+    known: Option<&[Broken]>,
 ) -> Result<(), AllocError>
     ensures { OnOk result (text.new ≡ text.old
-        ++ tokens_of (named_rule_data (named_rule schema.now (Partner subject.now columns.now server.now server_columns.now)))) }
+        ++ tokens_of (named_rule_data (option_map (λ v. v.now) known.entry)
+        (named_rule schema.now (Partner subject.now columns.now server.now server_columns.now)))) }
 {
     text.begin_object()?;
     text.key("columns")?;
     write_columns(text, schema, subject, columns)?;
     text.key("kind")?;
     text.string("PARTNER")?;
+    write_known(text, known)?;
     text.key("server")?;
     write_side(text, schema, server)?;
     text.key("server_columns")?;
@@ -125,12 +132,15 @@ fn write_end_node(
     subject: &Side,
     tip: Tip,
     server: &Side,
+    known: Option<&[Broken]>,
 ) -> Result<(), AllocError>
-    ensures { OnOk result (text.new ≡ text.old ++ tokens_of (named_rule_data (named_rule schema.now (EndNode subject.now tip server.now)))) }
+    ensures { OnOk result (text.new ≡ text.old
+        ++ tokens_of (named_rule_data (option_map (λ v. v.now) known.entry) (named_rule schema.now (EndNode subject.now tip server.now)))) }
 {
     text.begin_object()?;
     text.key("kind")?;
     text.string("ENDNODE")?;
+    write_known(text, known)?;
     text.key("server")?;
     write_side(text, schema, server)?;
     text.key("subject")?;
@@ -146,8 +156,10 @@ fn write_crossing(
     a: &Side,
     b: &Side,
     server: &Side,
+    known: Option<&[Broken]>,
 ) -> Result<(), AllocError>
-    ensures { OnOk result (text.new ≡ text.old ++ tokens_of (named_rule_data (named_rule schema.now (Crossing a.now b.now server.now)))) }
+    ensures { OnOk result (text.new ≡ text.old
+        ++ tokens_of (named_rule_data (option_map (λ v. v.now) known.entry) (named_rule schema.now (Crossing a.now b.now server.now)))) }
 {
     text.begin_object()?;
     text.key("a")?;
@@ -156,6 +168,7 @@ fn write_crossing(
     write_side(text, schema, b)?;
     text.key("kind")?;
     text.string("CROSSING")?;
+    write_known(text, known)?;
     text.key("server")?;
     write_side(text, schema, server)?;
     text.end_object()
@@ -167,8 +180,10 @@ fn write_near(
     a: &Side,
     b: &Side,
     d: i64,
+    known: Option<&[Broken]>,
 ) -> Result<(), AllocError>
-    ensures { OnOk result (text.new ≡ text.old ++ tokens_of (named_rule_data (named_rule schema.now (Near a.now b.now d)))) }
+    ensures { OnOk result (text.new ≡ text.old
+        ++ tokens_of (named_rule_data (option_map (λ v. v.now) known.entry) (named_rule schema.now (Near a.now b.now d)))) }
 {
     text.begin_object()?;
     text.key("a")?;
@@ -179,15 +194,22 @@ fn write_near(
     text.number(d)?;
     text.key("kind")?;
     text.string("NEAR")?;
+    write_known(text, known)?;
     text.end_object()
 }
 
-fn write_rule(text: &mut JsonText, schema: &Schema, rule: &Rule) -> Result<(), AllocError>
-    ensures { OnOk result (text.new ≡ text.old ++ tokens_of (named_rule_data (named_rule schema.now rule.now))) }
+fn write_rule(
+    text: &mut JsonText,
+    schema: &Schema,
+    rule: &Rule,
+    known: Option<&[Broken]>,
+) -> Result<(), AllocError>
+    ensures { OnOk result (text.new ≡ text.old
+        ++ tokens_of (named_rule_data (option_map (λ v. v.now) known.entry) (named_rule schema.now rule.now))) }
 {
     match rule {
         Rule::Unique { subject, columns } => {
-            write_unique(text, schema, subject, columns.as_slice())
+            write_unique(text, schema, subject, columns.as_slice(), known)
         }
         Rule::Partner {
             subject,
@@ -201,32 +223,66 @@ fn write_rule(text: &mut JsonText, schema: &Schema, rule: &Rule) -> Result<(), A
             columns.as_slice(),
             server,
             server_columns.as_slice(),
+            known,
         ),
         Rule::EndNode {
             subject,
             tip,
             server,
-        } => write_end_node(text, schema, subject, *tip, server),
-        Rule::Crossing { a, b, server } => write_crossing(text, schema, a, b, server),
-        Rule::Near { a, b, d } => write_near(text, schema, a, b, *d),
+        } => write_end_node(text, schema, subject, *tip, server, known),
+        Rule::Crossing { a, b, server } => write_crossing(text, schema, a, b, server, known),
+        Rule::Near { a, b, d } => write_near(text, schema, a, b, *d, known),
     }
 }
 
-fn write_rules(text: &mut JsonText, schema: &Schema, rules: &[Rule]) -> Result<(), AllocError>
-    ensures { OnOk result (text.new ≡ text.old ++ tokens_of (rules_data schema.now rules.now)) }
+/// Writes the rule of a number with its known needs, where any rule has some.
+fn write_numbered(
+    alloc: Global,
+    text: &mut JsonText,
+    schema: &Schema,
+    known: &[Broken],
+    number: u16,
+    rule: &Rule,
+) -> Result<(), AllocError>
+    ensures { OnOk result (text.new ≡ text.old ++ tokens_of (rule_data schema.now known.now (number, rule.now))) }
 {
-    write_each::<NamedRule, _, _>(text, rules, |text, rule| write_rule(text, schema, rule))
+    if known.is_empty() {
+        return write_rule(text, schema, rule, None);
+    }
+    let needs = needs_of_rule(alloc, known, number)?;
+    write_rule(text, schema, rule, Some(needs.as_slice()))
+}
+
+fn write_rules(
+    alloc: Global,
+    text: &mut JsonText,
+    schema: &Schema,
+    book: &RuleBook,
+    known: &[Broken],
+) -> Result<(), AllocError>
+    ensures { OnOk result (text.new ≡ text.old ++ tokens_of (rules_data schema.now book.now known.now)) }
+{
+    let _small = book.len();
+    let rules = book.rules();
+    text.begin_array()?;
+    for (number, rule) in rules.iter().enumerate() {
+        write_numbered(alloc, text, schema, known, number as u16, rule)?;
+    }
+    text.end_array()
 }
 
 /// Returns a text with the rules of a book written at its end, in their order, with the names that
-/// the schema has for tables and columns. If memory runs out, the text is dropped.
+/// the schema has for tables and columns. Where some needs are known to be broken, each rule has a list of its own,
+/// in their order. If memory runs out, the text is dropped.
 pub fn with_rules(
+    alloc: Global,
     mut text: JsonText,
     schema: &Schema,
     book: &RuleBook,
+    known: &[Broken],
 ) -> Result<JsonText, AllocError>
-    ensures { IfOk result (λ longer. longer ≡ text ++ tokens_of (rules_data schema.now book.now)) }
+    ensures { IfOk result (λ longer. longer ≡ text ++ tokens_of (rules_data schema.now book.now known.now)) }
 {
-    write_rules(&mut text, schema, book.rules())?;
+    write_rules(alloc, &mut text, schema, book, known)?;
     Ok(text)
 }

@@ -3,6 +3,7 @@
 //! - `cause_of`: exactly the rows that a cause names, each with the design by which it stands, the rows that served a need and go, and the few words
 //!   that say why; and the place, where it is a whole millimetre. Where rows meet at no whole millimetre, the place is in the boxes of both parts
 //!   at which they meet.
+//! - `cause_of_need`: the same of a need that nothing covers.
 //! - `leaders_of`: exactly the members that a cause names.
 //! - Each call is safe and ends, and no call fails while there is memory. How near such a place is to the point where rows meet is tested by pictures.
 #![tactic(auto)]
@@ -14,4 +15,4 @@ mod cause_rows;
 mod near_places;
 mod plan_causes;
 
-pub use plan_causes::{cause_of, leaders_of};
+pub use plan_causes::{cause_of, cause_of_need, leaders_of};

@@ -21,8 +21,8 @@ use clr_rows::{CellId, Schema};
 use clr_serving_rows::rule_of;
 use std::alloc::{AllocError, Global};
 
-/// Returns a need that nothing covers.
-fn cause_of_need(
+/// Returns what a need that nothing covers is about, as `cause_of` does, or none where the book has no rule of its number.
+pub fn cause_of_need(
     alloc: Global,
     office: &Office,
     members: &MemberChanges<'_>,

@@ -16,7 +16,8 @@ abbrev text_of : Option ℕ → Option MarkedPlace → List TableDef → List Ce
 text_of system marked tables causes root names sets rows = collection_text system (features_of tables causes root names sets rows marked)
 
 -- what is read of an office and of members makes the text of their plan's features
-pub same_features : (system : Option ℕ) (o : Office) (s : MergeSet) (p : Plan) (marked : Option MarkedPlace) (tables : List TableDef) (causes cells : List CellId)
+pub same_features : (system : Option ℕ) (o : Office) (s : MergeSet) (p : Plan) (marked : Option MarkedPlace) (tables : List TableDef)
+    (causes cells : List CellId)
     (root : Name) (names : List Name) (sets : List Changes) (rows : Content) → tables ≡ o.schema → causes ≡ cells → cells ≡ cause_cells p → root ≡ s.root
     → names ≡ s.members → sets ≡ change_sets o s → rows ≡ rows_of_root o root
     → collection_text system (features_of tables causes root names sets rows marked) ≡ collection_text system (plan_features o s p marked)

@@ -47,7 +47,7 @@ fn place_between_rows(rows: &[CauseRow]) -> Option<Place>
 
 /// Returns the place that a map marks, if it marks one: of points that are too near, the place
 /// between them.
-fn place_of_mark(mark: Mark, rows: &[CauseRow]) -> Option<Place>
+pub fn place_of_mark(mark: Mark, rows: &[CauseRow]) -> Option<Place>
     ensures { result ≡ place_of_mark mark rows.now }
 {
     match mark {

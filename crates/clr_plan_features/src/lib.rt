@@ -3,7 +3,7 @@
 //! - `plan_features`: exactly one feature for each row of the root that no design changes, one for each change of each design, with its
 //!   kind, its table, its key and its values, and one for the place of the cause, if the plan is blocked and the cause has a place.
 //! - Whether the cause names a row is told of each by its cell. Where the place is, and what is said of it, is what `cause_of` of
-//!   `clr_plan_causes` tells: the place of its ring, or the middle between points that are too near.
+//!   `clr_plan_causes` tells: the place of its ring, or the middle between points that are too near (`place_of_mark`).
 #![tactic(auto)]
 
 mod cause_cells;
@@ -13,4 +13,5 @@ mod plans;
 mod row_features;
 mod standing;
 
+pub use cause_features::place_of_mark;
 pub use plans::plan_features;

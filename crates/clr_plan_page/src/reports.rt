@@ -123,12 +123,11 @@ fn page_of(
     Ok(HtmlPage { title, sections })
 }
 
-/// Returns the report of a plan of members whose changes were read of this office, as the text of a page of hypertext in one file, which loads nothing. It begins with the
-/// word for what the plan says and with the map; then it tells why, with the rows of the cause and what was tried to help, or with what
-/// serves each need; what each design changes; and the smallest sets of designs that can't be merged together. It ends with the command of
-/// `clr_office` that prints the lines of the plan, in which DB stands for the office's file, and with these lines. Each text of the office is
-/// escaped. Lengths and places are in metres with three decimals. Of a design or a certificate the first 400 rows are told. The office is
-/// left as it was, unless memory runs out.
+/// Returns the report of a plan of members whose changes were read of this office, as the text of a page of hypertext in one file, which loads nothing. It
+/// begins with the word for what the plan says and with the map. Then it says why, with the rows of the cause and what was tried to help, or what serves
+/// each need; what each design changes; and the smallest sets of designs that can't be merged together. It ends with the command of `clr_office` that
+/// prints the lines of the plan, with DB for the office's file, and with these lines. Each text of the office is escaped. Lengths and places are in metres
+/// with three decimals. Of a design or a certificate the first 400 rows are shown. The office is left as it was, unless memory runs out.
 pub fn plan_report(
     alloc: Global,
     office: &mut Office,

@@ -49,8 +49,8 @@ pub within : (rows : List RecordFields) (at number : ℕ) (x : RecordFields) →
 within rows at number x is found = let lt = slice_get_within rows at x found in (omega (arith, is), omega (arith, is, lt))
 
 -- one of these records, with its number
-pub numbered_at : (rows : List Row) (number : ℕ) (x : Row) → 0 < number → number ≤ length rows → x ≡ get_or rows (number - 1) x → Some (fields_of x) ≡
-    record_numbered (map fields_of rows) number
+pub numbered_at : (rows : List Row) (number : ℕ) (x : Row) → 0 < number → number ≤ length rows → x ≡ get_or rows (number - 1) x →
+    Some (fields_of x) ≡ record_numbered (map fields_of rows) number
 numbered_at rows zero x some le is = absurd (omega (arith, some))
 numbered_at rows (suc at) x some le is =
     let place : suc at - 1 ≡ at = omega arith in

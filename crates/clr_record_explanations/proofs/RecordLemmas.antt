@@ -37,7 +37,8 @@ there rows at number fields is found none =
 -- certificates -------------------------------------------------------------------------------
 
 unnumbered_in : (tables : List TableDef) (rows : Option (List RecordFields)) (rooted : Bool) (number : ℕ) (e : CertFault) (said : List ℕ)
-    → None ≡ record_of rows number → IsFaultOfCertificate tables rows rooted number e → said ≡ [] → MatchOption rows (said ≡ []) (λ r. said ≡ record_place number)
+    → None ≡ record_of rows number → IsFaultOfCertificate tables rows rooted number e → said ≡ []
+    → MatchOption rows (said ≡ []) (λ r. said ≡ record_place number)
 unnumbered_in tables None rooted number e said is fault told = told
 unnumbered_in tables (Some rows) rooted number e said is (at, next, root, first) told =
     absurd (there rows at number first.there.0 next first.there.1 (sym is))

@@ -1,12 +1,13 @@
 //! The fault of a certificate, and the record that has it.
-ghost use Rattle.std.specs.Prelude.{◌≡◌, ◌≤◌, ◌<◌, ◌-◌, IfOk, IfSome, IsOk, MatchOption, Some, Err, length, map, option_map, take};
+ghost use Rattle.std.specs.Prelude.{◌≡◌, ◌≤◌, IfOk, IfSome, IsOk, MatchOption, Err, length, map, option_map, take};
 ghost use Rattle.std.specs.List.{list_any};
 ghost use Rattle.csv.specs.Records.{fields_of};
 ghost use Rattle.clr_cert.specs.Certificates.{certificate_in};
 ghost use Rattle.clr_records.specs.Records.{records_in};
 ghost use Rattle.clr_record_explanations.specs.CertificateFaults.{IsFaultOfCertificate, has_root, names_root};
-ghost use Rattle.clr_record_explanations.specs.FirstFaults.{record_numbered, record_in};
+ghost use Rattle.clr_record_explanations.specs.FirstFaults.{record_in};
 
+use crate::numbered_records::take_record;
 use clr_cert::{CertFault, read_certificate};
 use clr_records::{field, records_of};
 use clr_rows::Schema;
@@ -65,26 +66,6 @@ fn told_fault(
     }
 }
 
-/// Returns the fault of a text of records, with the record of its number.
-fn fault_among(records: Vec<StringRecord>, number: usize, fault: CertFault) -> CertificateFault
-    requires first { 0 < number }
-    requires last { number ≤ length records.items }
-    ensures fault { result.fault ≡ fault }
-    ensures number { result.record ≡ number }
-    ensures is_rooted { result.is_rooted ≡ has_root (take (number - 1) (map fields_of records.items)) }
-    ensures fields { option_map fields_of result.fields ≡ record_numbered (map fields_of records.items) number }
-{
-    let is_rooted = has_root_before(records.as_slice(), number - 1);
-    let mut records = records;
-    let fields = Some(records.swap_remove(number - 1));
-    CertificateFault {
-        fault,
-        record: number,
-        is_rooted,
-        fields,
-    }
-}
-
 /// Returns the fault of a text, with the record of its number.
 #[tactic(auto, using(crate::proofs::CertificateFirsts::number_within, crate::proofs::CertificateFirsts::found_as))]
 fn fault_in(
@@ -101,7 +82,12 @@ fn fault_in(
 {
     let _schema = schema;
     match records_of(alloc, bytes) {
-        Ok(Some(records)) => Ok(fault_among(records, number, fault)),
+        Ok(Some(records)) => Ok(CertificateFault {
+            fault,
+            record: number,
+            is_rooted: has_root_before(records.as_slice(), number - 1),
+            fields: Some(take_record(records, number)),
+        }),
         Ok(None) => Ok(CertificateFault {
             fault,
             record: number,

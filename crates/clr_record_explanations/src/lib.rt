@@ -20,6 +20,7 @@ mod edits;
 mod entries;
 mod fault_words;
 mod laws;
+mod numbered_records;
 mod numbers;
 mod record_slips;
 mod records;

@@ -1,11 +1,12 @@
 //! The fault of a script, and the record that has it.
-ghost use Rattle.std.specs.Prelude.{◌≡◌, ◌≤◌, ◌<◌, ◌-◌, IfOk, IfSome, IsOk, MatchOption, Some, Err, length, map, option_map};
+ghost use Rattle.std.specs.Prelude.{◌≡◌, IfOk, IfSome, IsOk, MatchOption, Err, option_map};
 ghost use Rattle.csv.specs.Records.{fields_of};
 ghost use Rattle.clr_records.specs.Records.{records_in};
 ghost use Rattle.clr_scripts.specs.Scripts.{script_in_text};
-ghost use Rattle.clr_record_explanations.specs.FirstFaults.{record_numbered, record_in};
-ghost use Rattle.clr_record_explanations.specs.ScriptFaults.{IsFaultOfScript, role_in};
+ghost use Rattle.clr_record_explanations.specs.FirstFaults.{record_in};
+ghost use Rattle.clr_record_explanations.specs.ScriptFaults.{IsFaultOfScript};
 
+use crate::numbered_records::take_record;
 use crate::roles::{Role, role_at};
 use clr_records::records_of;
 use clr_rows::Schema;
@@ -44,26 +45,6 @@ fn told_fault(
     Ok(Some(told))
 }
 
-/// Returns the fault of a text of records, with the record of its number.
-fn fault_among(records: Vec<StringRecord>, number: usize, fault: RecordFault) -> ScriptFault
-    requires first { 0 < number }
-    requires last { number ≤ length records.items }
-    ensures fault { result.fault ≡ fault }
-    ensures number { result.record ≡ number }
-    ensures role { result.role ≡ role_in (map fields_of records.items) (number - 1) }
-    ensures fields { option_map fields_of result.fields ≡ record_numbered (map fields_of records.items) number }
-{
-    let role = role_at(records.as_slice(), number - 1);
-    let mut records = records;
-    let fields = Some(records.swap_remove(number - 1));
-    ScriptFault {
-        fault,
-        record: number,
-        role,
-        fields,
-    }
-}
-
 /// Returns the fault of a text, with the record of its number.
 #[tactic(auto, using(crate::proofs::ScriptFirsts::number_within, crate::proofs::ScriptFirsts::found_as))]
 fn fault_in(
@@ -80,7 +61,12 @@ fn fault_in(
 {
     let _schema = schema;
     match records_of(alloc, bytes) {
-        Ok(Some(records)) => Ok(fault_among(records, number, fault)),
+        Ok(Some(records)) => Ok(ScriptFault {
+            fault,
+            record: number,
+            role: role_at(records.as_slice(), number - 1),
+            fields: Some(take_record(records, number)),
+        }),
         Ok(None) => Ok(ScriptFault {
             fault,
             record: number,

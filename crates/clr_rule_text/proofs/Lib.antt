@@ -1,2 +1,3 @@
 pub mod EachIn
 pub mod JsonSeen
+pub mod KnownLemmas

@@ -1,5 +1,5 @@
 -- The rules of an office text: first with names, as they are written, and then over the schema.
-use Rattle.std.specs.Prelude.{ℕ, ℤ, List, codes, Result, Ok, Err, if◌then◌else◌}
+use Rattle.std.specs.Prelude.{ℕ, ℤ, List, codes, map, Result, Ok, Err, if◌then◌else◌}
 use Rattle.std.specs.Str.{bytes_eq}
 use Rattle.serde_json.specs.Data.{Data, Items, no_items, item}
 use Rattle.serde_json.specs.Find.{get}
@@ -9,6 +9,7 @@ use Rattle.clr_rows.specs.declared.tables.TableDef.{TableDef}
 use Rattle.clr_rows.specs.Schemas.{column_named, table_named}
 use Rattle.clr_rules.specs.declared.columns.Col.{Col}
 use Rattle.clr_rules.specs.declared.columns.Col.TheVariants as column
+use Rattle.clr_rules.specs.declared.needs.Broken.{Broken}
 use Rattle.clr_rules.specs.declared.rules.Rule.{Rule}
 use Rattle.clr_rules.specs.declared.rules.Rule.TheVariants as rule
 use Rattle.clr_rules.specs.declared.rules.Tip.{Tip}
@@ -17,11 +18,14 @@ use Rattle.clr_rules.specs.declared.sides.Side.{Side}
 use Rattle.clr_rules.specs.Books.{book_fault}
 use Rattle.clr_rule_text.specs.declared.faults.TextFault.{TextFault}
 use Rattle.clr_rule_text.specs.declared.faults.TextFault.TheVariants.{BadField, BadRule}
+use Rattle.clr_rule_text.specs.declared.formats.Format.{Format}
 use Rattle.clr_rule_text.specs.declared.named_rules.NamedRule.{NamedRule}
 use Rattle.clr_rule_text.specs.declared.named_rules.NamedRule.TheVariants.{Unique, Partner, EndNode, Crossing, Near}
 use Rattle.clr_rule_text.specs.declared.named_sides.NamedSide.{NamedSide}
+use Rattle.clr_rule_text.specs.declared.stated_rules.StatedRule.{StatedRule}
 use Rattle.clr_readings.specs.Readings.{◌>>=◌, or_fault}
 use Rattle.clr_rule_text.specs.Fields.{each, each_in, field_of, list_at, array_of, list_or_none, none_or_fault, number_at, words_at, words_of}
+use Rattle.clr_rule_text.specs.Known.{known_needs, need_names_of}
 use Rattle.clr_rule_text.specs.Values.{value_of}
 
 -- with names ---------------------------------------------------------------------------------
@@ -108,8 +112,15 @@ rule_of_kind word d =
 unfoldable pub named_rule_of : Data → Result NamedRule TextFault
 named_rule_of d = words_at (codes "kind") d >>= λ word. rule_of_kind word d
 
-unfoldable pub named_rules_of : Data → Result (List NamedRule) TextFault
-named_rules_of d = list_or_none (get (codes "rules") d) >>= each named_rule_of
+-- a rule and the names of its needs that are known to be broken
+unfoldable pub stated_rule_of : Format → Data → Result StatedRule TextFault
+stated_rule_of format d = do
+  rule ← named_rule_of d
+  known ← need_names_of format rule d
+  Ok (record { rule = rule; known = known })
+
+unfoldable pub stated_rules_of : Format → Data → Result (List StatedRule) TextFault
+stated_rules_of format d = list_or_none (get (codes "rules") d) >>= each (stated_rule_of format)
 
 -- over the schema ----------------------------------------------------------------------------
 
@@ -176,10 +187,11 @@ rule_over tables (EndNode subject tip server) = end_node_over tables subject tip
 rule_over tables (Crossing a b server) = crossing_over tables a b server
 rule_over tables (Near a b d) = near_over tables a b d
 
--- each rule is read for BadField before any is looked up in the schema
-unfoldable pub rules_of : List TableDef → Data → Result (List Rule) TextFault
-rules_of tables d = do
-  named ← named_rules_of d
-  rules ← each_in (rule_over tables) named
+-- rules, and their needs that are known to be broken; each is read for BadField before any is looked up in the schema
+unfoldable pub rules_of : Format → List TableDef → Data → Result (List Rule × List Broken) TextFault
+rules_of format tables d = do
+  stated ← stated_rules_of format d
+  rules ← each_in (rule_over tables) (map (λ s. s.rule) stated)
   _ ← none_or_fault BadRule (book_fault tables rules)
-  Ok rules
+  known ← known_needs tables 0 rules (map (λ s. s.known) stated)
+  Ok (rules, known)

@@ -3,13 +3,12 @@
 ghost use Rattle.std.specs.Prelude.{◌≡◌};
 ghost use Rattle.clr_readings.specs.Readings.{Gives};
 ghost use Rattle.clr_rule_text.specs.Fields.{text_lacks_memory};
-ghost use Rattle.clr_rule_text.specs.Rules.{crossing_of, end_node_of, named_rule_of, named_rules_of, near_of, partner_of};
+ghost use Rattle.clr_rule_text.specs.Rules.{crossing_of, end_node_of, named_rule_of, near_of, partner_of};
 ghost use Rattle.clr_rule_text.specs.Rules.{rule_of_kind as meant_by, tip_of, unique_of};
 
 use crate::faults::TextFault;
-use crate::fields::{number_in, optional_list, text_in};
+use crate::fields::{number_in, text_in};
 use crate::json_values::JsonValue;
-use crate::lists::read_items;
 use crate::named_sides::{ColumnNames, NamedSide, names_in, side_in};
 use clr_rules::Tip;
 use std::alloc::Global;
@@ -134,15 +133,4 @@ pub fn named_rule<J: JsonValue>(alloc: Global, json: &J) -> Result<NamedRule, Te
     ensures { Gives text_lacks_memory (λ r. r) result (named_rule_of (J.stands_for json.now)) }
 {
     rule_of_kind(alloc, text_in(json, "kind")?, json)
-}
-
-/// Returns the rules of an office text with their names; a missing list is empty. Fails with
-/// `BadField` where a key is missing, or a value is none of those that may stand there.
-#[tactic(auto, unfolding(crate::specs::Rules::named_rules_of))]
-pub fn named_rules<J: JsonValue>(alloc: Global, json: &J) -> Result<Vec<NamedRule>, TextFault>
-    ensures { Gives text_lacks_memory (λ v. v.items) result (named_rules_of (J.stands_for json.now)) }
-{
-    read_items(alloc, optional_list(json, "rules")?, |item| {
-        named_rule(alloc, item)
-    })
 }

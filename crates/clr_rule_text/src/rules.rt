@@ -8,10 +8,13 @@ ghost use Rattle.clr_rule_text.specs.Rules.{column_number as number_meant, colum
 ghost use Rattle.clr_rule_text.specs.Rules.{literal_over, near_over, partner_over, rule_over, rules_of, side_over, unique_over};
 
 use crate::faults::TextFault;
+use crate::formats::Format;
 use crate::json_values::JsonValue;
+use crate::known_needs::{KnownNeeds, known_needs};
 use crate::lists::{make_each, read_each};
-use crate::named_rules::{NamedRule, named_rules};
+use crate::named_rules::NamedRule;
 use crate::named_sides::{ColumnNames, NamedSide};
+use crate::stated_rules::{parted, stated_rules};
 use clr_rows::{KEY, Schema, Value, Words};
 use clr_rules::{Col, ColumnList, Filter, Rule, RuleBook, Side, Tip};
 use std::alloc::Global;
@@ -190,22 +193,36 @@ pub fn each_rule(
     make_each(alloc, named, |item| rule(alloc, schema, item))
 }
 
-/// Returns the book of the rules of an office text; a missing list is empty. Fails with `BadField`
+/// The rules of an office text: a book, and the needs of its rules that are known to be broken, rule by rule in the
+/// order in which they are written.
+#[derive(Drop)]
+pub struct BookText {
+    pub book: RuleBook,
+    pub known: KnownNeeds,
+}
+
+/// Returns the book of the rules of an office text and their known needs; a missing list is empty. Fails with `BadField`
 /// where a key is missing in one of the rules, or a value is none of those that may stand there,
 /// and then with `BadRule` where the schema hasn't a table or a column of a name, or the rules make
-/// no book over the schema.
+/// no book over the schema, or a known need is one that its rule can't have.
 #[tactic(auto, unfolding(crate::specs::Rules::rules_of))]
 pub fn read_rules<J: JsonValue>(
     alloc: Global,
     json: &J,
+    format: Format,
     schema: &Schema,
-) -> Result<RuleBook, TextFault>
-    ensures value { Gives text_lacks_memory (λ b. b) result (rules_of schema.now (J.stands_for json.now)) }
-    ensures fits { IfOk result (λ b. FitsBook schema.now b) }
+) -> Result<BookText, TextFault>
+    ensures value { Gives text_lacks_memory (λ b. (b.book, b.known)) result (rules_of format schema.now (J.stands_for json.now)) }
+    ensures fits { IfOk result (λ b. FitsBook schema.now b.book) }
 {
-    let rules = each_rule(alloc, schema, named_rules(alloc, json)?)?;
-    match RuleBook::new(schema, rules) {
-        Ok(book) => Ok(book),
-        Err(_) => Err(TextFault::BadRule),
-    }
+    let parts = parted(alloc, stated_rules(alloc, json, format)?)?;
+    let rules = each_rule(alloc, schema, parts.0)?;
+    let Ok(book) = RuleBook::new(schema, rules) else {
+        return Err(TextFault::BadRule);
+    };
+    let known = known_needs(alloc, schema, &book, parts.1.as_slice())?;
+    Ok(BookText {
+        book,
+        known: KnownNeeds::new(known),
+    })
 }

@@ -79,10 +79,11 @@ fn children(alloc: Global, changes: &[&str]) -> Result<String, AllocError> {
     Ok(list)
 }
 
-/// Returns the office of a text, in which every rule holds.
+/// Returns the office of a text, in which each broken need is known.
 pub(crate) fn office_of(alloc: Global, text: &str) -> Result<Office, Fail> {
-    let admitted = read_office(alloc, text.as_bytes())?.admit();
-    Ok(admitted.ok().ok_or("a rule doesn't hold")?)
+    let read = read_office(alloc, text.as_bytes())?;
+    let admitted = read.draft.admit(read.known.as_slice());
+    Ok(admitted.ok().ok_or("a need is broken that isn't known")?)
 }
 
 /// Returns the office of tables, rules and rows of LIVE, with what members change.

@@ -6,7 +6,8 @@ ghost use Rattle.std.specs.Option.{option_copied};
 ghost use Rattle.clr_rows.specs.Held.{held_of};
 ghost use Rattle.clr_rules.specs.Books.{FitsCell};
 ghost use Rattle.clr_steps.specs.Quiet.{MergeSet};
-ghost use Rattle.clr_serving_rows.specs.Servers.{changes_by, changes_of_member, fits, held_in, is_served, server_changes, serves_need, subjects_in, subjects_of};
+ghost use Rattle.clr_serving_rows.specs.Servers.{changes_by, changes_of_member, fits, held_in, is_served, server_changes, serves_need, subjects_in};
+ghost use Rattle.clr_serving_rows.specs.Servers.{subjects_of};
 ghost use Rattle.clr_merge_sets.specs.MemberChanges.{AreMembers};
 
 use clr_change::ChangeSet;

@@ -9,7 +9,7 @@ use Rattle.clr_scripts.specs.declared.faults.RecordFault.{RecordFault}
 use Rattle.clr_steps.specs.Offices.{Office}
 use Rattle.clr_engine.specs.Drafts.{unheld_in}
 use Rattle.clr_office_texts.specs.Drafts.{draft_in}
-use Rattle.clr_office_reading.specs.Offices.{office_in}
+use Rattle.clr_office_reading.specs.Offices.{known_in, office_in}
 use Rattle.clr_rule_text.specs.declared.faults.TextFault.{TextFault}
 use Rattle.clr_text_positions.specs.FaultLines.{AreFaultLines}
 use Rattle.clr_text_positions.specs.declared.remarks.Remark.{Remark}
@@ -56,18 +56,18 @@ AreCertificateLines tables text lines =
 
 -- what is found ------------------------------------------------------------------------------
 
--- a rule doesn't hold in the office of a text
+-- a need is broken in the office of a text that the text doesn't name as known
 pub record TellsUnheldRule (text lines : List ℕ) : Type 0 where
   pub office : Office
   pub position : ℕ
   pub need : Broken
   pub read : draft_in text ≡ Ok office
-  pub unheld : unheld_in office ≡ Some (position, need)
+  pub unheld : unheld_in office (known_in text) ≡ Some (position, need)
   pub told : lines ≡ unheld_lines office position need
 
--- an office in which the rules hold, one in which a rule doesn't, or no office
+-- an office whose broken needs are known, one with a need that isn't, or no office
 abbrev pub IsOfficeWhy : List ℕ → Why → Type 0
-IsOfficeWhy text NoFault = (o : Office) × (draft_in text ≡ Ok o) × (unheld_in o ≡ None)
+IsOfficeWhy text NoFault = (o : Office) × (draft_in text ≡ Ok o) × (unheld_in o (known_in text) ≡ None)
 IsOfficeWhy text (Unheld lines) = TellsUnheldRule text lines.items
 IsOfficeWhy text (Faulty lines) = AreOfficeLines text lines.items
 

@@ -1,14 +1,14 @@
 //! Why an office text can't be used.
 ghost use Rattle.std.specs.Prelude.{◌≡◌, IfErr, IfNone, IfOk, IfSome, IsOk, Ok};
 ghost use Rattle.clr_office_texts.specs.Drafts.{draft_in};
-ghost use Rattle.clr_office_reading.specs.Offices.{office_in};
+ghost use Rattle.clr_office_reading.specs.Offices.{known_in, office_in};
 ghost use Rattle.clr_text_diagnosis.specs.Whys.{AreOfficeLines, IsOfficeWhy, IsRemarkedOfficeFault};
 
 use crate::needs::unheld_lines;
 use crate::whys::Why;
-use clr_engine::{AdmitFault, Draft};
+use clr_engine::{Broken, Draft};
 use clr_explanations::{OfficeFault, explain_office, explain_standing, office_fault_words};
-use clr_office_texts::{TextFault, read_office};
+use clr_office_texts::{DraftText, TextFault, read_office};
 use clr_text_positions::fault_lines;
 use std::alloc::{AllocError, Global};
 
@@ -28,17 +28,18 @@ fn standing_fault(alloc: Global, text: &[u8]) -> Result<Option<OfficeFault>, All
     }
 }
 
-/// Returns the draft of a text that can be read, or the fault of its workspaces and what is said of it.
+/// Returns the draft of a text that can be read, with its known needs, or the fault of its workspaces and what is said of it.
 fn draft_or_standing_fault(
     alloc: Global,
     text: &[u8],
-) -> Result<Result<Draft, OfficeFault>, AllocError>
+) -> Result<Result<DraftText, OfficeFault>, AllocError>
     requires { IsOk (office_in text.now) }
-    ensures draft { IfOk result (λ found. IfOk found (λ draft. draft_in text.now ≡ Ok draft)) }
+    ensures draft { IfOk result (λ found. IfOk found (λ read. draft_in text.now ≡ Ok read.draft)) }
+    ensures known { IfOk result (λ found. IfOk found (λ read. read.known ≡ known_in text.now)) }
     ensures told { IfOk result (λ found. IfErr found (λ f. IsRemarkedOfficeFault text.now f.fault f.remark)) }
 {
-    if let Ok(draft) = read_office(alloc, text) {
-        return Ok(Ok(draft));
+    if let Ok(read) = read_office(alloc, text) {
+        return Ok(Ok(read));
     }
     match standing_fault(alloc, text)? {
         Some(found) => Ok(Err(found)),
@@ -46,12 +47,13 @@ fn draft_or_standing_fault(
     }
 }
 
-/// Returns the draft of an office text, or its fault and what is said of it.
+/// Returns the draft of an office text with its known needs, or its fault and what is said of it.
 pub(crate) fn draft_or_fault(
     alloc: Global,
     text: &[u8],
-) -> Result<Result<Draft, OfficeFault>, AllocError>
-    ensures draft { IfOk result (λ found. IfOk found (λ draft. draft_in text.now ≡ Ok draft)) }
+) -> Result<Result<DraftText, OfficeFault>, AllocError>
+    ensures draft { IfOk result (λ found. IfOk found (λ read. draft_in text.now ≡ Ok read.draft)) }
+    ensures known { IfOk result (λ found. IfOk found (λ read. read.known ≡ known_in text.now)) }
     ensures told { IfOk result (λ found. IfErr found (λ f. IsRemarkedOfficeFault text.now f.fault f.remark)) }
 {
     match explain_office(alloc, text)? {
@@ -74,31 +76,29 @@ pub(crate) fn office_lines(
     Ok(lines)
 }
 
-/// Returns what is found in a draft.
-fn why_draft(alloc: Global, draft: Draft, text: &[u8]) -> Result<Why, AllocError>
-    requires { draft_in text.now ≡ Ok draft }
+/// Returns what is found in a draft whose text names some needs as known.
+fn why_draft(alloc: Global, draft: Draft, known: &[Broken], text: &[u8]) -> Result<Why, AllocError>
+    requires read { draft_in text.now ≡ Ok draft }
+    requires names { known.now ≡ known_in text.now }
     ensures { IfOk result (IsOfficeWhy text.now) }
 {
     let _text = text;
-    match draft.admit() {
-        Ok(_) => Ok(Why::NoFault),
-        Err((draft, fault)) => match fault {
-            AdmitFault::Broken { position, need } => {
-                let lines = unheld_lines(alloc, &draft, position, &need)?;
-                Ok(Why::Unheld(lines))
-            }
-            AdmitFault::OutOfMemory => Err(AllocError),
-        },
+    match draft.unheld(known)? {
+        Some((position, need)) => {
+            let lines = unheld_lines(alloc, &draft, position, &need)?;
+            Ok(Why::Unheld(lines))
+        }
+        None => Ok(Why::NoFault),
     }
 }
 
-/// Returns what is found in an office text: that it is an office in which the rules hold, the lines of a rule that doesn't hold, or
-/// those of its fault.
+/// Returns what is found in an office text: that it is an office whose broken needs are known, the lines of a need that is broken
+/// and isn't known, or those of its fault.
 pub fn why_office(alloc: Global, text: &[u8]) -> Result<Why, AllocError>
     ensures why { IfOk result (IsOfficeWhy text.now) }
 {
     match draft_or_fault(alloc, text)? {
-        Ok(draft) => why_draft(alloc, draft, text),
+        Ok(read) => why_draft(alloc, read.draft, read.known.as_slice(), text),
         Err(found) => {
             let lines = office_lines(alloc, text, &found)?;
             Ok(Why::Faulty(lines))

@@ -102,7 +102,7 @@ pub fn why_script(alloc: Global, office: &[u8], script: &[u8]) -> Result<Why, Al
     ensures why { IfOk result (IsScriptWhy office.now script.now) }
 {
     match draft_or_fault(alloc, office)? {
-        Ok(draft) => why_script_over(alloc, &draft, office, script),
+        Ok(read) => why_script_over(alloc, &read.draft, office, script),
         Err(found) => {
             let lines = office_lines(alloc, office, &found)?;
             Ok(Why::Faulty(lines))
@@ -116,7 +116,7 @@ pub fn why_certificate(alloc: Global, office: &[u8], certificate: &[u8]) -> Resu
     ensures why { IfOk result (IsCertificateWhy office.now certificate.now) }
 {
     match draft_or_fault(alloc, office)? {
-        Ok(draft) => why_certificate_over(alloc, &draft, office, certificate),
+        Ok(read) => why_certificate_over(alloc, &read.draft, office, certificate),
         Err(found) => {
             let lines = office_lines(alloc, office, &found)?;
             Ok(Why::Faulty(lines))

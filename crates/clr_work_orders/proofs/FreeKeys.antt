@@ -1,5 +1,6 @@
 -- A key above all keys of a table is free.
-use Rattle.std.proofs.Common.{◌≡◌, ◌==◌, ◌∙◌, ℕ, zero, suc, ℤ, pos, ◌<◌, ◌≤◌, Bool, true, false, cond, max, List, [], ◌∷◌, None, Some, ap, arith, length, map, refl, subst, unsigned_abs}
+use Rattle.std.proofs.Common.{◌≡◌, ◌==◌, ◌∙◌, ℕ, zero, suc, ℤ, pos, ◌<◌, ◌≤◌, Bool, true, false, cond, max, List, [], ◌∷◌, None, Some, ap, arith, length, map}
+use Rattle.std.proofs.Common.{refl, subst, unsigned_abs}
 use Rattle.std.specs.Prelude.{slice_get}
 use Rattle.std.specs.FinMap as finite
 use Rattle.std.specs.FinMap.{find, get-entries}

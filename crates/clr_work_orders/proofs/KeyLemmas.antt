@@ -1,5 +1,6 @@
 -- The keys of tips.
-use Rattle.std.proofs.Common.{◌≡◌, ◌∙◌, ℕ, ℤ, pos, Bor, map, ◌+◌, ◌-◌, ◌*◌, ◌/◌, ◌%◌, ◌<◌, ◌≤◌, Bool, true, false, cond, List, [], ◌∷◌, ◌++◌, Option, None, Some, ap, arith, get_or, length, nat_le, nat_lt, refl, subst, suc, sym, take, to_z, unsigned_abs, w64, zero}
+use Rattle.std.proofs.Common.{◌≡◌, ◌∙◌, ℕ, ℤ, pos, Bor, map, ◌+◌, ◌-◌, ◌*◌, ◌/◌, ◌%◌, ◌<◌, ◌≤◌, Bool, true, false, cond, List, [], ◌∷◌, ◌++◌, Option, None}
+use Rattle.std.proofs.Common.{Some, ap, arith, get_or, length, nat_le, nat_lt, refl, subst, suc, sym, take, to_z, unsigned_abs, w64, zero}
 use Rattle.std.specs.Prelude.{position, slice_get}
 use Rattle.std.specs.Option.{option_and_then, option_map}
 use Rattle.std.specs.Str.{bytes_eq}
@@ -47,7 +48,8 @@ own names greatest name key e = by (position (λ other. bytes_eq other name) nam
     by (Some at) found e = record { at = at; found = found; is = within (own_key (length names) at greatest) key e }
 
 -- the name at the position of a name is the name itself
-pub named : (names : List Name) (name d : Name) (at : ℕ) → position (λ other. bytes_eq other name) names ≡ Some at → (at < length names) × (get_or names at d ≡ name)
+pub named : (names : List Name) (name d : Name) (at : ℕ) → position (λ other. bytes_eq other name) names ≡ Some at → (at < length names)
+    × (get_or names at d ≡ name)
 named names name d at found =
     let is = position-Some (λ other. bytes_eq other name) names at d found in
     (is.0, (bytes_decides (get_or names at d) name).0 is.1)

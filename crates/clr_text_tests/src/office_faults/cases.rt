@@ -1,12 +1,12 @@
 //! An office text, and edits of it that put a fault at a known place.
 
 /// An office with rules and LIVE's rows, and with a workspace North that has a base, rows and a savepoint.
-pub(crate) const OFFICE: &str = r#"{"format":3,"tables":[
+pub(crate) const OFFICE: &str = r#"{"format":4,"tables":[
 {"name":"valve","columns":[["kind","TEXT"]],"shape":"POINT"},
 {"name":"main","columns":[["code","TEXT"],["n","INT"]],"shape":"SEGMENT"}],
 "rules":[
-{"kind":"UNIQUE","subject":{"table":"main"},"columns":["code"]},
-{"kind":"ENDNODE","subject":{"table":"main"},"tip":"FIRST","server":{"table":"valve"}}],
+{"kind":"UNIQUE","subject":{"table":"main"},"columns":["code"],"known":[[2,5]]},
+{"kind":"ENDNODE","subject":{"table":"main"},"tip":"FIRST","server":{"table":"valve"},"known":[[2],[5]]}],
 "live":[
 {"t":"valve","k":1,"v":["gate"],"s":[0,0]},
 {"t":"main","k":2,"v":["A",7],"s":[0,0,50,0]},
@@ -19,9 +19,10 @@ pub(crate) const OFFICE: &str = r#"{"format":3,"tables":[
 {"name":"Inner","parent":"North"}]}"#;
 
 /// What stands in the text, what stands there after the edit, and the fault with the item that it is at.
-pub(crate) const EDITS: &str = r#""format":3, ~ "format":3,  => fits
-"format":3, ~ "format":3,, => NotJson Whole
-"format":3 ~ "format":4 => BadField Whole
+pub(crate) const EDITS: &str = r#""format":4, ~ "format":4,  => fits
+"format":4, ~ "format":4,, => NotJson Whole
+"format":4 ~ "format":3 => fits
+"format":4 ~ "format":5 => BadField Whole
 "tables":[ ~ "tables":0,"x":[ => BadField Whole
 "rules":[ ~ "rules":0,"x":[ => BadField Whole
 "live":[ ~ "live":0,"x":[ => BadField Whole
@@ -35,6 +36,10 @@ pub(crate) const EDITS: &str = r#""format":3, ~ "format":3,  => fits
 "tip":"FIRST" ~ "tip":"LAST" => BadField Rule(1)
 "server":{"table":"valve"} ~ "server":{"table":"wave"} => BadRule Rule(1)
 "server":{"table":"valve"} ~ "server":{"table":"main"} => BadRule Rule(1)
+"known":[[2,5]] ~ "known":[[2]] => BadField Rule(0)
+"known":[[2,5]] ~ "known":[[5,2]] => BadRule Rule(0)
+"known":[[2],[5]] ~ "known":[2] => BadField Rule(1)
+"known":[[2],[5]] ~ "known":[[2],[0]] => BadRule Rule(1)
 "s":[0,0]} ~ "s":[0,0.5]} => BadField Live(0)
 "k":2 ~ "k":"2" => BadField Live(1)
 "v":["A",7] ~ "v":["A","7"] => BadRow Live(1)

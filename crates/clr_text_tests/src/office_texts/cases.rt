@@ -44,7 +44,8 @@ whole {"format":1,"tables":[],"live":[],"format":0} => BadField
 whole {"format":0,"tables":[],"live":[],"format":1} => fits
 whole {"format":2,"tables":[],"live":[]} => fits
 whole {"format":3,"tables":[],"live":[]} => fits
-whole {"format":4,"tables":[],"live":[]} => BadField
+whole {"format":4,"tables":[],"live":[]} => fits
+whole {"format":5,"tables":[],"live":[]} => BadField
 whole {"format":3,"tables":[{"name":"a","columns":[],"shape":"PATH"}],"live":[]} => fits
 whole {"format":1,"tables":[{"name":"a","columns":[],"shape":"PATH"}],"live":[]} => BadField
 whole {"format":1,"live":[]} => BadField
@@ -86,6 +87,7 @@ rules {"kind":"PARTNER","subject":{"table":"node"},"columns":["size"],"server":{
 rules {"kind":"ENDNODE","subject":{"table":"main"},"tip":"LAST","server":{"table":"node"}} => BadField
 rules {"kind":"NEAR","a":{"table":"node"},"b":{"table":"node"},"d":1.0} => BadField
 rules {"kind":"UNIQUE","subject":{"table":"pipe"},"columns":["code"]},1 => BadField
+rules {"kind":"UNIQUE","subject":{"table":"main"},"columns":["code"],"known":1} => fits
 many 64 => fits
 many 65 => BadRule"#;
 
@@ -137,6 +139,8 @@ path pipe 6 => BadField"#;
 pub(crate) const FLAGS: &str = "flag 1 null => 1 false
 flag 2 null => 1 false
 flag 3 null => BadField
+flag 4 null => BadField
 flag 1 true => 1 false
 flag 2 true => 1 false
-flag 3 true => 1 true";
+flag 3 true => 1 true
+flag 4 true => 1 true";

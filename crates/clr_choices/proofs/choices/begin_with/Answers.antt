@@ -11,6 +11,7 @@ returns-in-Cleared c =
     let o = c.args.office.now in
     let root = c.args.root.now in
     let is = c.none_taken.ensures in
-    let planned = subst (λ (names : List Name). IsPlanOf o (merge_set root names) c.in_ok-certificate.field-0) c.as_slice.ensures.value c.in_ok-certificate.ensures in
+    let planned = subst (λ (names : List Name). IsPlanOf o (merge_set root names) c.in_ok-certificate.field-0) c.as_slice.ensures.value
+    c.in_ok-certificate.ensures in
     begun_with o root c.none_taken.result c.args.names.items c.in-Cleared.certificate is.cleared is.certificate is.count is.left is.is_any_left
     (subst (λ (p : Plan). IsPlanOf o (merge_set root c.args.names.items) p) c.in-Cleared.is planned)

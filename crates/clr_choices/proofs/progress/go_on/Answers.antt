@@ -20,7 +20,9 @@ returns c =
     let name = c.args.name.now in
     let now = c.follow.new.self in
     let same = subst (λ (b : Bool). IsFollowed c.args.progress.now name b now) c.if-follow.false c.follow.ensures in
-    let trial = subst (λ (cleared : List Name). IsTried o root (take now.count cleared ++ name ∷ []) name c.in_ok-trial.trial) c.as_slice.ensures.value c.in_ok-trial.ensures in
+    let trial = subst (λ (cleared : List Name). IsTried o root (take now.count cleared ++ name ∷ []) name c.in_ok-trial.trial)
+    c.as_slice.ensures.value c.in_ok-trial.ensures in
     on_ok_weaker c.add.result
-    (λ (added : IsAdded now name c.in_ok-trial.trial c.add.new.self) (names : List Name) (so_far : IsProgress o root names c.args.progress.now). tried o root names name now c.add.new.self c.in_ok-trial.trial trial added (subst (IsProgress o root names) (sym same) so_far))
+    (λ (added : IsAdded now name c.in_ok-trial.trial c.add.new.self) (names : List Name) (so_far : IsProgress o root names c.args.progress.now).
+    tried o root names name now c.add.new.self c.in_ok-trial.trial trial added (subst (IsProgress o root names) (sym same) so_far))
     c.add.ensures

@@ -3,7 +3,8 @@ use Rattle.std.proofs.lemmas.List.{map-append}
 use Rattle.clr_choices.proofs.trials.members_with.Goals as goal
 
 -- the texts of the first names
-first_texts : (n : ℕ) (texts : List (Bor (List ℕ))) → map (λ (text : Bor (List ℕ)). text.now) (take n texts) ≡ take n (map (λ (text : Bor (List ℕ)). text.now) texts)
+first_texts : (n : ℕ) (texts : List (Bor (List ℕ))) → map (λ (text : Bor (List ℕ)). text.now) (take n texts)
+    ≡ take n (map (λ (text : Bor (List ℕ)). text.now) texts)
 first_texts zero [] = refl
 first_texts zero (text ∷ texts) = refl
 first_texts (suc n) [] = refl

@@ -12,4 +12,5 @@ returns c =
     let asked : c.as_slice.result.now ≡ members_or_children o root c.args.names.now = search rules in
     let chosen : IsChosen o root (members_or_children o root c.args.names.now) c.in_ok-choice.choice =
     subst (λ (members : List Name). IsChosen o root members c.in_ok-choice.choice) asked c.in_ok-choice.ensures.chosen in
-    choice_printed o root c.args.names.now c.args.certificate c.in_ok-choice.choice c.choice_print.result c.requires chosen (rw (← c.schema.ensures.value) c.choice_print.ensures)
+    choice_printed o root c.args.names.now c.args.certificate c.in_ok-choice.choice c.choice_print.result c.requires chosen
+    (rw (← c.schema.ensures.value) c.choice_print.ensures)

@@ -19,8 +19,10 @@ returns-then-is_empty-clause-layers c =
     let texts = c.args.texts.now.items in
     let none : zip tables (drop 1 (map (λ text. text.items) texts)) ≡ [] = elim c.then-is_empty.branch [
       | then-is_empty-via-then-is_empty w ↦
-          zip_of_no_first tables (drop 1 (map (λ text. text.items) texts)) (ap length (sym c.tables_of-tables.ensures) ∙ eqb-true _ 0 (sym c.is_empty.ensures ∙ w.if-is_empty.true))
+          zip_of_no_first tables (drop 1 (map (λ text. text.items) texts))
+          (ap length (sym c.tables_of-tables.ensures) ∙ eqb-true _ 0 (sym c.is_empty.ensures ∙ w.if-is_empty.true))
       | then-is_empty-via-else-is_empty+then-is_empty-2 w ↦
-          zip_of_no_texts (λ text. text.items) tables texts (let none : vec_len c.args.texts.now ≡ 0 = eqb-true _ 0 (sym w.is_empty-else-is_empty.ensures ∙ w.if-is_empty-2.true) in omega (arith, none))
+          zip_of_no_texts (λ text. text.items) tables texts
+          (let none : vec_len c.args.texts.now ≡ 0 = eqb-true _ 0 (sym w.is_empty-else-is_empty.ensures ∙ w.if-is_empty-2.true) in omega (arith, none))
     ] in
     ap (map pair_of) c.new.ensures.items ∙ sym none

@@ -13,7 +13,8 @@ returns-in_ok-dump_text-in-None c =
     let made = subst (λ (refused : Option Reply). IsDesignMade o c.args.name.now c.args.content.now refused left) c.in-None.is
     c.in_ok-make_design.ensures.made in
     let text = c.in_ok-dump_text-in-None.field-0.items in
-    let read_again : IsOfficeText left text = record { bytes = c.in_ok-dump_text-in-None.ensures.text; again = c.in_ok-dump_text-in-None.ensures.again } in
+    let d = c.in_ok-dump_text-in-None.ensures in
+    let read_again : IsOfficeText left text = record { bytes = d.text; again = d.again; admitted = d.admitted } in
     of_design text made.0 (subst (λ (next : Office). IsOfficeText next text) made.2 read_again) c.of_text.ensures
 
 pub returns-in-Some : goal.returns-in-Some

@@ -12,7 +12,8 @@ returns-in_ok-dump_text-in-None c =
     let left = c.replace_live.new.office in
     let replaced = subst (λ (refused : Option Reply). IsLiveReplaced o c.args.content.now refused left) c.in-None.is c.in_ok-replace_live.ensures.replaced in
     let text = c.in_ok-dump_text-in-None.field-0.items in
-    let read_again : IsOfficeText left text = record { bytes = c.in_ok-dump_text-in-None.ensures.text; again = c.in_ok-dump_text-in-None.ensures.again } in
+    let d = c.in_ok-dump_text-in-None.ensures in
+    let read_again : IsOfficeText left text = record { bytes = d.text; again = d.again; admitted = d.admitted } in
     of_live text replaced.0 (subst (λ (next : Office). IsOfficeText next text) replaced.1 read_again) c.of_text.ensures
 
 pub returns-in-Some : goal.returns-in-Some

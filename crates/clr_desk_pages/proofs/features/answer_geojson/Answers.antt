@@ -1,6 +1,6 @@
 use Rattle.std.proofs.Common.{◌≡◌, ◌∙◌, Some, None, ap, sym}
 use Rattle.std.specs.Option.{option_copied}
-use Rattle.clr_office_texts.specs.Drafts.{draft_in}
+use Rattle.clr_office_texts.specs.Drafts.{opened_in}
 use Rattle.clr_desk_prints.specs.Printing.{IsPrintoutIn}
 use Rattle.clr_desk_pages.specs.Features.{AreHintedFeatures, IsFeaturesAnswer, in_system, no_system_print, of_no_system, system_name, without_system}
 use Rattle.clr_desk_prints.proofs.Made.{made_as}
@@ -11,7 +11,7 @@ returns-in_default c =
     let none : option_copied c.args.system ≡ None = ap option_copied c.in_default.is in
     let root = c.args.root.now in
     let names = c.args.names.now in
-    let given = draft_in c.args.office.now in
+    let given = opened_in c.args.office.now in
     made_as (IsPrintoutIn (AreHintedFeatures root names None) given) (IsFeaturesAnswer root names (option_copied c.args.system) given)
     (λ print is. without_system none is) c.answer_in.result c.answer_in.ensures
 
@@ -22,7 +22,7 @@ returns-in-Some-system_of c =
     ap option_copied c.in-Some.is ∙ ap Some (sym c.as_str.ensures ∙ c.in-Some-system_of.ensures.named) in
     let root = c.args.root.now in
     let names = c.args.names.now in
-    let given = draft_in c.args.office.now in
+    let given = opened_in c.args.office.now in
     made_as (IsPrintoutIn (AreHintedFeatures root names (Some code)) given) (IsFeaturesAnswer root names (option_copied c.args.system) given)
     (λ print is. in_system code named is) c.answer_in-in-Some-system_of.result c.answer_in-in-Some-system_of.ensures
 

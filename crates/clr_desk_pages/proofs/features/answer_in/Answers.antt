@@ -1,14 +1,11 @@
-use Rattle.clr_office_texts.specs.Drafts.{draft_in}
-use Rattle.clr_desk_pages.specs.Features.{AreHintedFeatures}
-use Rattle.clr_desk_prints.specs.Printing.{of_office, printed}
-use Rattle.clr_desk_prints.proofs.PrintLemmas.{office_fault}
+use Rattle.std.proofs.Common.{rules}
+use Rattle.clr_merge_sets.specs.MergeSetNames.{merge_set}
+use Rattle.clr_office_texts.specs.Drafts.{opened_in}
+use Rattle.clr_desk_prints.proofs.OpeningLemmas.{members_answered}
+use Rattle.clr_desk_pages.specs.Features.{AreFeaturesOfSet}
 use Rattle.clr_desk_pages.proofs.features.answer_in.Goals as goal
 
-pub returns-in_ok-with_hints-in-Ok : goal.returns-in_ok-with_hints-in-Ok
-returns-in_ok-with_hints-in-Ok c = of_office c.in-Ok.office c.in-Ok.ensures.meant c.in-Ok.ensures.held
-    (printed c.in_ok-print-in-Ok.print, c.in_ok-print-in-Ok.ensures, c.in_ok-with_hints-in-Ok.ensures)
-
-pub returns-in-Err : goal.returns-in-Err
-returns-in-Err c =
-    office_fault (AreHintedFeatures c.args.root.now c.args.names.now c.args.system) (draft_in c.args.office.now) c.in-Err.answer c.notes_of.result
-    c.in-Err.ensures.answer c.notes_of.ensures
+pub returns : goal.returns
+returns c =
+    members_answered _ (λ members o. AreFeaturesOfSet c.args.system o (merge_set c.args.root.now members)) c.args.root.now c.args.names.now
+    (opened_in c.args.office.now) c.answer_over_members.result c.answer_over_members.ensures (λ shown members r left met. search rules)

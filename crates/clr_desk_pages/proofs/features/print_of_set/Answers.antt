@@ -15,8 +15,8 @@ returns c =
     let s = merge_set c.args.root.now (map (λ name. name.now) c.args.members.now) in (
       c.in_ok-plan.plan,
       c.in_ok-text.text.items,
-      subst₂ (λ (members : List (List ℕ)) (root : List ℕ). IsFoundPlan c.args.office.now (merge_set root members) c.in_ok-plan.plan) read.names read.members.root
-          c.in_ok-plan.ensures,
+      subst₂ (λ (members : List (List ℕ)) (root : List ℕ). IsFoundPlan c.args.office.now (merge_set root members) c.in_ok-plan.plan) read.names
+          read.members.root c.in_ok-plan.ensures,
       c.in_ok-text.ensures s read.members read.names,
       c.print_of_plan_text.ensures,
     )

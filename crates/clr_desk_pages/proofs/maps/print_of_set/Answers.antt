@@ -15,8 +15,8 @@ returns c =
     let read = c.in_ok-changes.ensures in (
       c.in_ok-plan.plan,
       c.in_ok-text.text.items,
-      subst₂ (λ (members : List (List ℕ)) (root : List ℕ). IsFoundPlan c.args.office.now (merge_set root members) c.in_ok-plan.plan) read.names read.members.root
-          c.in_ok-plan.ensures,
+      subst₂ (λ (members : List (List ℕ)) (root : List ℕ). IsFoundPlan c.args.office.now (merge_set root members) c.in_ok-plan.plan) read.names
+          read.members.root c.in_ok-plan.ensures,
       subst₂ (λ (members : List (List ℕ)) (root : List ℕ). IsMap c.args.office.now.schema members root c.in_ok-plan.plan c.in_ok-text.text.items) read.names
           read.members.root c.in_ok-text.ensures.map,
       c.print_of_plan_text.ensures,

@@ -7,13 +7,13 @@ use Rattle.clr_workspaces.specs.Workspaces.{workspace_at}
 use Rattle.clr_steps.specs.Laws.{refused}
 use Rattle.clr_steps.specs.declared.commands.Reply.TheVariants.{RuleBroken}
 use Rattle.clr_workspaces.specs.Operations.{after_write, with_current}
-use Rattle.clr_engine.specs.Fitting.{FitBoth}
+use Rattle.clr_judges.specs.Fitting.{FitBoth}
 use Rattle.clr_engine.proofs.Answered.{edits_break, ends}
-use Rattle.clr_engine.proofs.Changed.{changes_change}
-use Rattle.clr_engine.proofs.Contents.{reached}
-use Rattle.clr_engine.proofs.Fits.{fit_edited}
-use Rattle.clr_engine.proofs.Kept.{other_content}
-use Rattle.clr_engine.proofs.Prepared.{finished, where_none, within_mid}
+use Rattle.clr_judges.proofs.Changed.{changes_change}
+use Rattle.clr_judges.proofs.Contents.{reached}
+use Rattle.clr_engine.proofs.Steps.{fit_edited}
+use Rattle.clr_judges.proofs.Kept.{other_content}
+use Rattle.clr_judges.proofs.Prepared.{finished, where_none, within_mid}
 use Rattle.clr_engine.proofs.commands.apply.Goals as goal
 
 pub prepare-requires-clause-fit : goal.prepare-requires-clause-fit

@@ -1,10 +1,10 @@
 use Rattle.std.proofs.Common.{◌≡◌, rules, subst}
 use Rattle.clr_rows.specs.Contents.{Changes, taken_over}
 use Rattle.clr_workspaces.specs.Workspaces.{workspace_at}
-use Rattle.clr_engine.specs.KeptContents.{IsPrepared}
-use Rattle.clr_engine.proofs.Changed.{own_changes_change}
-use Rattle.clr_engine.proofs.Fits.{fit_taken}
-use Rattle.clr_engine.proofs.Prepared.{along_mid, where_none}
+use Rattle.clr_judges.specs.KeptContents.{IsPrepared}
+use Rattle.clr_judges.proofs.Changed.{own_changes_change}
+use Rattle.clr_judges.proofs.Fits.{fit_taken}
+use Rattle.clr_judges.proofs.Prepared.{along_mid, where_none}
 use Rattle.clr_engine.proofs.commands.merge.Goals as goal
 
 pub prepare-requires-clause-fit : goal.prepare-requires-clause-fit

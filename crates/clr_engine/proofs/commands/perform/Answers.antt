@@ -3,7 +3,7 @@ use Rattle.clr_workspaces.specs.Workspaces.{find}
 use Rattle.clr_steps.specs.Steps.{TakesNoMemory}
 use Rattle.clr_grid.specs.Finders.{AreFinders}
 use Rattle.clr_engine.proofs.Dispatch as below
-use Rattle.clr_engine.proofs.Prepared.{along}
+use Rattle.clr_judges.proofs.Prepared.{along}
 use Rattle.clr_engine.proofs.Served.{after_marking, after_unmarking, served, stays}
 use Rattle.clr_engine.proofs.commands.perform.Goals as goal
 

@@ -2,9 +2,9 @@ use Rattle.std.proofs.Common.{◌≡◌, ◌<◌, ◌∙◌, ap, subst, sym}
 use Rattle.std.specs.Prelude.{IfSome}
 use Rattle.clr_rows.specs.Contents.{Changes, taken_over}
 use Rattle.clr_workspaces.specs.Workspaces.{workspace_at}
-use Rattle.clr_engine.specs.KeptContents.{kept_contents}
-use Rattle.clr_engine.proofs.Kept.{after_refreshing, with_content}
-use Rattle.clr_engine.proofs.Prepared.{finished, where_none, within_mid}
+use Rattle.clr_judges.specs.KeptContents.{kept_contents}
+use Rattle.clr_judges.proofs.Kept.{after_refreshing, with_content}
+use Rattle.clr_judges.proofs.Prepared.{finished, where_none, within_mid}
 use Rattle.clr_engine.proofs.commands.refresh.Goals as goal
 
 pub finish-requires : goal.finish-requires

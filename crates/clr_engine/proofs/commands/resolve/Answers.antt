@@ -1,11 +1,11 @@
 use Rattle.std.proofs.Common.{◌≡◌, ◌∙◌, ap, subst, sym}
 use Rattle.clr_rows.specs.Contents.{Content}
 use Rattle.clr_workspaces.specs.Workspaces.{workspace_at}
-use Rattle.clr_engine.specs.KeptContents.{kept_contents}
-use Rattle.clr_engine.specs.Fitting.{FitBoth}
-use Rattle.clr_engine.proofs.Fits.{fit_kept}
-use Rattle.clr_engine.proofs.Kept.{after_resolving, with_content}
-use Rattle.clr_engine.proofs.Prepared.{finished, where_none, within_mid}
+use Rattle.clr_judges.specs.KeptContents.{kept_contents}
+use Rattle.clr_judges.specs.Fitting.{FitBoth}
+use Rattle.clr_judges.proofs.Fits.{fit_kept}
+use Rattle.clr_judges.proofs.Kept.{after_resolving, with_content}
+use Rattle.clr_judges.proofs.Prepared.{finished, where_none, within_mid}
 use Rattle.clr_engine.proofs.commands.resolve.Goals as goal
 
 pub prepare_row-requires-clause-fit : goal.prepare_row-requires-clause-fit

@@ -2,8 +2,8 @@ use Rattle.std.proofs.Common.{◌≡◌, refl}
 use Rattle.std.specs.Prelude.{Ok}
 use Rattle.clr_workspaces.specs.Workspaces.{workspace_at}
 use Rattle.clr_workspaces.specs.Operations.{roll_all}
-use Rattle.clr_engine.proofs.Kept.{other_content}
-use Rattle.clr_engine.proofs.Prepared.{finished, where_none, within_mid}
+use Rattle.clr_judges.proofs.Kept.{other_content}
+use Rattle.clr_judges.proofs.Prepared.{finished, where_none, within_mid}
 use Rattle.clr_engine.proofs.commands.roll_all.Goals as goal
 
 pub finish-requires : goal.finish-requires

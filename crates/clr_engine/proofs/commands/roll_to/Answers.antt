@@ -2,9 +2,9 @@ use Rattle.std.proofs.Common.{◌≡◌, ◌∙◌, sym, refl}
 use Rattle.clr_workspaces.specs.Marks.{mark_at, saved_content}
 use Rattle.clr_workspaces.specs.Workspaces.{workspace_at}
 use Rattle.clr_workspaces.specs.Operations.{roll_to}
-use Rattle.clr_engine.proofs.Kept.{other_content}
+use Rattle.clr_judges.proofs.Kept.{other_content}
 use Rattle.clr_engine.proofs.Positions.{found_saved}
-use Rattle.clr_engine.proofs.Prepared.{finished, where_none, within_mid}
+use Rattle.clr_judges.proofs.Prepared.{finished, where_none, within_mid}
 use Rattle.clr_engine.proofs.commands.roll_to.Goals as goal
 
 pub prepare_savepoint-requires-clause-saved : goal.prepare_savepoint-requires-clause-saved

@@ -1,7 +1,7 @@
 use Rattle.std.proofs.Common.{List, sym, subst, ◌∙◌}
 use Rattle.clr_workspaces.specs.Workspaces.{Workspace}
 use Rattle.clr_grid.specs.Finders.{AreFinders}
-use Rattle.clr_engine.specs.KeptContents.{kept_contents}
+use Rattle.clr_judges.specs.KeptContents.{kept_contents}
 use Rattle.clr_engine.proofs.Served.{after_adding, undone, was_ok}
 use Rattle.clr_engine.proofs.plain_commands.create.Goals as goal
 

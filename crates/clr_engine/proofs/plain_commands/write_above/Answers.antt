@@ -1,10 +1,10 @@
 use Rattle.std.proofs.Common.{ap, sym, subst, ◌∙◌, List}
 use Rattle.clr_workspaces.specs.Workspaces.{Workspace, children_of, workspace_at}
 use Rattle.clr_grid.specs.Finders.{AreFinders}
-use Rattle.clr_engine.specs.KeptContents.{kept_contents}
-use Rattle.clr_engine.proofs.Kept.{after_merging}
+use Rattle.clr_judges.specs.KeptContents.{kept_contents}
+use Rattle.clr_judges.proofs.Kept.{after_merging}
 use Rattle.clr_engine.proofs.Positions.{leaf_after_merge}
-use Rattle.clr_engine.proofs.Prepared.{forgotten, settled}
+use Rattle.clr_judges.proofs.Prepared.{forgotten, settled}
 use Rattle.clr_engine.proofs.plain_commands.write_above.Goals as goal
 
 pub take_away-requires-clause-leaf : goal.take_away-requires-clause-leaf

@@ -10,4 +10,5 @@ returns c =
     word_told [] _ c.args.word.now _ (view c.args.json.now) c.with_hint.result c.requires c.in_ok-text.ensures
     (ap (λ v. v.items) c.with_hint.ensures.steps ∙ c.in_ok-new.ensures.steps)
     (ap string_bytes (c.with_hint.ensures.sentence ∙ c.in_ok-new.ensures.sentence) ∙ c.in_ok-sentence.ensures.ok)
-    (subst (λ h. IsHintAtName c.args.word.now (map (λ one. one.now) c.args.words.now) (option_map string_bytes h)) (sym c.with_hint.ensures.hint) c.in_ok-hint.ensures)
+    (subst (λ h. IsHintAtName c.args.word.now (map (λ one. one.now) c.args.words.now) (option_map string_bytes h))
+    (sym c.with_hint.ensures.hint) c.in_ok-hint.ensures)

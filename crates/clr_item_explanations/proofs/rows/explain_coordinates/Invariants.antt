@@ -8,4 +8,6 @@ use Rattle.clr_item_explanations.proofs.rows.explain_coordinates.Given as goal
 
 -- the first that is wrong of the other items is that of all
 abbrev pub invariant-loop-at : goal.invariant-loop-at
-invariant-loop-at l = wrong_from key.S (λ at value. wrong_coordinate value) l.at l.items ≡ wrong_in_list key.S (λ at value. wrong_coordinate value) (view l.json)
+invariant-loop-at l =
+    wrong_from key.S (λ at value. wrong_coordinate value) l.at l.items
+    ≡ wrong_in_list key.S (λ at value. wrong_coordinate value) (view l.json)

@@ -9,4 +9,6 @@ use Rattle.clr_item_explanations.proofs.rows.explain_values.Given as goal
 
 -- the first that is wrong of the other items is that of all
 abbrev pub invariant-loop-at : goal.invariant-loop-at
-invariant-loop-at l = wrong_from key.V (λ at value. wrong_value wanted.Value value) l.at l.items ≡ wrong_in_list key.V (λ at value. wrong_value wanted.Value value) (view l.json)
+invariant-loop-at l =
+    wrong_from key.V (λ at value. wrong_value wanted.Value value) l.at l.items
+    ≡ wrong_in_list key.V (λ at value. wrong_value wanted.Value value) (view l.json)

@@ -8,4 +8,6 @@ use Rattle.clr_item_explanations.proofs.rules.explain_literals.Given as goal
 
 -- the first that is wrong of the other items is that of all
 abbrev pub invariant-loop-at : goal.invariant-loop-at
-invariant-loop-at l = wrong_from key.Where (λ at literal. wrong_literal literal) l.at l.items ≡ wrong_in_list key.Where (λ at literal. wrong_literal literal) (view l.json)
+invariant-loop-at l =
+    wrong_from key.Where (λ at literal. wrong_literal literal) l.at l.items
+    ≡ wrong_in_list key.Where (λ at literal. wrong_literal literal) (view l.json)

@@ -8,4 +8,6 @@ use Rattle.clr_item_explanations.proofs.rules.explain_names.Given as goal
 
 -- the first that is wrong of the other items is that of all
 abbrev pub invariant-loop-at : goal.invariant-loop-at
-invariant-loop-at l = wrong_from l.key (λ at name. wrong_value wanted.Text name) l.at l.items ≡ wrong_in_list l.key (λ at name. wrong_value wanted.Text name) (view l.json)
+invariant-loop-at l =
+    wrong_from l.key (λ at name. wrong_value wanted.Text name) l.at l.items
+    ≡ wrong_in_list l.key (λ at name. wrong_value wanted.Text name) (view l.json)

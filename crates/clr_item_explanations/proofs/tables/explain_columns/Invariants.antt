@@ -8,4 +8,6 @@ use Rattle.clr_item_explanations.proofs.tables.explain_columns.Given as goal
 
 -- the first that is wrong of the other items is that of all
 abbrev pub invariant-loop-at : goal.invariant-loop-at
-invariant-loop-at l = wrong_from key.Columns (λ at column. wrong_column column) l.at l.items ≡ wrong_in_list key.Columns (λ at column. wrong_column column) (view l.json)
+invariant-loop-at l =
+    wrong_from key.Columns (λ at column. wrong_column column) l.at l.items
+    ≡ wrong_in_list key.Columns (λ at column. wrong_column column) (view l.json)

@@ -37,7 +37,8 @@ returns c =
     let names = map (λ name. name.now) c.args.members.now in
     let s = merge_set c.args.root.now names in
     let causes = c.in_ok-causes.causes.items in
-    let lone : map stored_clash c.in_ok-clashes.clashes.items ≡ lone_clashes causes = c.in_ok-clashes.ensures.clashes ∙ ap lone_clashes c.as_slice.ensures.value in
+    let lone : map stored_clash c.in_ok-clashes.clashes.items ≡ lone_clashes causes = c.in_ok-clashes.ensures.clashes
+    ∙ ap lone_clashes c.as_slice.ensures.value in
     let sets : c.args.changes.now ≡ change_sets o s = c.requires.changed in
     let free : c.as_slice-2.result.now ≡ free_positions causes =
     c.as_slice-2.ensures.value ∙ c.in_ok-clashes.ensures.free ∙ ap free_positions c.as_slice.ensures.value in

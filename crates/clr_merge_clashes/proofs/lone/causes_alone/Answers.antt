@@ -23,7 +23,8 @@ cause_alone-requires c =
     let less : at < length sets = omega (arith, long, c.loop-at-test.true) in
     let named = slice_get-map (λ (n : Bor Name). n.now) names at ∙ ap (option_map (λ (n : Bor Name). n.now)) (slice_get-get_or names at none
     c.loop-at-test.true) in
-    let found = named_at o (map (λ (n : Bor Name). n.now) names) sets at set c.requires (slice_get_read sets (length sets) at set refl less c.index-sets-at.is) in
+    let found = named_at o (map (λ (n : Bor Name). n.now) names) sets at set c.requires
+    (slice_get_read sets (length sets) at set refl less c.index-sets-at.is) in
     let both : Some name.now ≡ Some found.0 = sym named ∙ found.1 in
     let same : name.now ≡ found.0 = cc in
     found.2 ∙ ap (changes_in o) (sym same)

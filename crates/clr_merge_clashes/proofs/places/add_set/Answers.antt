@@ -14,4 +14,5 @@ returns c =
     let sets = c.args.sets.now in
     let set = c.in-Some.set in
     one_added (λ set. set.now) c.args.list.now.items c.push.new.self.items set (slice_get sets c.args.position)
-    c.in_ok-push.ensures.items (slice_get_read sets (length sets) c.args.position set.now refl c.in-Some.ensures.lookup.3.0 (c.in-Some.ensures.lookup.3.1 set.now))
+    c.in_ok-push.ensures.items (slice_get_read sets (length sets) c.args.position set.now refl c.in-Some.ensures.lookup.3.0
+    (c.in-Some.ensures.lookup.3.1 set.now))

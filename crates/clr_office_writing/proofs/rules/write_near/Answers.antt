@@ -1,14 +1,17 @@
 use Rattle.std.proofs.Common.{◌++◌, SFits, w64, to_z-of_z, ap, ◌∙◌, rules}
+use Rattle.std.specs.Option.{option_map}
 use Rattle.std.proofs.lemmas.Result.{on_ok_weaker}
 use Rattle.clr_office_writing.specs.Tokens.{tokens_of}
 use Rattle.clr_office_writing.specs.Values.{number_data}
+use Rattle.clr_office_writing.specs.RuleData.{named_side, side_data}
+use Rattle.clr_office_writing.proofs.KnownWritten.{near_written}
 use Rattle.clr_office_writing.proofs.ListsWritten.{after}
 use Rattle.clr_office_writing.proofs.rules.write_near.Goals as goal
 
 pub returns : goal.returns
 returns c =
     let fits : SFits w64 c.args.d = search rules in
-    on_ok_weaker c.end_object.result (λ e.
+    on_ok_weaker c.end_object.result (λ e. (
     after c.args.text.now c.begin_object.new.self _ _ _ c.in_ok-begin_object.ensures.ok (
     after c.begin_object.new.self c.key.new.self _ _ _ c.in_ok-key.ensures.ok (
     after c.key.new.self c.write_side.new.text _ _ _ c.in_ok-write_side.ensures (
@@ -17,4 +20,6 @@ returns c =
     after c.write_side-2.new.text c.key-3.new.self _ _ _ c.in_ok-key-3.ensures.ok (
     after c.key-3.new.self c.number.new.self _ _ _ (c.in_ok-number.ensures.ok ∙ ap (λ z. c.key-3.new.self ++ tokens_of (number_data z)) (to_z-of_z fits)) (
     after c.number.new.self c.key-4.new.self _ _ _ c.in_ok-key-4.ensures.ok (
-    after c.key-4.new.self c.string.new.self _ _ _ c.in_ok-string.ensures.ok e))))))))) c.end_object.ensures.ok
+    after c.key-4.new.self c.string.new.self _ _ _ c.in_ok-string.ensures.ok (
+    after c.string.new.self c.write_known.new.text _ _ _ c.in_ok-write_known.ensures e))))))))))
+    ∙ ap (λ ts. c.args.text.now ++ ts) (near_written (option_map (λ v. v.now) c.args.known) (side_data (named_side c.args.schema.now c.args.a.now)) (side_data (named_side c.args.schema.now c.args.b.now)) (number_data c.args.d))) c.end_object.ensures.ok

@@ -1,14 +1,20 @@
+use Rattle.std.proofs.Common.{◌++◌, ap, ◌∙◌}
+use Rattle.std.specs.Option.{option_map}
 use Rattle.std.proofs.lemmas.Result.{on_ok_weaker}
+use Rattle.clr_office_writing.specs.RuleData.{names_data, named_columns, named_side, side_data}
+use Rattle.clr_office_writing.proofs.KnownWritten.{unique_written}
 use Rattle.clr_office_writing.proofs.ListsWritten.{after}
 use Rattle.clr_office_writing.proofs.rules.write_unique.Goals as goal
 
 pub returns : goal.returns
 returns c =
-    on_ok_weaker c.end_object.result (λ e.
+    on_ok_weaker c.end_object.result (λ e. (
     after c.args.text.now c.begin_object.new.self _ _ _ c.in_ok-begin_object.ensures.ok (
     after c.begin_object.new.self c.key.new.self _ _ _ c.in_ok-key.ensures.ok (
     after c.key.new.self c.write_columns.new.text _ _ _ c.in_ok-write_columns.ensures (
     after c.write_columns.new.text c.key-2.new.self _ _ _ c.in_ok-key-2.ensures.ok (
     after c.key-2.new.self c.string.new.self _ _ _ c.in_ok-string.ensures.ok (
-    after c.string.new.self c.key-3.new.self _ _ _ c.in_ok-key-3.ensures.ok (
-    after c.key-3.new.self c.write_side.new.text _ _ _ c.in_ok-write_side.ensures e))))))) c.end_object.ensures.ok
+    after c.string.new.self c.write_known.new.text _ _ _ c.in_ok-write_known.ensures (
+    after c.write_known.new.text c.key-3.new.self _ _ _ c.in_ok-key-3.ensures.ok (
+    after c.key-3.new.self c.write_side.new.text _ _ _ c.in_ok-write_side.ensures e))))))))
+    ∙ ap (λ ts. c.args.text.now ++ ts) (unique_written (option_map (λ v. v.now) c.args.known) (names_data (named_columns c.args.schema.now c.args.subject.now c.args.columns.now)) (side_data (named_side c.args.schema.now c.args.subject.now)))) c.end_object.ensures.ok

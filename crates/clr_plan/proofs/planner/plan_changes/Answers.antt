@@ -15,7 +15,14 @@ returns-in-Ok c =
     let h = c.plan_parts.ensures in
     let tables = subst (λ (tables : List TableDef). schema_fault tables ≡ None) c.schema.ensures.value c.tables-tables.ensures.sound in
     let whole : IsWhole o = record { tables = tables; admitted = c.book-rules.ensures.admitted; tree = c.len-tree.ensures.sound } in
-    record { plan = h; unfit = unfit_law o s p h; promises = promise_law o s p h; exact = exact_law o s p h; lasts = lasting_law o s p h; readable = readable o s p whole h }
+    record {
+      plan = h;
+      unfit = unfit_law o s p h;
+      promises = promise_law o s p h;
+      exact = exact_law o s p h;
+      lasts = lasting_law o s p h;
+      readable = readable o s p whole h;
+    }
 
 pub returns-in-Err : goal.returns-in-Err
 returns-in-Err c =
@@ -25,4 +32,11 @@ returns-in-Err c =
     let h = c.plan_fault.ensures o s c.in-Err.ensures.fault in
     let tables = subst (λ (tables : List TableDef). schema_fault tables ≡ None) c.schema.ensures.value c.tables-tables.ensures.sound in
     let whole : IsWhole o = record { tables = tables; admitted = c.book-rules.ensures.admitted; tree = c.len-tree.ensures.sound } in
-    record { plan = h; unfit = unfit_law o s p h; promises = promise_law o s p h; exact = exact_law o s p h; lasts = lasting_law o s p h; readable = readable o s p whole h }
+    record {
+      plan = h;
+      unfit = unfit_law o s p h;
+      promises = promise_law o s p h;
+      exact = exact_law o s p h;
+      lasts = lasting_law o s p h;
+      readable = readable o s p whole h;
+    }

@@ -20,7 +20,8 @@ returns-in-Conflict c =
     (found_with (Finds (IsCellCause members.changes.items q (at ∷ []) (conflict_words members.root.now)))
     (λ (found : Option Cause). (s : MergeSet) → AreMembers o s members → IsVerdictCause o s (verdict.Conflict at q c.in-Conflict.count) found)
     c.conflict_cause.result
-    (λ found is s are. subst₂ (λ (sets : List Changes) (root : List ℕ). Finds (IsCellCause sets q (at ∷ []) (conflict_words root)) found) are.changes are.root is)
+    (λ found is s are. subst₂ (λ (sets : List Changes) (root : List ℕ). Finds
+    (IsCellCause sets q (at ∷ []) (conflict_words root)) found) are.changes are.root is)
     c.conflict_cause.ensures)
 
 pub returns-in-SharedCell : goal.returns-in-SharedCell

@@ -7,4 +7,5 @@ pub returns : goal.returns
 returns c =
     let o = c.args.setting.office.now in
     let s = merge_set c.args.setting.members.now.root.now (map (λ name. name.now) c.args.setting.members.now.names.now) in
-    rw c.into_section.ensures (designs_whole o s _ _ _ _ c.new-section.ensures c.in_ok-add_heading.ensures c.in_ok-add_designs.ensures c.in_ok-add_clashes.ensures)
+    rw c.into_section.ensures
+    (designs_whole o s _ _ _ _ c.new-section.ensures c.in_ok-add_heading.ensures c.in_ok-add_designs.ensures c.in_ok-add_clashes.ensures)

@@ -1,21 +1,21 @@
-use Rattle.std.proofs.Common.{◌≡◌, subst}
-use Rattle.clr_engine.specs.Drafts.{IsUnheld as IsFault, unheld_in}
-use Rattle.clr_text_diagnosis.specs.Needs.{unheld_lines}
+use Rattle.std.proofs.Common.{◌∙◌, List, ap, sym}
+use Rattle.clr_rules.specs.declared.needs.Broken.{Broken}
+use Rattle.clr_engine.specs.Drafts.{unheld_in}
 use Rattle.clr_text_diagnosis.proofs.offices.why_draft.Goals as goal
 
-pub returns-in-Ok : goal.returns-in-Ok
-returns-in-Ok c = (c.args.draft, c.requires, c.in-Ok.ensures.held)
+pub returns : goal.returns
+returns c =
+    let named = ap (λ (known : List Broken). unheld_in c.args.draft known) (sym c.requires.names) in
+    (c.args.draft, c.requires.read, named ∙ sym c.in_ok-position.ensures ∙ c.in-None.is)
 
-pub returns-in-Broken : goal.returns-in-Broken
-returns-in-Broken c =
-    let lines = c.in_ok-lines-in-Broken.lines in
-    let position = c.in-Broken.position in
-    let need = c.in-Broken.need in
+pub returns-in-Some : goal.returns-in-Some
+returns-in-Some c =
+    let named = ap (λ (known : List Broken). unheld_in c.args.draft known) (sym c.requires.names) in
     record {
       office = c.args.draft;
-      position = position;
-      need = need;
-      read = c.requires;
-      unheld = subst (λ f. IsFault (unheld_in c.args.draft) f) c.in-Broken.is c.in-Err.ensures.fault;
-      told = subst (λ d. lines.items ≡ unheld_lines d position need) c.in-Err.ensures.draft c.in_ok-lines-in-Broken.ensures;
+      position = c.in-Some.position;
+      need = c.in-Some.need;
+      read = c.requires.read;
+      unheld = named ∙ sym c.in_ok-position.ensures ∙ c.in-Some.is;
+      told = c.in_ok-lines-in-Some.ensures;
     }

@@ -11,4 +11,5 @@ returns-then-own c =
 pub returns-else-own : goal.returns-else-own
 unfolding own_key
 returns-else-own c =
-    none_within (own_key c.args.count c.args.at c.args.key) (c.from.result + c.args.count + c.args.at) (omega (arith, c.from.ensures)) (omega (arith, c.if-own.false))
+    none_within (own_key c.args.count c.args.at c.args.key) (c.from.result + c.args.count + c.args.at) (omega (arith, c.from.ensures))
+    (omega (arith, c.if-own.false))

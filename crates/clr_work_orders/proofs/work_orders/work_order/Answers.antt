@@ -25,15 +25,21 @@ returns-clause-order c =
     let lines = c.as_slice-3.ensures.value ∙ c.in_ok-lines.ensures
     ∙ ap (λ (tables : List TableDef). plan_text tables s.members s.root p) c.schema.ensures.value in record {
       plan = p;
-      planned = record { plan = c.plan_changes-planned.ensures.plan; promises = c.plan_changes-planned.ensures.promises; exact = c.plan_changes-planned.ensures.exact };
+      planned = record {
+        plan = c.plan_changes-planned.ensures.plan;
+        promises = c.plan_changes-planned.ensures.promises;
+        exact = c.plan_changes-planned.ensures.exact;
+      };
       sentences = string_bytes c.in_ok-sentences.sentences;
-      told = subst₂ (λ (names : List Name) (root : Name). IsSentences o (merge_set root names) p text) read.names read.members.root (c.in_ok-sentences.ensures are);
+      told = subst₂ (λ (names : List Name) (root : Name). IsSentences o (merge_set root names) p text) read.names read.members.root
+          (c.in_ok-sentences.ensures are);
       trials = c.in_ok-trials.trials.items;
       tried = subst₂ (λ (names : List Name) (root : Name). AreTrialsOf o (merge_set root names) p c.in_ok-trials.trials.items) read.names read.members.root
           (c.in_ok-trials.ensures.tried are);
       text = c.in_ok-text.ensures
           ∙ ap (λ (t : List ℕ). t ++ trials_text c.as_slice-2.result.now ++ codes "\n" ++ c.as_slice-3.result.now) c.as_str.ensures.value
-          ∙ ap (λ (ts : List Trial). string_bytes c.in_ok-sentences.sentences ++ trials_text ts ++ codes "\n" ++ c.as_slice-3.result.now) c.as_slice-2.ensures.value
+          ∙ ap (λ (ts : List Trial). string_bytes c.in_ok-sentences.sentences ++ trials_text ts ++ codes "\n" ++ c.as_slice-3.result.now)
+          c.as_slice-2.ensures.value
           ∙ ap (λ (t : List ℕ). string_bytes c.in_ok-sentences.sentences ++ trials_text c.in_ok-trials.trials.items ++ codes "\n" ++ t) lines;
       cleared = c.is_cleared.ensures;
       lost = c.is_out_of_memory.ensures;

@@ -1,6 +1,6 @@
 use Rattle.std.proofs.Common.{sym, subst}
 use Rattle.clr_grid.specs.Finders.{IsFinderAt}
-use Rattle.clr_engine.specs.KeptContents.{kept_contents}
+use Rattle.clr_judges.specs.KeptContents.{kept_contents}
 use Rattle.clr_grid.proofs.Indexes.{finder_at, one_at}
 use Rattle.clr_engine.proofs.Served.{finder_in}
 use Rattle.clr_engine.proofs.offices.Office.finder.Goals as goal

@@ -1,12 +1,13 @@
 use Rattle.std.proofs.Common.{List, [], ◌∷◌, refl, subst, sym}
 use Rattle.clr_workspaces.specs.Workspaces.{Workspace}
+use Rattle.clr_steps.specs.Invariants.{HoldsWhereKept}
 use Rattle.clr_steps.specs.Offices.{Office, office_of}
 use Rattle.clr_steps.specs.Steps.{IsAnswer}
 use Rattle.clr_steps.proofs.NothingNew.{nothing_new_law}
 use Rattle.clr_steps.proofs.StepLemmas.{answer_law}
 use Rattle.clr_engine.specs.Fitting.{IsAdmitted}
 use Rattle.clr_grid.specs.Finders.{AreFinders}
-use Rattle.clr_engine.specs.KeptContents.{kept_contents}
+use Rattle.clr_judges.specs.KeptContents.{kept_contents}
 use Rattle.clr_engine.proofs.Steps.{fits_after}
 use Rattle.clr_engine.proofs.offices.Office.perform.Goals as goal
 
@@ -25,6 +26,8 @@ invariant_of-self c =
       subst (λ (ws : List Workspace). IsAdmitted (office_of inside.schema inside.judge ws)) same admitted,
       subst (λ (ws : List Workspace). AreFinders inside.judge (kept_contents ws) c.perform-reply.new.finders) same c.perform-reply.ensures.finders,
       record { deltas = c.sweep.ensures.deltas; counts = c.sweep.ensures.counts },
+      λ flag. subst (λ (ws : List Workspace). HoldsWhereKept (office_of inside.schema inside.judge ws)) same
+          ((nothing_new_law o (c.args.command.now ∷ []) (c.perform-reply.result ∷ []) left (left, answered, refl)).rules (c.self.invariant.3 flag)),
     )
 
 pub returns-clause-answer : goal.returns-clause-answer

@@ -1,0 +1,13 @@
+use Rattle.std.proofs.Common.{◌∙◌, is_ok}
+use Rattle.clr_needs.proofs.TestLemmas.{found_or_not}
+use Rattle.clr_rules.specs.Needs.{broken_cmp}
+use Rattle.clr_rules.proofs.BrokenOrder.{broken_exact, broken_total}
+use Rattle.clr_audit.proofs.UnknownLaws.{told_known}
+use Rattle.clr_audit.proofs.unknown_needs.is_known.Goals as goal
+
+pub returns : goal.returns
+unfolding broken_cmp
+returns c =
+    c.is_ok.ensures.value ∙ told_known c.args.known.now c.args.need.now (is_ok c.binary_search.result)
+    (found_or_not broken_cmp broken_total broken_exact c.args.known.now c.args.need.now c.binary_search.result c.requires c.binary_search.ensures.bound
+    c.binary_search.ensures.position)

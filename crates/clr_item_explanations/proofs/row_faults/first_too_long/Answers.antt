@@ -1,8 +1,0 @@
-use Rattle.clr_item_explanations.specs.RowFaults.{too_long}
-use Rattle.clr_item_explanations.proofs.ListLemmas.{found_wrong}
-use Rattle.clr_item_explanations.proofs.row_faults.first_too_long.Goals as goal
-
-pub returns-in-Some : goal.returns-in-Some
-returns-in-Some c =
-    found_wrong (too_long) c.items_at-items.result.now c.loop-at.at _ _ c.in-Some.slip c.loop-at-test.true c.index-items-at.is
-    (rw c.in-Some.is at c.in_ok-slip.ensures) c.loop-at.invariant

@@ -1,0 +1,9 @@
+pub mod BrokenBelow
+pub mod Changed
+pub mod Contents
+pub mod Fits
+pub mod Found
+pub mod Kept
+pub mod Prepared
+pub mod Scenes
+pub mod Unheld

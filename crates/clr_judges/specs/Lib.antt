@@ -1,0 +1,4 @@
+pub mod BrokenNeeds
+pub mod Fitting
+pub mod KeptContents
+pub mod Unheld

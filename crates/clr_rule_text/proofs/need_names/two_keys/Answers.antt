@@ -1,0 +1,20 @@
+use Rattle.std.proofs.Common.{◌≡◌, List, [], ◌∷◌, length, Err, refl, arith}
+use Rattle.serde_json.specs.Data.{Data}
+use Rattle.clr_rule_text.specs.declared.faults.TextFault.TheVariants.{BadField}
+use Rattle.clr_rule_text.specs.Known.{two_keys}
+use Rattle.clr_rule_text.specs.Seen.{items_seen}
+use Rattle.clr_rule_text.proofs.need_names.two_keys.Goals as goal
+
+-- a list of another length than two
+other_length : {J : Type 0} (view : J → Data) (vs : List J) → (length vs ≡ 2 → ⊥) → two_keys (items_seen view vs) ≡ Err BadField
+unfolding two_keys
+other_length view [] two = refl
+other_length view (a ∷ []) two = refl
+other_length view (a ∷ b ∷ []) two = absurd (two refl)
+other_length view (a ∷ b ∷ d ∷ vs) two = refl
+
+pub returns-in_default : goal.returns-in_default
+returns-in_default g c = other_length g.J.JsonValue.stands_for c.args.items.now (λ e. omega (arith, c.in_default.len_below))
+
+pub returns-in_default-2 : goal.returns-in_default-2
+returns-in_default-2 g c = other_length g.J.JsonValue.stands_for c.args.items.now (λ e. omega (arith, c.in_default.len_at_least))

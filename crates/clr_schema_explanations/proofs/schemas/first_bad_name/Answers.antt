@@ -1,0 +1,10 @@
+use Rattle.clr_text_positions.specs.declared.paths.Key.TheVariants as key
+use Rattle.clr_schema_explanations.specs.SchemaFaults.{bad_name_in}
+use Rattle.clr_item_explanations.proofs.ListLemmas.{item_wrong}
+use Rattle.clr_schema_explanations.proofs.schemas.first_bad_name.Goals as goal
+
+pub returns-in-Some : goal.returns-in-Some
+returns-in-Some c =
+    item_wrong key.Tables (λ at table. bad_name_in table) c.items_at-items.result.now c.loop-at.at _ _
+    c.in-Some.slip c.in_ok-below.field-0 c.loop-at-test.true c.index-items-at.is
+    (rw c.in-Some.is at c.in_ok-slip.ensures) c.in_ok-below.ensures.steps c.in_ok-below.ensures.sentence c.in_ok-below.ensures.hint c.loop-at.invariant

@@ -1,0 +1,13 @@
+use Rattle.std.proofs.Common.{◌≡◌}
+use Rattle.serde_json.specs.View.{view}
+use Rattle.clr_text_positions.specs.declared.paths.Key.TheVariants as key
+use Rattle.clr_schema_explanations.specs.SchemaFaults.{too_many_columns}
+use Rattle.clr_item_explanations.specs.Tellings.{wrong_in_list}
+use Rattle.clr_item_explanations.proofs.ListLemmas.{wrong_from}
+use Rattle.clr_schema_explanations.proofs.schemas.first_too_many.Given as goal
+
+-- the first that is wrong of the other items is that of all
+abbrev pub invariant-loop-at : goal.invariant-loop-at
+invariant-loop-at l =
+    wrong_from key.Tables (λ at table. too_many_columns table) l.at l.items
+    ≡ wrong_in_list key.Tables (λ at table. too_many_columns table) (view l.json)

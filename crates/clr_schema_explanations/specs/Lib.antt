@@ -1,0 +1,4 @@
+pub mod Names
+pub mod RowFaults
+pub mod RuleFaults
+pub mod SchemaFaults
