@@ -2,14 +2,15 @@
 
 ghost use Rattle.clr_clashes.specs.Laws.{ClashesDecideSubsets, ListedClashesDecideSubsets};
 
-/// Where no cell is changed by two members, each touched need of some of the members is covered, in the scene of these alone, exactly where they hold none of the
-/// smallest clashes of all members. The smallest clashes tell of each subset whether it is covered.
+/// Where no cell is changed by two members, each touched need of some of the members is covered, in the scene of these alone,
+/// exactly where they hold none of the smallest clashes of all members. The smallest clashes tell of each subset whether it is
+/// covered.
 pub fn clashes_decide_subsets()
     ensures { ClashesDecideSubsets }
 {}
 
-/// Where no cell is changed by two members, a list of the smallest clashes tells of each subset of the members whether it is covered: exactly where it holds none
-/// of the list.
+/// Where no cell is changed by two members, a list of the smallest clashes tells of each subset of the members whether it is
+/// covered: exactly where it holds none of the list.
 pub fn listed_clashes_decide_subsets()
     ensures { ListedClashesDecideSubsets }
 {}

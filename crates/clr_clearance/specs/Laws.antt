@@ -20,7 +20,8 @@ use Rattle.clr_clearance.specs.ClearedRuns.{IsClearedRun, IsQuietStart}
 use Rattle.clr_clearance.specs.Invariants.{Invariant}
 use Rattle.clr_clearance.specs.Runs.{AreQuiet, merged_by, merged_in}
 use Rattle.clr_clearance.specs.Safety.{IsMergeOf, IsSafeAnswer, Safe}
-use Rattle.clr_clearance.specs.MergeSets.{AgreesWith, AreMergeable, Covers, KeepsRules, MembersBreakNoMore, RootHolds, setting_by_position, rows_with, setting_of}
+use Rattle.clr_clearance.specs.MergeSets.{AgreesWith, AreMergeable, Covers, KeepsRules, MembersBreakNoMore, RootHolds}
+use Rattle.clr_clearance.specs.MergeSets.{setting_by_position, rows_with, setting_of}
 use Rattle.clr_clearance.specs.Verdicts.{IsVerdict}
 
 -- members by name and by position --------------------------------------------------------------------
@@ -79,7 +80,8 @@ RefreshLaw = (first : Office) (merge_set : MergeSet) (names : List Name) (now : 
     → AreMergeable first merge_set
     → Invariant first merge_set names now
     → is_member merge_set name ≡ true
-    → Invariant first merge_set names (step now (command.Refresh name)).office × (MembersBreakNoMore first merge_set → IsSafeRefresh first merge_set names now name)
+    → Invariant first merge_set names (step now (command.Refresh name)).office
+    × (MembersBreakNoMore first merge_set → IsSafeRefresh first merge_set names now name)
 
 -- every quiet list ---------------------------------------------------------------------------------------
 

@@ -11,7 +11,8 @@ use Rattle.clr_desk.specs.LinedTexts.{lined_text}
 abbrev pub lines_of : Office → List ℕ
 lines_of o = lined_text (office_data (text_of o)) ++ codes "\n"
 
--- the text of an office in lines; or in one line where its lines aren't read as this office. What is printed is read as the same office, whose broken needs it names as known
+-- the text of an office in lines; or in one line where its lines aren't read as this office. What is printed is read as the same
+-- office, whose broken needs it names as known
 pub data IsInLines (o : Office) (text : List ℕ) : Type 0 where
   in_lines : text ≡ lines_of o → opened_in text ≡ Ok (o, None) → IsInLines o text
   in_one_line : ¬ (opened_in (lines_of o) ≡ Ok (o, None)) → text ≡ bytes_of o → opened_in text ≡ Ok (o, None) → IsInLines o text

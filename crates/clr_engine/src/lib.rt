@@ -1,5 +1,5 @@
-//! Offices: workspaces under LIVE over one schema, and rules that no command breaks anew in LIVE or
-//! in a workspace that is kept.
+//! Offices: workspaces under LIVE over one schema, and rules by which no command brings a new error
+//! into LIVE or into a workspace that is kept.
 //!
 //! - `Office::perform` [`answer`, `nothing_new`, `no_memory`]: the reply and the whole office afterwards are those
 //!   of one step of `clr_steps`, or the reply is want of memory and the office is unchanged;
@@ -15,9 +15,9 @@
 //! - `Draft::build` [`made`, `passed`, `refused`] gives a draft of LIVE and parts, or the first
 //!   part that can't stand and why; `Draft::of_tree` gives one of a tree. The condition is that the
 //!   rules and each row fit the schema. `Draft::admit` [`office`, `held`, `draft`, `fault`] gives
-//!   an office of the same exactly where every rule holds in LIVE and in each kept workspace;
-//!   otherwise it gives the draft back with the first that breaks one and its least broken need, or
-//!   with want of memory. An office goes on fitting its schema [`admitted`].
+//!   an office of the same exactly where each need that is broken in LIVE or in a kept workspace is
+//!   among the known ones; otherwise it gives the draft back with the first that breaks another need
+//!   and its least such need, or with want of memory. An office goes on fitting its schema [`admitted`].
 //! - `schema`, `book`, `live`, `len`, `name_at`, `parent_of`, `kept`, `read`, `rows`, `changes`,
 //!   `conflicts` and `part` show the office exactly; all up to `read` take no memory. `len`
 //!   [`sound`] tells what holds of its workspaces (`clr_workspaces: Soundness`).

@@ -32,8 +32,10 @@ use std::alloc::AllocError;
 use std::marker::Model;
 
 /// A database: its schema, its rules, LIVE's content and the workspaces under LIVE. The rules and
-/// each row of each content fit the schema. No command breaks a need in LIVE or in a workspace that
-/// is kept which isn't broken there already, so every rule goes on holding where every rule held.
+/// each row of each content fit the schema. No command brings a new error into LIVE or a workspace
+/// that is kept: what one of them breaks after a command, LIVE or a kept workspace broke before it,
+/// with the same rows. LIVE itself breaks no more than it did. So where every rule held in all of
+/// them, every rule goes on holding.
 pub struct Office {
     schema: Schema,
     judge: Judge,
@@ -108,7 +110,7 @@ impl Office {
         &self.schema
     }
 
-    /// Returns the rules. No command breaks one anew in LIVE or in a workspace that is kept.
+    /// Returns the rules. What LIVE and the kept workspaces break by them, one of these broke before.
     /// For example, where the only rule is that mains cross only at nodes, the book has `len` 1, and its rule 0 is
     /// this `Crossing`. No command changes that.
     pub fn book(&self) -> &RuleBook
@@ -198,7 +200,7 @@ impl Office {
         self.finders.get(position)
     }
 
-    /// Returns whether LIVE or a workspace is kept, so that no command breaks a rule anew in it; or
+    /// Returns whether LIVE or a workspace is kept, so that no command brings a new error into it; or
     /// none for an unknown name.
     pub fn kept(&self, ws: &str) -> Option<bool>
         ensures value { result ≡ if_stands self.now ws.now (is_kept self.now ws.now) }
@@ -324,7 +326,9 @@ impl Office {
     /// `Done`; a refused command changes nothing. `OutOfMemory` may come in place of any other
     /// reply, but never to `Remove`, `Unmark` and `Release`, and changes nothing either. That the
     /// content would break a need that isn't broken already, with the same rows, where the rules are
-    /// to hold in it, is the last refusal. So where every rule holds, it goes on holding.
+    /// to hold in it, is the last refusal. Already means in the content before the command. For a
+    /// refresh or a hold it means in the parent, if that is kept; for a hold elsewhere nothing counts
+    /// as broken already. So where every rule holds, it goes on holding.
     /// For example, where two mains may cross only at a node, and a workspace has deleted the node at which they do, its
     /// merge into LIVE is answered `RuleBroken` with the need of both mains.
     pub fn perform(&mut self, command: &Command) -> Reply

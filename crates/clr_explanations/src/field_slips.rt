@@ -4,7 +4,8 @@ ghost use Rattle.serde_json.specs.View.{view};
 ghost use Rattle.clr_office_reading.specs.Offices.{format_of};
 ghost use Rattle.clr_item_explanations.specs.Slips.{said};
 ghost use Rattle.clr_item_explanations.specs.Tellings.{Tells, TellsIfAny};
-ghost use Rattle.clr_explanations.specs.WrongItems.{unknown, wrong_at_spot, wrong_format, wrong_in_item, wrong_row_in, wrong_rule_in, wrong_table_in, wrong_text};
+ghost use Rattle.clr_explanations.specs.WrongItems.{unknown, wrong_at_spot, wrong_format, wrong_in_item, wrong_row_in, wrong_rule_in};
+ghost use Rattle.clr_explanations.specs.WrongItems.{wrong_table_in, wrong_text};
 
 use crate::inner_slips::slip_or_unknown;
 use crate::items::item_at;

@@ -19,8 +19,9 @@
 //! - `part`: the scene of the members at some positions, over the same rules, rows and finder, memory aside. `len`: how many members there are, at
 //!   most `MOST_MEMBERS`.
 //! - `first_broken`, for one member whose changes differ from the root's rows: none exactly where no need is broken after its changes but those that
-//!   were broken before, with the same rows, and else the least need that they break anew. Under a rule by which no row serves, needs that stand behind one of two new rows are left out. By
-//!   `first_broken_is_listed_first` that is the first of the newly broken needs of the changed content.
+//!   were broken before, with the same rows, and else the least need that they break anew. Under a rule by which no row serves,
+//!   needs that stand behind one of two new rows are left out. By `first_broken_is_listed_first` that is the first of the newly
+//!   broken needs of the changed content.
 #![tactic(auto)]
 
 mod asks;

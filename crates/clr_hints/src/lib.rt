@@ -6,7 +6,8 @@
 //!   of the first byte that can't stand in that text.
 //! - `nearest` [`nearest`]: the first of the names that are most alike, where one is alike enough; none else.
 //! - `metres_hint`: a hint at exactly the texts that are decimal numbers of metres with at most three decimals, with their millimetres.
-//! - `GOOD_NAME`: what a good name has. `name_hint`: where a name may be meant the hint is at the nearest, and else at all names, where there are some and not too many.
+//! - `GOOD_NAME`: what a good name has. `name_hint`: where a name may be meant the hint is at the nearest, and else at all names,
+//!   where there are some and not too many.
 //! - `table_names`, `column_names`, `join_names`, `table_of`: the names of a schema in their order, names with commas between them, and
 //!   the table of a name.
 //! - `blank_lines_hint`: a hint at exactly the texts in which nothing but carriage returns stands before a line end, behind the one before.

@@ -1,6 +1,6 @@
 //! Judging, by the rules, what commands would leave.
 
-ghost use Rattle.std.specs.Prelude.{◌≡◌, ◌<◌, true, not, length, None, Some, IfOk, OnOk, OnErr, MatchOption, if◌then◌else◌};
+ghost use Rattle.std.specs.Prelude.{◌≡◌, ◌<◌, true, not, length, None, Some, IfOk, OnOk, OnErr, MatchOption};
 ghost use Rattle.std.specs.Option.{option_copied, option_map};
 ghost use Rattle.std.specs.Result.{result_err};
 ghost use Rattle.clr_rows.specs.Contents.{Content, changes, conflicts, least_and_count, no_rows, set_cell, taken_over};

@@ -1,6 +1,7 @@
 //! Laws of covered and uncovered needs, each proved by a function that does nothing.
 
-ghost use Rattle.clr_needs.specs.Laws.{CoveredByName, CoveredByPosition, NoMoreByName, NoMoreByPosition, UncoveredByName, UncoveredByPosition, FirstBrokenAfter, FirstBrokenIsListed};
+ghost use Rattle.clr_needs.specs.Laws.{CoveredByName, CoveredByPosition, NoMoreByName, NoMoreByPosition, UncoveredByName, UncoveredByPosition};
+ghost use Rattle.clr_needs.specs.Laws.{FirstBrokenAfter, FirstBrokenIsListed};
 ghost use Rattle.clr_needs.specs.Laws.{SayTheSame};
 ghost use Rattle.clr_needs.specs.Positions.{by_position};
 ghost use Rattle.clr_needs.specs.Settings.{Setting};

@@ -1,7 +1,7 @@
 //! The content of LIVE in an office text.
 
 ghost use Rattle.std.specs.Prelude.{◌≡◌, IfOk, OnErr, Some};
-ghost use Rattle.clr_rows.specs.Contents.{no_rows, set_cell};
+ghost use Rattle.clr_rows.specs.Contents.{no_rows};
 ghost use Rattle.clr_rows.specs.Schemas.{FitsSchema};
 ghost use Rattle.clr_readings.specs.Readings.{Gives};
 ghost use Rattle.clr_rule_text.specs.Fields.{text_lacks_memory};

@@ -2,7 +2,6 @@
 
 ghost use Rattle.std.specs.Prelude.{◌≡◌, is_none, OnErr};
 ghost use Rattle.std.specs.FinMap as finite;
-ghost use Rattle.clr_deltas.specs.Differences.{no_differences};
 ghost use Rattle.clr_readings.specs.Readings.{Gives};
 ghost use Rattle.clr_rule_text.specs.Fields.{text_lacks_memory};
 ghost use Rattle.clr_office_reading.specs.Patches.{differences_at, differences_of, put_fault, with_cell, with_named_cells};

@@ -1,5 +1,5 @@
 -- Known needs that stand in a text: each is one that its rule can have over the schema, and they ascend.
-use Rattle.std.specs.Prelude.{◌≡◌, ◌≤◌, ◌<◌, ℕ, true, List, Option, Some, None, slice_get}
+use Rattle.std.specs.Prelude.{◌≡◌, ◌≤◌, ◌<◌, ℕ, true, List, Some, None, slice_get}
 use Rattle.std.specs.List.{AllByRecursion}
 use Rattle.std.specs.List.Sorted.{IsStrictlySortedBy}
 use Rattle.std.specs.declared.cmp.Ordering.TheVariants.{Less}
@@ -11,7 +11,7 @@ use Rattle.clr_rows.specs.Schemas.{cell_fault}
 use Rattle.clr_rules.specs.declared.needs.Broken.{Broken}
 use Rattle.clr_rules.specs.declared.rules.Rule.{Rule}
 use Rattle.clr_rules.specs.declared.rules.Rule.TheVariants as rule
-use Rattle.clr_rules.specs.Calls.{ask_of_parts, is_plain}
+use Rattle.clr_rules.specs.Calls.{is_plain}
 use Rattle.clr_rules.specs.Needs.{ask_of, broken_cmp}
 use Rattle.clr_rule_text.specs.Known.{greater_table, lesser_table}
 

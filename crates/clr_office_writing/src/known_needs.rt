@@ -2,7 +2,7 @@
 
 ghost use Rattle.std.specs.Prelude.{◌≡◌, ◌++◌, ◌==◌, filter, IfOk, OnOk};
 ghost use Rattle.std.specs.Option.{option_map};
-ghost use Rattle.clr_office_writing.specs.KnownData.{known_tokens, need_data, part_numbers};
+ghost use Rattle.clr_office_writing.specs.KnownData.{known_tokens, need_data};
 ghost use Rattle.clr_office_writing.specs.OfficeData.{format_number as format_meant};
 ghost use Rattle.clr_office_writing.specs.Tokens.{tokens_of};
 ghost use Rattle.clr_office_writing.specs.Values.{list_data, number_data};

@@ -4,7 +4,7 @@ ghost use Rattle.std.specs.Prelude.{◌≡◌, ◌++◌, IfOk, OnOk, string_byte
 ghost use Rattle.std.specs.Option.{option_copied};
 ghost use Rattle.clr_plan_sentences.specs.NeedCauses.{numbered_text};
 ghost use Rattle.clr_serving_rows.specs.NeedPlaces.{rule_in};
-ghost use Rattle.clr_plan_sentences.specs.ServedNeeds.{changer_name, later_text, name_of_any, second_subject_text, title_text, told_need};
+ghost use Rattle.clr_plan_sentences.specs.ServedNeeds.{changer_name, later_text, second_subject_text, title_text, told_need};
 ghost use Rattle.clr_plan_sentences.specs.Labels.{cell_label};
 ghost use Rattle.clr_merge_sets.specs.MemberChanges.{set_of};
 

@@ -2,7 +2,8 @@
 
 ghost use Rattle.std.specs.Prelude.{◌≡◌, ◌↔◌, IsTrue};
 ghost use Rattle.clr_viewports.specs.Extents.{height_of_box, width_of_box};
-ghost use Rattle.clr_viewports.specs.Viewports.{Sees, area_on, fitting_height, fitting_width, high_for, length_on, scaled_by_ratio, side, spot_on, view_of, view_width};
+ghost use Rattle.clr_viewports.specs.Viewports.{Sees, area_on, fitting_height, fitting_width, high_for, length_on, scaled_by_ratio, side, spot_on};
+ghost use Rattle.clr_viewports.specs.Viewports.{view_of, view_width};
 ghost use Rattle.clr_viewports.specs.Viewports.{wide_for};
 
 use crate::areas::Area;

@@ -3,7 +3,6 @@
 ghost use Rattle.std.specs.Prelude.{◌≡◌, ◌++◌, IfOk, OnOk};
 ghost use Rattle.std.specs.List.{flat_map};
 ghost use Rattle.std.specs.Option.{option_copied};
-ghost use Rattle.clr_member_changes.specs.Versions.{set_row};
 ghost use Rattle.clr_work_orders.specs.Remedies.{giving_up, giving_up_any, keeping, undoing, undoing_edit};
 
 use crate::actions::Action;
