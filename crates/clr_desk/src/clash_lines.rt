@@ -7,7 +7,8 @@ ghost use Rattle.clr_desk.specs.Clashes.{clash_text, clashes_text, line_of_some}
 use crate::clash_members::{beside, in_no_set};
 use crate::names_lines::names_line;
 use clr_lines::{count_line, verdict_line};
-use clr_merge_clashes::{MergeClash, MergeClashes, names_at};
+use clr_merge_clashes::{MergeClash, MergeClashes};
+use clr_merge_sets::names_at;
 use clr_rows::Schema;
 use std::alloc::{AllocError, Global};
 

@@ -4,7 +4,8 @@ ghost use Rattle.std.specs.List.{list_any, range_with_len};
 ghost use Rattle.clr_merge_sets.specs.MergeSetNames.{merge_set};
 ghost use Rattle.clr_desk.specs.Clashes.{beside, in_no_set, is_beside, is_in_no_set, is_listed_position};
 
-use clr_merge_clashes::{MergeClash, names_at};
+use clr_merge_clashes::MergeClash;
+use clr_merge_sets::names_at;
 use std::alloc::{AllocError, Global};
 
 /// Returns whether a position is among some.

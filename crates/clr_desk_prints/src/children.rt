@@ -1,26 +1,12 @@
 //! The members that names ask for.
-ghost use Rattle.std.specs.Prelude.{◌≡◌, ◌++◌, [], IfOk, OnOk};
+ghost use Rattle.std.specs.Prelude.{◌≡◌, ◌++◌, IfOk, OnOk};
 ghost use Rattle.clr_steps.specs.Readings.{name_at};
-ghost use Rattle.clr_merge_sets.specs.MergeSetNames.{merge_set};
-ghost use Rattle.clr_clearance.specs.MergeSets.{is_child};
 ghost use Rattle.clr_desk_prints.specs.Members.{child_in, children_of_root, members_or_children};
 
 use clr_engine::Office;
+use clr_merge_sets::is_child;
 use clr_office::{Names, Words};
 use std::alloc::{AllocError, Global};
-
-/// Returns whether a name is that of a child of the root.
-fn is_child(office: &Office, root: &str, name: &str) -> bool
-    ensures { result ≡ is_child office.now (merge_set root.now []) name.now }
-{
-    if name == root {
-        return false;
-    }
-    match office.parent_of(name) {
-        Some(parent) => parent == root,
-        None => false,
-    }
-}
 
 /// Adds the name of the workspace at a position, LIVE having position 0, where it is a child of the root.
 fn add_child(

@@ -1,10 +1,9 @@
 //! A small plan of everything, with the map's window in it.
 
 use clr_drawing::{
-    ALARM, Area, FAINT, GROUND, INK, PLAIN, SOFT, Sketch, Viewport, add_shape, extent_of, grow_box,
+    ALARM, Area, FAINT, GROUND, INK, PLAIN, SOFT, Sketch, Viewport, add_shape, grow_box,
 };
-use clr_map_scenes::{BESIDE, EDGE, MapScene};
-use clr_rows::Row;
+use clr_map_scenes::{BESIDE, EDGE, MapScene, extent_with_row};
 use clr_segments::Bounds;
 use clr_svg::{Anchor, Ink, PagePoint, PathCommand, Pixels, Weight};
 use std::alloc::{AllocError, Global};
@@ -73,13 +72,6 @@ fn add_rows(sketch: &mut Sketch, scene: &MapScene<'_>, view: &Viewport) -> Resul
     sketch.add_path(steps, Ink::of_line(PLAIN, Pixels::of_tenths(6)))
 }
 
-fn with_row(extent: Option<Bounds>, row: Option<&Row>) -> Option<Bounds> {
-    match row {
-        Some(row) => extent_of(extent, &row.shape),
-        None => extent,
-    }
-}
-
 /// Returns an area that is at least this wide and high.
 fn at_least(area: Area, width: i64, height: i64) -> Area {
     let width = area.width().tenths.max(width.saturating_mul(10));
@@ -103,8 +95,8 @@ fn add_design(
     };
     let mut extent = None;
     for (_, change) in set.iter() {
-        extent = with_row(extent, change.before.as_ref());
-        extent = with_row(extent, change.after.as_ref());
+        extent = extent_with_row(extent, change.before.as_ref());
+        extent = extent_with_row(extent, change.after.as_ref());
     }
     let Some(bounds) = extent else {
         return Ok(());

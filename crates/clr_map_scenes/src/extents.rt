@@ -16,8 +16,8 @@ fn extent_of_rows(rows: &Sheet) -> Option<Bounds> {
     extent
 }
 
-/// Returns the least box that holds a box and a row, where there are these.
-fn with_row(extent: Option<Bounds>, row: Option<&Row>) -> Option<Bounds> {
+/// Returns the least box that holds a box and a row, if there are these.
+pub fn extent_with_row(extent: Option<Bounds>, row: Option<&Row>) -> Option<Bounds> {
     match row {
         Some(row) => extent_of(extent, &row.shape),
         None => extent,
@@ -28,8 +28,8 @@ fn with_row(extent: Option<Bounds>, row: Option<&Row>) -> Option<Bounds> {
 fn extent_of_set(extent: Option<Bounds>, set: &ChangeSet) -> Option<Bounds> {
     let mut extent = extent;
     for (_, change) in set.iter() {
-        extent = with_row(extent, change.before.as_ref());
-        extent = with_row(extent, change.after.as_ref());
+        extent = extent_with_row(extent, change.before.as_ref());
+        extent = extent_with_row(extent, change.after.as_ref());
     }
     extent
 }

@@ -15,6 +15,7 @@ mod scenes;
 mod shown_causes;
 
 pub use designs::Designs;
+pub use extents::extent_with_row;
 pub use fields::Field;
 pub use layouts::{BESIDE, EDGE, FOOT, LEFT, PAGE_WIDTH, RIGHT, TOP};
 pub use scenes::MapScene;

@@ -12,11 +12,11 @@ use crate::lone::{causes_alone, lone_of};
 use crate::looked::looked_of;
 use crate::needs::need_clashes;
 use crate::pairs::pairs_of;
-use crate::places::{names_at, sets_at};
+use crate::places::sets_at;
 use clr_change::ChangeSet;
 use clr_clearance::Verdict;
 use clr_engine::Office;
-use clr_merge_sets::{name_fault, read_changes};
+use clr_merge_sets::{name_fault, names_at, read_changes};
 use std::alloc::{AllocError, Global};
 
 /// Returns the sets where no test of names fails.

@@ -27,4 +27,3 @@ mod shared_cells;
 pub use clash_sets::{MergeClash, MergeClashes};
 pub use clashes::{merge_clashes, merge_clashes_of};
 pub use laws::{all_are_looked_at, clashes_decide_plans, sets_decide_plans};
-pub use places::names_at;

@@ -5,37 +5,6 @@ ghost use Rattle.std.specs.List.{filter_map};
 use clr_change::ChangeSet;
 use std::alloc::{AllocError, Global};
 
-/// Adds the name at a position, if there is one.
-fn add_name<'a>(
-    names: &[&'a str],
-    position: usize,
-    list: &mut Vec<&'a str>,
-) -> Result<(), AllocError>
-    ensures { OnOk result (map (λ name. name.now) list.new.items
-        ≡ map (λ name. name.now) list.old.items ++ option_to_list (slice_get (map (λ name. name.now) names.now) position)) }
-{
-    let Some(name) = names.get(position) else {
-        return Ok(());
-    };
-    list.push(*name)?;
-    Ok(())
-}
-
-/// Returns the names at some positions; one past the end has none.
-pub fn names_at<'a>(
-    alloc: Global,
-    names: &[&'a str],
-    positions: &[usize],
-) -> Result<Vec<&'a str>, AllocError>
-    ensures { IfOk result (λ list. map (λ name. name.now) list.items ≡ filter_map (slice_get (map (λ name. name.now) names.now)) positions.now) }
-{
-    let mut list = Vec::with_capacity(alloc, positions.len())?;
-    for position in positions {
-        add_name(names, *position, &mut list)?;
-    }
-    Ok(list)
-}
-
 /// Adds the change set at a position, if there is one.
 fn add_set<'a>(
     sets: &'a [ChangeSet],

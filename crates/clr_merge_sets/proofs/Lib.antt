@@ -1,3 +1,4 @@
+pub mod ListLemmas
 pub mod MemberLemmas
 pub mod NameLemmas
 pub mod ReadLemmas

@@ -12,11 +12,14 @@
 //!   no memory was found for the changes.
 //! - `MergeSetParts::scene` [`scene`, `shared`]: the scene of those rows and changes, or the least cell
 //!   that two members change, or want of memory. `verdict_of` gives such a fault as a verdict.
+//! - `rows_of_root`: the rows of a root. `names_at`, `add_names_at`: the names of members at positions of their list. `is_child`: whether a name
+//!   is that of a child of a root.
 //! - `Plan` is what a planner says: a certificate, a verdict with an order of members, or a test of names that fails. `is_cleared` and
 //!   `is_out_of_memory` tell which of its answers a plan is.
 #![tactic(auto)]
 
 mod member_changes;
+mod member_names;
 mod merge_set_parts;
 mod merge_sets;
 mod name_lists;
@@ -25,10 +28,11 @@ mod plans;
 mod repeats;
 mod scene_faults;
 
-pub use member_changes::{read_changes, read_member_changes, row_of_version};
+pub use member_changes::{read_changes, read_member_changes, row_of_version, rows_of_root};
+pub use member_names::{add_names_at, names_at};
 pub use merge_set_parts::MergeSetParts;
 pub use merge_sets::{read_merge_set, read_merge_set_of};
 pub use name_lists::NameList;
-pub use name_tests::{fault_without_memory, name_fault};
+pub use name_tests::{fault_without_memory, is_child, name_fault};
 pub use plans::Plan;
 pub use scene_faults::verdict_of;

@@ -4,15 +4,25 @@ ghost use Rattle.std.specs.Prelude.{◌≡◌, map, IfOk};
 ghost use Rattle.std.specs.Option.{option_copied};
 ghost use Rattle.clr_steps.specs.Quiet.{MergeSet};
 ghost use Rattle.clr_steps.specs.Readings.{changes_in};
-ghost use Rattle.clr_merge_sets.specs.MemberChanges.{AreMembers, row_in};
+ghost use Rattle.clr_merge_sets.specs.MemberChanges.{AreMembers, row_in, rows_of_root};
 
 use crate::name_lists::NameList;
 use clr_change::ChangeSet;
 use clr_engine::Office;
 use clr_member_changes::MemberChanges;
 use clr_needs::VersionId;
-use clr_rows::Row;
+use clr_rows::{Row, Sheet};
 use std::alloc::{AllocError, Global};
+
+/// Returns the rows of a root, LIVE or a workspace, and none if there is no such root. They are copied.
+pub fn rows_of_root(alloc: Global, office: &Office, root: &str) -> Result<Sheet, AllocError>
+    ensures { IfOk result (λ rows. rows ≡ rows_of_root office.now root.now) }
+{
+    match office.rows(root)? {
+        Some(rows) => Ok(rows),
+        None => Ok(Sheet::new(alloc)),
+    }
+}
 
 /// Returns what a workspace changed, and nothing where there is none.
 fn changes_of(alloc: Global, office: &Office, name: &str) -> Result<ChangeSet, AllocError>

@@ -14,8 +14,8 @@ use clr_clearance::Verdict;
 use clr_engine::Office;
 use std::alloc::Global;
 
-/// Returns whether a name is that of a child of the root.
-fn is_child(office: &Office, root: &str, name: &str) -> bool
+/// Returns whether a name is that of a child of a root: of a workspace other than the root whose parent it is.
+pub fn is_child(office: &Office, root: &str, name: &str) -> bool
     ensures { (members : List (List ℕ)) → result ≡ is_child office.now (merge_set root.now members) name.now }
 {
     if name == root {

@@ -7,10 +7,11 @@ use Rattle.clr_workspaces.specs.Marks.{Name}
 use Rattle.clr_steps.specs.Offices.{Office}
 use Rattle.clr_steps.specs.Quiet.{MergeSet}
 use Rattle.clr_clearance.specs.MergeSets.{change_sets}
+use Rattle.clr_merge_sets.specs.MemberChanges.{rows_of_root}
 use Rattle.clr_merge_sets.specs.declared.plans.Plan.{Plan}
 use Rattle.clr_geojson.specs.Collections.{collection_text}
 use Rattle.clr_plan_features.specs.declared.cause_features.MarkedPlace.{MarkedPlace}
-use Rattle.clr_plan_features.specs.PlanFeatures.{cause_cells, features_of, plan_features, rows_of_root}
+use Rattle.clr_plan_features.specs.PlanFeatures.{cause_cells, features_of, plan_features}
 
 abbrev text_of : Option ℕ → Option MarkedPlace → List TableDef → List CellId → Name → List Name → List Changes → Content → List ℕ
 text_of system marked tables causes root names sets rows = collection_text system (features_of tables causes root names sets rows marked)

@@ -1,17 +1,17 @@
 -- The features of a plan.
-use Rattle.std.specs.Prelude.{◌≡◌, ℕ, pos, true, List, [], ◌∷◌, ◌++◌, codes, Option, Some, None, unwrap_or}
+use Rattle.std.specs.Prelude.{◌≡◌, ℕ, pos, true, List, [], ◌∷◌, ◌++◌, codes, Option, Some, None}
 use Rattle.clr_rows.specs.declared.cells.CellId.{CellId}
 use Rattle.clr_rows.specs.declared.places.Shape.TheVariants.{At}
 use Rattle.clr_rows.specs.declared.tables.TableDef.{TableDef}
-use Rattle.clr_rows.specs.Contents.{Changes, Content, no_rows}
+use Rattle.clr_rows.specs.Contents.{Changes, Content}
 use Rattle.clr_workspaces.specs.Marks.{Name}
 use Rattle.clr_needs.specs.declared.needs.VersionId.{VersionId}
-use Rattle.clr_steps.specs.Offices.{Office, content_of}
+use Rattle.clr_steps.specs.Offices.{Office}
 use Rattle.clr_steps.specs.Quiet.{MergeSet}
-use Rattle.clr_steps.specs.Readings.{if_stands}
 use Rattle.clr_clearance.specs.declared.verdicts.Verdict.{Verdict}
 use Rattle.clr_clearance.specs.declared.verdicts.Verdict.TheVariants as verdict
 use Rattle.clr_clearance.specs.MergeSets.{change_sets}
+use Rattle.clr_merge_sets.specs.MemberChanges.{rows_of_root}
 use Rattle.clr_merge_sets.specs.declared.plans.Plan.{Plan}
 use Rattle.clr_merge_sets.specs.declared.plans.Plan.TheVariants as plan
 use Rattle.clr_geojson.specs.declared.features.Feature.{Feature}
@@ -55,10 +55,6 @@ place_features None = []
 place_features (Some marked) = place_feature marked ∷ []
 
 -- all ----------------------------------------------------------------------------------------
-
--- the rows of a root, and none where it doesn't stand
-abbrev pub rows_of_root : Office → Name → Content
-rows_of_root o root = unwrap_or (if_stands o root (content_of o root)) no_rows
 
 -- what stands in a root and isn't changed, what each member changes, and the place of a cause, if there is one
 abbrev pub features_of : List TableDef → List CellId → Name → List Name → List Changes → Content → Option MarkedPlace → List Feature

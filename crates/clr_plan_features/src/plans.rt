@@ -4,7 +4,7 @@ ghost use Rattle.std.specs.Prelude.{◌≡◌, map, IfOk};
 ghost use Rattle.clr_steps.specs.Quiet.{MergeSet};
 ghost use Rattle.clr_merge_sets.specs.MemberChanges.{AreMembers};
 ghost use Rattle.clr_geojson.specs.Collections.{collection_text};
-ghost use Rattle.clr_plan_features.specs.PlanFeatures.{AreFeatures, features_of, rows_of_root};
+ghost use Rattle.clr_plan_features.specs.PlanFeatures.{AreFeatures, features_of};
 
 use crate::cause_cells::cause_cells;
 use crate::cause_features::{MarkedPlace, add_place, place_of_plan};
@@ -13,19 +13,9 @@ use crate::standing::add_standing;
 use clr_engine::Office;
 use clr_geojson::{begin_collection, end_collection};
 use clr_member_changes::MemberChanges;
-use clr_merge_sets::Plan;
+use clr_merge_sets::{Plan, rows_of_root};
 use clr_rows::{CellId, Schema, Sheet};
 use std::alloc::{AllocError, Global};
-
-/// Returns the rows of a root, and none where it doesn't stand.
-fn rows_of(alloc: Global, office: &Office, root: &str) -> Result<Sheet, AllocError>
-    ensures { IfOk result (λ rows. rows ≡ rows_of_root office.now root.now) }
-{
-    match office.rows(root)? {
-        Some(rows) => Ok(rows),
-        None => Ok(Sheet::new(alloc)),
-    }
-}
 
 /// Returns the features of a root's rows, of what members change and of the place of a cause, if there is one.
 fn features_text(
@@ -63,7 +53,7 @@ pub fn plan_features(
     ensures { IfOk result (λ text. (s : MergeSet) → AreMembers office.now s members.now → map (λ name. name.now) members.now.names.now ≡ s.members
         → AreFeatures office.now s plan.now system text.items) }
 {
-    let rows = rows_of(alloc, office, members.root)?;
+    let rows = rows_of_root(alloc, office, members.root)?;
     let causes = cause_cells(alloc, plan)?;
     let marked = place_of_plan(alloc, office, members, plan)?;
     let schema = office.schema();

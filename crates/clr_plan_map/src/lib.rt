@@ -2,7 +2,7 @@
 //!
 //! - `plan_map` [`map`]: the page's title begins with the word for what the plan says, which also stands on the page's last layer; and its
 //!   description ends with the lines of the plan, byte for byte.
-//! - `plan_word`: the word for what a plan says, exactly.
+//! - `plan_word`: the word for what a plan says, exactly; `plan_title`: the title that begins with it.
 //! - No label covers another (`Labels::put` of `clr_drawing`). Everything else that is seen is a value of the office or of the plan and adds
 //!   no fact; that it is drawn well is tested.
 #![tactic(auto)]
@@ -19,4 +19,4 @@ mod titles;
 mod witness_labels;
 
 pub use maps::plan_map;
-pub use titles::plan_word;
+pub use titles::{plan_title, plan_word};

@@ -5,7 +5,7 @@ ghost use Rattle.clr_plan_map.specs.Maps.{IsMap, IsMapPage, ShowsOver, plan_word
 
 use crate::labels::add_labels;
 use crate::sentences::plan_sentence;
-use crate::titles::{description_of, plan_word, title_of, verdict_layer};
+use crate::titles::{description_of, plan_title, plan_word, verdict_layer};
 use clr_drawing::{Area, GROUND, PAPER, Sketch};
 use clr_engine::Office;
 use clr_map_frames::{
@@ -15,10 +15,11 @@ use clr_map_frames::{
 use clr_map_marks::{add_haloes, add_line_marks, add_lines, add_mark, add_point_marks, add_signs};
 use clr_map_scenes::{Cause, Designs, FOOT, Field, MapScene, PAGE_WIDTH};
 use clr_member_changes::MemberChanges;
+use clr_merge_sets::rows_of_root;
 use clr_plan::Plan;
 use clr_plan_causes::{cause_of, leaders_of};
 use clr_plan_sentences::Setting;
-use clr_rows::{Schema, Sheet};
+use clr_rows::Schema;
 use clr_svg::{Ink, Layer, PagePoint, Pixels, SvgPage, write_page};
 use std::alloc::{AllocError, Global};
 
@@ -107,14 +108,6 @@ fn drawn_with(
     })
 }
 
-/// Returns the rows of a root, or none where it doesn't stand.
-fn rows_of(alloc: Global, office: &Office, root: &str) -> Result<Sheet, AllocError> {
-    match office.rows(root)? {
-        Some(rows) => Ok(rows),
-        None => Ok(Sheet::new(alloc)),
-    }
-}
-
 /// Returns what is drawn of a plan.
 fn drawn_plan(setting: Setting<'_>, plan: &Plan) -> Result<Drawn, AllocError> {
     let Setting {
@@ -122,7 +115,7 @@ fn drawn_plan(setting: Setting<'_>, plan: &Plan) -> Result<Drawn, AllocError> {
         office,
         members,
     } = setting;
-    let rows = rows_of(alloc, office, members.root)?;
+    let rows = rows_of_root(alloc, office, members.root)?;
     let designs = Designs::new(alloc, members, leaders_of(plan))?;
     let field = Field {
         alloc,
@@ -157,7 +150,7 @@ fn page_of(
 ) -> Result<SvgPage, AllocError>
     ensures { IfOk result (IsMapPage schema.now (map (λ name. name.now) members.now.names.now) members.now.root.now plan.now) }
 {
-    let title = title_of(alloc, plan, drawn.names.as_str())?;
+    let title = plan_title(alloc, plan, drawn.names.as_str())?;
     let sentence = drawn.sentence.as_str();
     let (root, names) = (members.root, members.names);
     let description = description_of(alloc, schema, names, root, plan, sentence)?;

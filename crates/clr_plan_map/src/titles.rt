@@ -64,8 +64,8 @@ pub(crate) fn verdict_layer(alloc: Global, plan: &Plan) -> Result<Layer, AllocEr
     })
 }
 
-/// Returns the title of a map: the word for what the plan says, and names.
-pub(crate) fn title_of(alloc: Global, plan: &Plan, names: &str) -> Result<Vec<u8>, AllocError>
+/// Returns the title of what shows a plan: the word for what the plan says, and behind a colon names or what else it is about.
+pub fn plan_title(alloc: Global, plan: &Plan, names: &str) -> Result<Vec<u8>, AllocError>
     ensures { IfOk result (λ title. title.items ≡ plan_word plan.now ++ codes ": " ++ names.now) }
 {
     let mut title = Vec::from_slice(alloc, plan_word(plan).as_bytes())?;

@@ -1,7 +1,6 @@
 //! The head of a report: the word for what the plan says, and the map.
 
-ghost use Rattle.std.specs.Prelude.{◌≡◌, ◌++◌, codes, IfOk};
-ghost use Rattle.clr_plan_map.specs.Maps.{plan_word};
+ghost use Rattle.std.specs.Prelude.{◌≡◌, IfOk};
 ghost use Rattle.clr_plan_page.specs.Reports.{Begins, plan_tone};
 
 use clr_html::{Block, Section, Tone};
@@ -31,16 +30,6 @@ pub(crate) fn about(alloc: Global, root: &str, members: &[&str]) -> Result<Strin
     text.push_str(" into ")?;
     text.push_str(root)?;
     Ok(text)
-}
-
-/// Returns the title of a report: the word for what the plan says, and what it is about.
-pub(crate) fn title_of(alloc: Global, plan: &Plan, about: &str) -> Result<Vec<u8>, AllocError>
-    ensures { IfOk result (λ title. title.items ≡ plan_word plan.now ++ codes ": " ++ about.now) }
-{
-    let mut title = Vec::from_slice(alloc, plan_word(plan).as_bytes())?;
-    title.extend_from_slice(b": ")?;
-    title.extend_from_slice(about.as_bytes())?;
-    Ok(title)
 }
 
 /// Returns the first section of a report: the word for what the plan says, in its tone, what it is about, and a picture.

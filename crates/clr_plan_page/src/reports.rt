@@ -12,7 +12,7 @@ use crate::cause_tables::add_cause;
 use crate::clashes::add_clashes;
 use crate::designs::add_designs;
 use crate::feet::foot_of;
-use crate::heads::{about, head_of, title_of};
+use crate::heads::{about, head_of};
 use crate::needs::add_needs;
 use crate::remedies::add_remedies;
 use crate::sections::Builder;
@@ -21,7 +21,7 @@ use clr_html::{HtmlPage, Section, write_page};
 use clr_member_changes::MemberChanges;
 use clr_plan::Plan;
 use clr_plan_causes::leaders_of;
-use clr_plan_map::plan_map;
+use clr_plan_map::{plan_map, plan_title};
 use clr_plan_sentences::{Setting, answer_words};
 use clr_rows::Schema;
 use clr_work_orders::{Trial, try_remedies};
@@ -113,7 +113,7 @@ fn page_of(
     ensures { IfOk result (IsReportPage schema.now (merge_set root.now (map (λ name. name.now) members.now)) plan.now picture.items between.items) }
 {
     let about = about(alloc, root, members)?;
-    let title = title_of(alloc, plan, about.as_str())?;
+    let title = plan_title(alloc, plan, about.as_str())?;
     let head = head_of(alloc, plan, about.as_str(), picture)?;
     let foot = foot_of(alloc, schema, root, members, plan)?;
     let mut sections = Vec::new(alloc);

@@ -5,8 +5,9 @@ ghost use Rattle.clr_merge_sets.specs.MergeSetNames.{merge_set};
 ghost use Rattle.clr_work_orders.specs.Making.{is_blocked};
 ghost use Rattle.clr_work_orders.specs.Trials.{HasRefusedOrder, TellsIfCleared};
 
-use crate::suspects::{add_suspects, order_of, suspects_among};
+use crate::suspects::{order_of, suspects_among};
 use clr_engine::Office;
+use clr_merge_sets::add_names_at;
 use clr_plan::{Plan, plan};
 use std::alloc::{AllocError, Global};
 
@@ -58,6 +59,6 @@ pub(crate) fn are_cleared<'a>(
     if planned.is_out_of_memory() {
         return Err(AllocError);
     }
-    add_suspects(names, order_of(&planned), suspects)?;
+    add_names_at(names, order_of(&planned), suspects)?;
     Ok(planned.is_cleared())
 }

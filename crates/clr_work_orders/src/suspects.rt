@@ -1,10 +1,11 @@
 //! Members that were blocked before. Where they are blocked again, no plan of all members is needed.
 
-ghost use Rattle.std.specs.Prelude.{◌≡◌, ◌++◌, ◌∷◌, [], filter, map, option_to_list, slice_get, IfOk, OnOk};
+ghost use Rattle.std.specs.Prelude.{◌≡◌, ◌++◌, ◌∷◌, [], filter, map, slice_get, IfOk, OnOk};
 ghost use Rattle.std.specs.List.{filter_map};
 ghost use Rattle.clr_steps.specs.Names.{has};
 ghost use Rattle.clr_work_orders.specs.Making.{blocked_order};
 
+use clr_merge_sets::names_at;
 use clr_plan::Plan;
 use std::alloc::{AllocError, Global};
 
@@ -51,37 +52,6 @@ pub(crate) fn suspects_among<'a>(
     Ok(list)
 }
 
-/// Adds the name at a position, if there is one.
-fn add_suspect<'a>(
-    names: &[&'a str],
-    position: usize,
-    suspects: &mut Vec<&'a str>,
-) -> Result<(), AllocError>
-    ensures { OnOk result (map (λ name. name.now) suspects.new.items
-        ≡ map (λ name. name.now) suspects.old.items ++ option_to_list (slice_get (map (λ name. name.now) names.now) position)) }
-{
-    let Some(name) = names.get(position) else {
-        return Ok(());
-    };
-    suspects.push(*name)?;
-    Ok(())
-}
-
-/// Adds the names at some positions; one past the end has none.
-pub(crate) fn add_suspects<'a>(
-    names: &[&'a str],
-    positions: &[usize],
-    suspects: &mut Vec<&'a str>,
-) -> Result<(), AllocError>
-    ensures { OnOk result (map (λ name. name.now) suspects.new.items
-        ≡ map (λ name. name.now) suspects.old.items ++ filter_map (slice_get (map (λ name. name.now) names.now)) positions.now) }
-{
-    for position in positions {
-        add_suspect(names, *position, suspects)?;
-    }
-    Ok(())
-}
-
 /// Returns the order of a plan that is blocked, and nothing of any other plan.
 pub(crate) fn order_of(plan: &Plan) -> &[usize]
     ensures { result.now ≡ blocked_order plan.now }
@@ -101,7 +71,5 @@ pub(crate) fn first_suspects<'a>(
     ensures { IfOk result (λ suspects. map (λ name. name.now) suspects.items
         ≡ filter_map (slice_get (map (λ name. name.now) names.now)) (blocked_order plan.now)) }
 {
-    let mut suspects = Vec::new(alloc);
-    add_suspects(names, order_of(plan), &mut suspects)?;
-    Ok(suspects)
+    names_at(alloc, names, order_of(plan))
 }

@@ -2,7 +2,8 @@ use Rattle.std.proofs.Common.{◌∙◌, ◌++◌, ◌∷◌, [], List, ℕ, ap,
 use Rattle.std.specs.List.{filter_map, range_with_len}
 use Rattle.clr_merge_clashes.specs.Lone.{is_free, lone_clash}
 use Rattle.clr_merge_clashes.specs.ClashSets.{MergeClash}
-use Rattle.clr_merge_clashes.proofs.Lists.{filter_last, filter_map_last, numbers_more}
+use Rattle.clr_merge_sets.proofs.ListLemmas.{filter_map_last}
+use Rattle.clr_merge_clashes.proofs.Lists.{filter_last, numbers_more}
 use Rattle.clr_merge_clashes.proofs.lone.lone_of.Goals as goal
 
 pub loop-at-preserved : goal.loop-at-preserved

@@ -1,6 +1,6 @@
 use Rattle.std.proofs.Common.{◌∙◌, ◌++◌, ap, get_or, option_to_list, sym}
 use Rattle.clr_merge_clashes.specs.SharedCells.{earlier_clash}
-use Rattle.clr_merge_clashes.proofs.Lists.{filter_map_more}
+use Rattle.clr_merge_sets.proofs.ListLemmas.{filter_map_more}
 use Rattle.clr_merge_clashes.proofs.pairs.earlier_clashes.Goals as goal
 
 pub loop-earlier-preserved : goal.loop-earlier-preserved

@@ -1,7 +1,7 @@
 use Rattle.std.proofs.Common.{length, map, refl}
 use Rattle.std.specs.Prelude.{slice_get}
 use Rattle.std.proofs.lemmas.Option.{slice_get_past, slice_get_read}
-use Rattle.clr_merge_clashes.proofs.Lists.{none_added, one_added}
+use Rattle.clr_merge_sets.proofs.ListLemmas.{none_added, one_added}
 use Rattle.clr_merge_clashes.proofs.places.add_set.Goals as goal
 
 pub returns-in_default : goal.returns-in_default

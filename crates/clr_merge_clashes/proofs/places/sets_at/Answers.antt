@@ -1,5 +1,5 @@
 use Rattle.std.proofs.Common.{◌∙◌, ◌++◌, ap, get_or, map, option_to_list, slice_get, sym}
-use Rattle.clr_merge_clashes.proofs.Lists.{filter_map_more}
+use Rattle.clr_merge_sets.proofs.ListLemmas.{filter_map_more}
 use Rattle.clr_merge_clashes.proofs.places.sets_at.Goals as goal
 
 pub loop-position-preserved : goal.loop-position-preserved

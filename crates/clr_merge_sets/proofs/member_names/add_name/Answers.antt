@@ -1,6 +1,6 @@
 use Rattle.std.proofs.Common.{map, slice_get}
-use Rattle.clr_merge_clashes.proofs.Lists.{none_added, one_added, read_at, read_past}
-use Rattle.clr_merge_clashes.proofs.places.add_name.Goals as goal
+use Rattle.clr_merge_sets.proofs.ListLemmas.{none_added, one_added, read_at, read_past}
+use Rattle.clr_merge_sets.proofs.member_names.add_name.Goals as goal
 
 pub returns-in_default : goal.returns-in_default
 returns-in_default c =

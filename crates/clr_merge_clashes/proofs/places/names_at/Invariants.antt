@@ -1,7 +1,0 @@
-use Rattle.std.proofs.Common.{◌≡◌, map, slice_get, take}
-use Rattle.std.specs.List.{filter_map}
-use Rattle.clr_merge_clashes.proofs.places.names_at.Given as goal
-
--- the names at the positions so far
-abbrev pub invariant-loop-position : goal.invariant-loop-position
-invariant-loop-position l = map (λ name. name.now) l.list.items ≡ filter_map (slice_get (map (λ name. name.now) l.names)) (take l.position-index l.positions)
