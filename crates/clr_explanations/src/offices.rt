@@ -83,7 +83,7 @@ fn remark_in(alloc: Global, text: &[u8], json: &Json, found: Found) -> Result<Re
 
 /// Returns a hint as a text of its own.
 fn own_hint(alloc: Global, hint: Option<&str>) -> Result<Option<String>, AllocError>
-    ensures { IfOk result (λ found. option_map string_bytes found ≡ option_map (λ words. words.now) hint) }
+    ensures { IfOk result (λ found. option_map string_bytes found ≡ option_map (λ words. words.now) hint.entry) }
 {
     match hint {
         Some(words) => Ok(Some(String::from_str(alloc, words)?)),
@@ -93,7 +93,6 @@ fn own_hint(alloc: Global, hint: Option<&str>) -> Result<Option<String>, AllocEr
 
 /// Returns what is said of a text that is no JSON, which the reader of JSON tells by a line and a
 /// column.
-#[tactic(auto, using(crate::proofs::Values::json_told))]
 fn remark_on_json(
     alloc: Global,
     text: &[u8],
