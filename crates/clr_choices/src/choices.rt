@@ -8,9 +8,10 @@ ghost use Rattle.clr_choices.specs.Progress.{IsChosen, IsProgress};
 
 use crate::guesses::{fitting, guess};
 use crate::progress::{Progress, go_on};
-use crate::trials::{plan_members, texts};
+use crate::trials::plan_members;
 use clr_cert::Certificate;
 use clr_engine::Office;
+use clr_merge_sets::texts_of_names;
 use clr_plan::Plan;
 use clr_rows::Words;
 use std::alloc::{AllocError, Global};
@@ -51,7 +52,7 @@ fn plan_names(
 ) -> Result<Plan, AllocError>
     ensures { IfOk result (IsPlanOf office.now (merge_set root.now names.now)) }
 {
-    let members = texts(alloc, names)?;
+    let members = texts_of_names(alloc, names)?;
     Ok(plan_members(alloc, office, root, members.as_slice()))
 }
 

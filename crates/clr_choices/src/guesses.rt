@@ -1,9 +1,8 @@
 //! Which names are probably taken. This is a guess that no contract speaks of: whoever asks for it has a plan show that these are cleared.
 
-use crate::trials::texts;
 use clr_engine::Office;
 use clr_merge_clashes::{MergeClash, merge_clashes};
-use clr_merge_sets::name_fault;
+use clr_merge_sets::{name_fault, texts_of_names};
 use clr_rows::Words;
 use std::alloc::{AllocError, Global};
 
@@ -70,7 +69,7 @@ pub(crate) fn guess(
     names: &[Words],
 ) -> Result<Vec<Words>, AllocError> {
     let all = fitting(alloc, office, root, names)?;
-    let members = texts(alloc, all.as_slice())?;
+    let members = texts_of_names(alloc, all.as_slice())?;
     match merge_clashes(alloc, office, root, members.as_slice()) {
         Ok(found) => names_apart(alloc, all.as_slice(), found.clashes.as_slice()),
         Err(_) => Ok(Vec::new(alloc)),

@@ -7,6 +7,7 @@ ghost use Rattle.clr_choices.specs.Progress.{IsTried};
 
 use clr_cert::Certificate;
 use clr_engine::Office;
+use clr_merge_sets::texts_of_names;
 use clr_plan::{Plan, plan, plan_lines};
 use clr_rows::{Schema, Words};
 use std::alloc::{AllocError, Global};
@@ -20,17 +21,6 @@ pub(crate) enum TriedName {
     Left(Vec<u8>),
 }
 
-/// Returns the texts of names.
-pub(crate) fn texts<'a>(alloc: Global, names: &'a [Words]) -> Result<Vec<&'a str>, AllocError>
-    ensures { IfOk result (λ texts. map (λ text. text.now) texts.items ≡ names.entry.now) }
-{
-    let mut texts = Vec::with_capacity(alloc, names.len())?;
-    for name in names {
-        texts.push(name.as_str())?;
-    }
-    Ok(texts)
-}
-
 /// Returns the first of some names, and one more.
 fn members_with<'a>(
     alloc: Global,
@@ -40,7 +30,7 @@ fn members_with<'a>(
 ) -> Result<Vec<&'a str>, AllocError>
     ensures { IfOk result (λ texts. map (λ text. text.now) texts.items ≡ take count cleared.entry.now ++ name.entry.now ∷ []) }
 {
-    let mut members = texts(alloc, cleared)?;
+    let mut members = texts_of_names(alloc, cleared)?;
     members.truncate(count);
     members.push(name.as_str())?;
     Ok(members)

@@ -9,7 +9,8 @@ use crate::independent_members::{Independence, independence_of};
 use crate::lines_of_pairs::lines_of_independence;
 use crate::member_pairs::Pair;
 use clr_engine::Office;
-use clr_office_reports::{Output, texts_of_names};
+use clr_merge_sets::texts_of_names;
+use clr_office_reports::Output;
 use clr_rows::Words;
 use std::alloc::{AllocError, Global};
 

@@ -12,8 +12,8 @@
 //!   no memory was found for the changes.
 //! - `MergeSetParts::scene` [`scene`, `shared`]: the scene of those rows and changes, or the least cell
 //!   that two members change, or want of memory. `verdict_of` gives such a fault as a verdict.
-//! - `rows_of_root`: the rows of a root. `names_at`, `add_names_at`: the names of members at positions of their list. `is_child`: whether a name
-//!   is that of a child of a root.
+//! - `rows_of_root`: the rows of a root. `texts_of_names`: the texts of names. `names_at`, `add_names_at`: the names of members at
+//!   positions of their list. `is_child`: whether a name is that of a child of a root.
 //! - `Plan` is what a planner says: a certificate, a verdict with an order of members, or a test of names that fails. `is_cleared` and
 //!   `is_out_of_memory` tell which of its answers a plan is.
 #![tactic(auto)]
@@ -29,7 +29,7 @@ mod repeats;
 mod scene_faults;
 
 pub use member_changes::{read_changes, read_member_changes, row_of_version, rows_of_root};
-pub use member_names::{add_names_at, names_at};
+pub use member_names::{add_names_at, names_at, texts_of_names};
 pub use merge_set_parts::MergeSetParts;
 pub use merge_sets::{read_merge_set, read_merge_set_of};
 pub use name_lists::NameList;

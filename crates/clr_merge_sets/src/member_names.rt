@@ -1,9 +1,21 @@
-//! The names of members at positions of a list.
+//! The names of members: their texts, and those at positions of a list.
 
 ghost use Rattle.std.specs.Prelude.{◌≡◌, ◌++◌, map, option_to_list, slice_get, IfOk, OnOk};
 ghost use Rattle.std.specs.List.{filter_map};
 
+use clr_rows::Words;
 use std::alloc::{AllocError, Global};
+
+/// Returns the texts of names.
+pub fn texts_of_names<'a>(alloc: Global, names: &'a [Words]) -> Result<Vec<&'a str>, AllocError>
+    ensures { IfOk result (λ texts. map (λ text. text.now) texts.items ≡ names.entry.now) }
+{
+    let mut texts = Vec::with_capacity(alloc, names.len())?;
+    for name in names {
+        texts.push(name.as_str())?;
+    }
+    Ok(texts)
+}
 
 /// Adds the name at a position, if there is one.
 fn add_name<'a>(

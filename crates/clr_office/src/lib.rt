@@ -39,8 +39,8 @@
 //!   known how much was.
 //! - For other programs: the lines of parts, `verdict_output`, `fault_output`, `replies_output` and
 //!   `stop_output`, by which what such a program prints is the same, and `merge_commands`. What is
-//!   printed of an office without its plans is in `clr_office_reports`, of which `open_office`, `dump_text`,
-//!   `texts_of_names`, `read_input`, `Output` and `RunFault` are handed on.
+//!   printed of an office without its plans is in `clr_office_reports`, of which `open_office`, `dump_text`
+//!   and `Output` are handed on, as are `texts_of_names`, `read_input` and `RunFault` of others.
 //! - `Source`, `Sink`, `Text`, `Page` and `Port`, what a run reads from and writes to, are those of
 //!   `clr_streams`.
 #![tactic(auto)]
@@ -61,8 +61,9 @@ pub use clr_cert::{CertFault, Certificate, Entries, Entry};
 pub use clr_check::{Checked, check_texts};
 pub use clr_clearance::Verdict;
 pub use clr_command_line::{Ask, AskFault, ask_of};
+pub use clr_merge_sets::texts_of_names;
 pub use clr_needs::{Need, VersionId};
-pub use clr_office_reports::{Output, dump_text, open_office, texts_of_names};
+pub use clr_office_reports::{Output, dump_text, open_office};
 pub use clr_office_texts::TextFault;
 pub use clr_plan::Plan;
 pub use clr_process_io::{MOST_INPUT_BYTES, RunFault, read_input};

@@ -5,7 +5,8 @@ ghost use Rattle.clr_office.specs.Outcomes.{IsPlanOutcome};
 ghost use Rattle.clr_office_reports.specs.Outcomes.{outcome_of};
 
 use clr_engine::Office;
-use clr_office_reports::{Output, texts_of_names};
+use clr_merge_sets::texts_of_names;
+use clr_office_reports::Output;
 use clr_plan::{plan, plan_lines};
 use clr_rows::Words;
 use std::alloc::{AllocError, Global};

@@ -14,6 +14,11 @@ use Rattle.clr_rule_text.specs.declared.formats.Format.TheVariants.{First, Secon
 use Rattle.clr_readings.specs.Readings.{◌>>=◌}
 use Rattle.clr_rule_text.specs.Fields.{each, field_of, list_at, array_of, words_at, words_of}
 
+-- the word for what a column holds
+abbrev pub kind_word : Kind → List ℕ
+kind_word kind.Int = codes "INT"
+kind_word kind.Words = codes "TEXT"
+
 abbrev pub kind_named : List ℕ → Result Kind TextFault
 kind_named word = if bytes_eq word (codes "INT") then Ok kind.Int else (if bytes_eq word (codes "TEXT") then Ok kind.Words else Err BadField)
 

@@ -4,7 +4,7 @@ ghost use Rattle.std.specs.Prelude.{◌≡◌};
 ghost use Rattle.clr_readings.specs.Readings.{Gives};
 ghost use Rattle.clr_rule_text.specs.Fields.{text_lacks_memory};
 ghost use Rattle.clr_rule_text.specs.Seen.{items_seen};
-ghost use Rattle.clr_office_reading.specs.Tables.{column_of, columns_of, form_of, kind_of, pair_of, path_in, table_of, tables_of};
+ghost use Rattle.clr_office_reading.specs.Tables.{column_of, columns_of, form_of, kind_of, kind_word, pair_of, path_in, table_of, tables_of};
 
 use crate::formats::Format;
 use clr_rows::{Columns, Form, Kind, TableDef, Words};
@@ -13,6 +13,16 @@ use clr_rule_text::fields::{field, list, list_in, words, words_from, words_in};
 use clr_rule_text::json_values::JsonValue;
 use clr_rule_text::lists::read_items;
 use std::alloc::Global;
+
+/// Returns the word for what a column holds.
+pub fn kind_word(kind: Kind) -> &'static str
+    ensures { result.now ≡ kind_word kind }
+{
+    match kind {
+        Kind::Int => "INT",
+        Kind::Words => "TEXT",
+    }
+}
 
 fn kind<J: JsonValue>(json: &J) -> Result<Kind, TextFault>
     ensures { Gives text_lacks_memory (λ k. k) result (kind_of (J.stands_for json.now)) }

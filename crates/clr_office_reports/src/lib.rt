@@ -9,17 +9,15 @@
 //!   aside. What `dump_text` gives is also read as the same office [`again`].
 //! - `open_office` [`meant`, `answer`] gives the office of a text whose broken needs are known, or what is answered in its
 //!   place; `draft_of` [`draft`, `known`, `fault`] a draft and its known needs, and `unheld_output` the line of a need that is
-//!   broken and isn't known. `texts_of_names` are the texts of names.
+//!   broken and isn't known.
 #![tactic(auto)]
 
-mod name_texts;
 mod offices;
 mod outputs;
 mod replies;
 mod reports;
 mod workspaces;
 
-pub use name_texts::texts_of_names;
 pub use offices::{draft_of, open_office, unheld_output};
 pub use outputs::Output;
 pub use replies::reply_output;

@@ -18,12 +18,12 @@ use Rattle.clr_rule_text.specs.Fields.{each}
 use Rattle.clr_office_reading.specs.Fits.{FitsOffice}
 use Rattle.clr_office_reading.specs.Offices.{OfficeText, format_of, office_of, schema_of}
 use Rattle.clr_rule_text.specs.Rules.{rules_of, stated_rules_of}
-use Rattle.clr_office_reading.specs.Tables.{column_of, columns_of, form_named, kind_named, pair_of, path_in, table_of, tables_of}
+use Rattle.clr_office_reading.specs.Tables.{column_of, columns_of, form_named, kind_named, kind_word, pair_of, path_in, table_of, tables_of}
 use Rattle.clr_office_reading.specs.Workspaces.{deltas_of}
 use Rattle.clr_office_writing.specs.KnownFits.{FitsKnown}
 use Rattle.clr_office_writing.specs.Laws.{HaveParents, ReadsBack}
 use Rattle.clr_office_writing.specs.OfficeData.{office_data}
-use Rattle.clr_office_writing.specs.TableData.{column_data, form_word, kind_word, table_data}
+use Rattle.clr_office_writing.specs.TableData.{column_data, form_word, table_data}
 use Rattle.clr_office_writing.proofs.ListsRead.{any_read}
 use Rattle.clr_office_writing.proofs.CellsRead.{rows_again, rows_read}
 use Rattle.clr_office_writing.proofs.KnownRules.{rules_stand, stated_read, without_all}

@@ -2,15 +2,11 @@
 use Rattle.std.specs.Prelude.{ℕ, List, codes}
 use Rattle.serde_json.specs.Data.{Data, string, array, object, no_items, item, member, no_members}
 use Rattle.clr_rows.specs.declared.tables.Kind.{Kind}
-use Rattle.clr_rows.specs.declared.tables.Kind.TheVariants as kind
 use Rattle.clr_rows.specs.declared.tables.Form.{Form}
 use Rattle.clr_rows.specs.declared.tables.Form.TheVariants as form
 use Rattle.clr_rows.specs.declared.tables.TableDef.{TableDef}
+use Rattle.clr_office_reading.specs.Tables.{kind_word}
 use Rattle.clr_office_writing.specs.Values.{list_data}
-
-abbrev pub kind_word : Kind → List ℕ
-kind_word kind.Int = codes "INT"
-kind_word kind.Words = codes "TEXT"
 
 abbrev pub form_word : Form → List ℕ
 form_word form.Bare = codes "NONE"

@@ -1,23 +1,15 @@
 //! Tables of a schema, written as JSON.
 
 ghost use Rattle.std.specs.Prelude.{◌≡◌, ◌++◌, IfOk, OnOk};
-ghost use Rattle.clr_office_writing.specs.TableData.{column_data, form_word, kind_word, table_data};
+ghost use Rattle.clr_office_writing.specs.TableData.{column_data, form_word, table_data};
 ghost use Rattle.clr_office_writing.specs.Tokens.{tokens_of};
 ghost use Rattle.clr_office_writing.specs.Values.{list_data};
 
 use crate::json_texts::JsonText;
 use crate::lists::write_each;
+use clr_office_reading::tables::kind_word;
 use clr_rows::{Form, Kind, Schema, TableDef, Words};
 use std::alloc::AllocError;
-
-fn kind_text(kind: Kind) -> &'static str
-    ensures { result.now ≡ kind_word kind }
-{
-    match kind {
-        Kind::Int => "INT",
-        Kind::Words => "TEXT",
-    }
-}
 
 fn form_text(form: Form) -> &'static str
     ensures { result.now ≡ form_word form }
@@ -35,7 +27,7 @@ fn write_column(text: &mut JsonText, column: &(Words, Kind)) -> Result<(), Alloc
 {
     text.begin_array()?;
     text.string(column.0.as_str())?;
-    text.string(kind_text(column.1))?;
+    text.string(kind_word(column.1))?;
     text.end_array()
 }
 

@@ -17,6 +17,7 @@ use Rattle.clr_rows.specs.Schemas.{is_coordinate, is_key, names_of}
 use Rattle.clr_text_positions.specs.declared.paths.Key.{Key}
 use Rattle.clr_text_positions.specs.declared.paths.Key.TheVariants as key
 use Rattle.clr_text_positions.specs.declared.paths.PathStep.TheVariants as step
+use Rattle.clr_office_reading.specs.Tables.{kind_word}
 use Rattle.clr_item_explanations.specs.Rows.{coordinates_text}
 use Rattle.clr_item_explanations.specs.Tellings.{OfName, OfValue, Plain, Telling, Wrong, at_key, first_wrong, itself}
 use Rattle.clr_item_explanations.specs.Values.{items_at, table_called, text_at, value_at, whole_number}
@@ -37,17 +38,13 @@ unfoldable pub wrong_value_count : TableDef → Data → Wrong
 wrong_value_count table d =
     at_key key.V (Plain (decimal (length (items_at key.V d)) ++ codes " values; " ++ columns_text table (names_of table.columns)))
 
-abbrev pub kind_text : Kind → List ℕ
-kind_text kind.Int = codes "INT"
-kind_text kind.Words = codes "TEXT"
-
 -- a text stands in a column of numbers, or what is no text in one of texts
 abbrev pub is_of_other_kind : Kind → Data → Bool
 is_of_other_kind kind.Int d = is_some (as_str d)
 is_of_other_kind kind.Words d = not (is_some (as_str d))
 
 unfoldable pub column_text : List ℕ → Kind → List ℕ
-column_text name k = codes "column " ++ name ++ codes " is " ++ kind_text k ++ codes ", and "
+column_text name k = codes "column " ++ name ++ codes " is " ++ kind_word k ++ codes ", and "
 
 -- of a value that stands in a column: the column's name and its kind, the value, and of which kind that is
 abbrev pub of_column : List ℕ × Kind → ℕ × Data → Wrong

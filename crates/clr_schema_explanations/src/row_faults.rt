@@ -7,7 +7,7 @@ ghost use Rattle.clr_lines.specs.Replies.{row_fault_name};
 ghost use Rattle.clr_hints.specs.Values.{kind_in_words};
 ghost use Rattle.clr_rows.specs.Schemas.{names_of};
 ghost use Rattle.clr_text_positions.specs.declared.paths.Key.TheVariants as key;
-ghost use Rattle.clr_schema_explanations.specs.RowFaults.{byte_count, columns_text, far_coordinate, far_key, kind_text, number_or_zero, of_column};
+ghost use Rattle.clr_schema_explanations.specs.RowFaults.{byte_count, columns_text, far_coordinate, far_key, number_or_zero, of_column};
 ghost use Rattle.clr_schema_explanations.specs.RowFaults.{is_of_other_kind, of_far_coordinate, of_far_key, of_long_text, out_of_range, unknown_table};
 ghost use Rattle.clr_schema_explanations.specs.RowFaults.{wrong_in_table, wrong_kind, wrong_length, wrong_of_row, wrong_shape, wrong_value_count};
 ghost use Rattle.clr_schema_explanations.specs.RowFaults.{column_text, far_key_words, far_words, long_text_words, of_other_kind, shape_words, too_far};
@@ -20,6 +20,7 @@ use clr_hints::{
 };
 use clr_item_explanations::{Slip, coordinates_of, count_at, items_at, or_words, text_at};
 use clr_lines::row_fault_word;
+use clr_office_reading::tables::kind_word;
 use clr_rows::{
     GREATEST_COORDINATE, GREATEST_KEY, Kind, MOST_TEXT_BYTES, RowFault, Schema, TableDef,
 };
@@ -33,15 +34,6 @@ fn column_at(table: &TableDef, at: usize) -> Option<(&str, Kind)>
 {
     let column = table.columns.as_slice().get(at)?;
     Some((column.0.as_str(), column.1))
-}
-
-fn kind_word(kind: Kind) -> &'static str
-    ensures { result.now ≡ kind_text kind }
-{
-    match kind {
-        Kind::Int => "INT",
-        Kind::Words => "TEXT",
-    }
 }
 
 /// Returns that a table has no columns.
