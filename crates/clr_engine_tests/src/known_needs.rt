@@ -98,10 +98,12 @@ fn line_of(alloc: Global, draft: &Draft, unheld: Option<(usize, Broken)>) -> Opt
 fn line_of_admission(alloc: Global, draft: Draft, known: &[Broken]) -> Option<Vec<u8>> {
     match draft.admit(known) {
         Ok(_) => Some(Vec::new(alloc)),
-        Err((draft, AdmitFault::Broken { position, need })) => {
-            line_of(alloc, &draft, Some((position, need)))
-        }
-        Err(_) => None,
+        Err((draft, fault)) => match fault {
+            AdmitFault::Broken { position, need } => {
+                line_of(alloc, &draft, Some((position, need)))
+            }
+            AdmitFault::OutOfMemory => None,
+        },
     }
 }
 

@@ -101,7 +101,7 @@ impl Counts {
 }
 
 /// Returns how the plans of two hundred offices turn out.
-fn counts(alloc: Global) -> Result<Counts, Fail> {
+fn counts_of_plans(alloc: Global) -> Result<Counts, Fail> {
     let mut counts = Counts {
         refused: 0,
         alike: 0,
@@ -118,7 +118,7 @@ fn counts(alloc: Global) -> Result<Counts, Fail> {
 /// with refreshes among them.
 #[test]
 fn plans_of_offices_with_old_errors(rt: HostRuntime) -> Result<(), Fail> {
-    let found = counts(rt.alloc())?;
+    let found = counts_of_plans(rt.alloc())?;
     assert!(rt;
         found.wrong == 0 && found.refused > 0 && found.alike > 0,
         "{found:?}"
