@@ -10,8 +10,7 @@ use Rattle.clr_desk_prints.specs.Printing.{IsFoundPlan, PrintoutOrFault, plan_te
 
 -- the map of the plan of a merge set
 abbrev pub IsMapOfSet : Office → MergeSet → PrintoutOrFault → Type 0
-IsMapOfSet o s print =
-    (p : Plan) × (text : List ℕ) × IsFoundPlan o s p × IsMap o.schema s.members s.root p text × (print ≡ plan_text_print text p)
+IsMapOfSet o s print = (p : Plan) × (text : List ℕ) × IsFoundPlan o s p × IsMap o s p text × (print ≡ plan_text_print text p)
 
 -- of the members that names ask for
 abbrev pub IsMapPrint : Name → List Name → Office → PrintoutOrFault → Type 0

@@ -1,1 +1,3 @@
+pub mod LabelWords
 pub mod Maps
+pub mod Sentences

@@ -1,24 +1,44 @@
 //! The labels of a cause: what it says, and its rows.
 
+ghost use Rattle.std.specs.Prelude.{◌≡◌, ◌++◌, string_bytes, IfOk, OnOk};
+ghost use Rattle.clr_map_frames.specs.Headings.{design_names};
+ghost use Rattle.clr_plan_map.specs.LabelWords.{cause_label, owner_text};
+
 use crate::anchors::anchors_of;
 use crate::chips::{Look, add_label};
 use clr_drawing::{Area, Labels, SOFT, Sketch};
 use clr_map_marks::{Marked, marked_spot};
-use clr_map_scenes::{Cause, CauseRow, MapScene};
+use clr_map_scenes::{Cause, CauseRow, Designs, MapScene};
+use clr_plan_sentences::add_label as add_cell;
 use clr_svg::{Colour, Pixels};
 use std::alloc::AllocError;
 
-/// Returns a row as a label names it: its table, its key, and the design that has it.
-fn row_words(scene: &MapScene<'_>, row: &CauseRow) -> Result<String, AllocError> {
-    let table = scene.field.schema.name_of_table(row.cell.table);
-    let key = row.cell.key;
-    match row.owner {
+/// Adds the design that has a row, if one has it.
+fn add_owner(
+    text: &mut String,
+    designs: &Designs<'_>,
+    owner: Option<usize>,
+) -> Result<(), AllocError>
+    ensures { OnOk result (string_bytes text.new ≡ string_bytes text.old ++ owner_text (design_names designs.now) owner) }
+{
+    match owner {
         Some(at) => {
-            let name = scene.field.designs.name(at);
-            format!(in scene.field.alloc; "{table} {key} · {name}")
+            text.push_str(" · ")?;
+            text.push_str(designs.name(at))
         }
-        None => format!(in scene.field.alloc; "{table} {key}"),
+        None => Ok(()),
     }
+}
+
+/// Returns a row as a label names it: its table, its key, and the design that has it.
+fn row_words(scene: &MapScene<'_>, row: &CauseRow) -> Result<String, AllocError>
+    ensures { IfOk result (λ text. string_bytes text
+        ≡ cause_label scene.now.field.schema.now (design_names scene.now.field.designs.now) row.now) }
+{
+    let mut text = String::new(scene.field.alloc);
+    add_cell(&mut text, scene.field.schema, row.cell)?;
+    add_owner(&mut text, scene.field.designs, row.owner)?;
+    Ok(text)
 }
 
 /// Writes labels for the rows of a cause.

@@ -1,7 +1,11 @@
 //! The map of a plan.
 
-ghost use Rattle.std.specs.Prelude.{map, IfOk};
-ghost use Rattle.clr_plan_map.specs.Maps.{IsMap, IsMapPage, ShowsOver, plan_word};
+ghost use Rattle.std.specs.Prelude.{◌≡◌, ◌++◌, codes, string_bytes, IfOk};
+ghost use Rattle.clr_merge_sets.specs.MemberChanges.{set_of};
+ghost use Rattle.clr_plan.specs.PlanLines.{plan_text};
+ghost use Rattle.clr_map_frames.specs.Headings.{design_names_text};
+ghost use Rattle.clr_plan_map.specs.Maps.{IsMap, ShowsOver, TellsNames, plan_word};
+ghost use Rattle.clr_plan_map.specs.Sentences.{plan_sentence};
 
 use crate::labels::add_labels;
 use crate::sentences::plan_sentence;
@@ -19,17 +23,22 @@ use clr_merge_sets::rows_of_root;
 use clr_plan::Plan;
 use clr_plan_causes::{cause_of, leaders_of};
 use clr_plan_sentences::Setting;
-use clr_rows::Schema;
 use clr_svg::{Ink, Layer, PagePoint, Pixels, SvgPage, write_page};
 use std::alloc::{AllocError, Global};
+
+/// What a map says of a plan beside its verdict: the names of the designs, and the plan in a sentence or two.
+#[derive(Drop)]
+struct MapWords {
+    names: String,
+    sentence: String,
+}
 
 /// What is drawn of a plan beside its verdict.
 #[derive(Drop)]
 struct Drawn {
     height: Pixels,
     layers: Vec<Layer>,
-    names: String,
-    sentence: String,
+    words: MapWords,
 }
 
 /// Returns the sheet of the page, and the ground of the map.
@@ -73,43 +82,53 @@ fn inner_layer(scene: &MapScene<'_>) -> Result<Layer, AllocError> {
     Ok(sketch.into_layer_within(scene.frame()))
 }
 
-/// Returns what is drawn of a plan with this cause, if it has one.
-fn drawn_with(
+/// Returns what is drawn of a plan with this cause, if it has one, below these words: a layer each, and how high the page is.
+fn drawn_layers(
     field: Field<'_>,
-    setting: Setting<'_>,
+    office: &Office,
     plan: &Plan,
     cause: Option<&Cause>,
-) -> Result<Drawn, AllocError> {
+    words: &MapWords,
+) -> Result<(Vec<Layer>, Pixels), AllocError> {
     let scene = MapScene::new(field, cause);
     let height = scene.frame().bottom + FOOT;
-    let names = names_text(field)?;
-    let sentence = plan_sentence(setting, plan)?;
     let mut layers = Vec::with_capacity(field.alloc, 4)?;
     layers.push(paper(&scene, height)?)?;
     layers.push(inner_layer(&scene)?)?;
     let (legend, down) = legend_of(&scene)?;
     let mut outer = Sketch::new(field.alloc);
     add_axes(&mut outer, &scene)?;
-    add_labels(&mut outer, &scene, setting.office, plan)?;
+    add_labels(&mut outer, &scene, office, plan)?;
     add_heading(
         &mut outer,
         plan_word(plan),
-        names.as_str(),
-        sentence.as_str(),
+        words.names.as_str(),
+        words.sentence.as_str(),
     )?;
     add_inset(&mut outer, &scene, down)?;
     layers.push(outer.into_layer())?;
     layers.push(legend)?;
-    Ok(Drawn {
-        height,
-        layers,
-        names,
-        sentence,
+    Ok((layers, height))
+}
+
+/// Returns the names of the designs, and the plan in a sentence or two.
+fn words_of(setting: Setting<'_>, field: Field<'_>, plan: &Plan) -> Result<MapWords, AllocError>
+    ensures names { IfOk result (λ words. string_bytes words.names ≡ design_names_text field.entry.designs.now) }
+    ensures sentence { IfOk result (λ words. string_bytes words.sentence
+        ≡ plan_sentence setting.entry.office.now (set_of setting.entry.members.now) plan.now) }
+{
+    Ok(MapWords {
+        names: names_text(field)?,
+        sentence: plan_sentence(setting, plan)?,
     })
 }
 
 /// Returns what is drawn of a plan.
-fn drawn_plan(setting: Setting<'_>, plan: &Plan) -> Result<Drawn, AllocError> {
+fn drawn_plan(setting: Setting<'_>, plan: &Plan) -> Result<Drawn, AllocError>
+    ensures names { IfOk result (λ drawn. TellsNames (set_of setting.entry.members.now) plan.now (string_bytes drawn.words.names)) }
+    ensures sentence { IfOk result (λ drawn. string_bytes drawn.words.sentence
+        ≡ plan_sentence setting.entry.office.now (set_of setting.entry.members.now) plan.now) }
+{
     let Setting {
         alloc,
         office,
@@ -123,8 +142,14 @@ fn drawn_plan(setting: Setting<'_>, plan: &Plan) -> Result<Drawn, AllocError> {
         rows: &rows,
         designs: &designs,
     };
+    let words = words_of(setting, field, plan)?;
     let cause = cause_of(alloc, office, members, plan)?;
-    drawn_with(field, setting, plan, cause.as_ref())
+    let (layers, height) = drawn_layers(field, office, plan, cause.as_ref(), &words)?;
+    Ok(Drawn {
+        height,
+        layers,
+        words,
+    })
 }
 
 /// Layers with the word for what a plan says over them.
@@ -133,7 +158,7 @@ fn with_verdict(
     plan: &Plan,
     mut layers: Vec<Layer>,
 ) -> Result<Vec<Layer>, AllocError>
-    ensures { IfOk result (λ shown. ShowsOver shown.items (plan_word plan.now)) }
+    ensures { IfOk result (λ shown. ShowsOver plan.now shown.items) }
 {
     let verdict = verdict_layer(alloc, plan)?;
     layers.push(verdict)?;
@@ -141,19 +166,21 @@ fn with_verdict(
 }
 
 /// Returns the page of what is drawn of a plan, with its verdict over it.
-fn page_of(
-    alloc: Global,
-    schema: &Schema,
-    members: &MemberChanges<'_>,
-    plan: &Plan,
-    drawn: Drawn,
-) -> Result<SvgPage, AllocError>
-    ensures { IfOk result (IsMapPage schema.now (map (λ name. name.now) members.now.names.now) members.now.root.now plan.now) }
+fn page_of(setting: Setting<'_>, plan: &Plan, drawn: Drawn) -> Result<SvgPage, AllocError>
+    ensures title { IfOk result (λ page. page.title.items ≡ plan_word plan.now ++ codes ": " ++ string_bytes drawn.words.names) }
+    ensures description { IfOk result (λ page. page.description.items ≡ string_bytes drawn.words.sentence ++ codes "\n"
+        ++ plan_text setting.entry.office.now.schema (set_of setting.entry.members.now).members (set_of setting.entry.members.now).root plan.now) }
+    ensures shown { IfOk result (λ page. ShowsOver plan.now page.layers.items) }
 {
-    let title = plan_title(alloc, plan, drawn.names.as_str())?;
-    let sentence = drawn.sentence.as_str();
+    let Setting {
+        alloc,
+        office,
+        members,
+    } = setting;
+    let title = plan_title(alloc, plan, drawn.words.names.as_str())?;
+    let sentence = drawn.words.sentence.as_str();
     let (root, names) = (members.root, members.names);
-    let description = description_of(alloc, schema, names, root, plan, sentence)?;
+    let description = description_of(alloc, office.schema(), names, root, plan, sentence)?;
     let layers = with_verdict(alloc, plan, drawn.layers)?;
     Ok(SvgPage {
         width: PAGE_WIDTH,
@@ -164,16 +191,17 @@ fn page_of(
     })
 }
 
-/// Returns the map of a plan of members of a root, as the text of a page of vector graphics. Its title begins with the word for what the
-/// plan says, its last layer shows that word, and its description ends with the lines of the plan. Each text of the office is escaped. The
-/// rows are those of the root, with what each member changes over them; the map shows what is round the cause, or else round the changes.
+/// Returns the map of a plan of members of a root, as the text of a page of vector graphics. Its title is the word for what the plan says, with
+/// the names of the designs. Its last layer shows that word alone, in the colour of what the plan says. Its description is the plan in a sentence
+/// or two, and then the lines of the plan. Each text of the office is escaped. The rows are those of the root, with what each member changes over
+/// them; the map shows what is round the cause, or else round the changes.
 pub fn plan_map(
     alloc: Global,
     office: &Office,
     members: &MemberChanges<'_>,
     plan: &Plan,
 ) -> Result<Vec<u8>, AllocError>
-    ensures map { IfOk result (λ text. IsMap office.now.schema (map (λ name. name.now) members.now.names.now) members.now.root.now plan.now text.items) }
+    ensures map { IfOk result (λ text. IsMap office.now (set_of members.now) plan.now text.items) }
 {
     let setting = Setting {
         alloc,
@@ -181,7 +209,7 @@ pub fn plan_map(
         members,
     };
     let drawn = drawn_plan(setting, plan)?;
-    let page = page_of(alloc, office.schema(), members, plan, drawn)?;
+    let page = page_of(setting, plan, drawn)?;
     let text = write_page(alloc, &page)?;
     Ok(text)
 }

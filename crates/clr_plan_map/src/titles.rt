@@ -1,8 +1,11 @@
 //! The words of a map: its verdict, its title and its description.
 
-ghost use Rattle.std.specs.Prelude.{◌≡◌, ◌++◌, codes, map, string_bytes, IfOk};
+ghost use Rattle.std.specs.Prelude.{◌≡◌, ◌++◌, codes, map, IfOk};
 ghost use Rattle.clr_plan.specs.PlanLines.{plan_text};
-ghost use Rattle.clr_plan_map.specs.Maps.{ShowsFirst, plan_word};
+ghost use Rattle.clr_drawing.specs.Sketches.{IsWords};
+ghost use Rattle.clr_svg.specs.declared.elements.Anchor.TheVariants as anchor;
+ghost use Rattle.clr_svg.specs.declared.elements.Weight.TheVariants as weight;
+ghost use Rattle.clr_plan_map.specs.Maps.{ShowsVerdict, plan_colour, plan_word, verdict_size, verdict_spot};
 
 use clr_drawing::{ALARM, CAUTION, CLEAR};
 use clr_map_frames::VERDICT_SIZE;
@@ -11,6 +14,12 @@ use clr_plan::{Plan, plan_lines};
 use clr_rows::Schema;
 use clr_svg::{Anchor, Colour, Element, Label, Layer, PagePoint, Pixels, Weight};
 use std::alloc::{AllocError, Global};
+
+/// Where the word for what a plan says begins.
+const VERDICT_SPOT: PagePoint = PagePoint {
+    x: LEFT,
+    y: Pixels { tenths: 460 },
+};
 
 /// Returns the word for what a plan says: that its members are cleared, that they aren't, that they weren't looked at, or that memory ran out.
 pub fn plan_word(plan: &Plan) -> &'static str
@@ -25,7 +34,9 @@ pub fn plan_word(plan: &Plan) -> &'static str
 }
 
 /// Returns the colour of the word for what a plan says.
-fn plan_colour(plan: &Plan) -> Colour {
+fn plan_colour(plan: &Plan) -> Colour
+    ensures { result ≡ plan_colour plan.now }
+{
     match plan {
         Plan::Cleared(_) => CLEAR,
         Plan::Blocked { .. } => ALARM,
@@ -35,14 +46,11 @@ fn plan_colour(plan: &Plan) -> Colour {
 
 /// Returns the word for what a plan says, as a label.
 fn verdict_label(alloc: Global, plan: &Plan) -> Result<Label, AllocError>
-    ensures { IfOk result (λ label. string_bytes label.words ≡ plan_word plan.now) }
+    ensures { IfOk result (IsWords (plan_word plan.now) verdict_spot verdict_size (plan_colour plan.now) anchor.Start weight.Strong) }
 {
     let words = String::from_str(alloc, plan_word(plan))?;
     Ok(Label {
-        at: PagePoint {
-            x: LEFT,
-            y: Pixels::whole(46),
-        },
+        at: VERDICT_SPOT,
         anchor: Anchor::Start,
         size: VERDICT_SIZE,
         weight: Weight::Strong,
@@ -53,7 +61,7 @@ fn verdict_label(alloc: Global, plan: &Plan) -> Result<Label, AllocError>
 
 /// Returns the layer with the word for what a plan says.
 pub(crate) fn verdict_layer(alloc: Global, plan: &Plan) -> Result<Layer, AllocError>
-    ensures { IfOk result (λ layer. ShowsFirst layer.elements.items (plan_word plan.now)) }
+    ensures { IfOk result (ShowsVerdict plan.now) }
 {
     let label = verdict_label(alloc, plan)?;
     let mut elements = Vec::new(alloc);

@@ -1,5 +1,8 @@
 //! Labels beside the rows that serve needs.
 
+ghost use Rattle.std.specs.Prelude.{◌≡◌, ◌++◌, string_bytes, IfOk, OnOk};
+ghost use Rattle.clr_plan_map.specs.LabelWords.{then_text, witness_label};
+
 use crate::anchors::anchors_of;
 use crate::chips::{Look, add_label};
 use clr_cert::Entry;
@@ -7,29 +10,36 @@ use clr_drawing::{Labels, SOFT, Sketch};
 use clr_engine::Office;
 use clr_map_scenes::MapScene;
 use clr_merge_sets::{Plan, row_of_version};
-use clr_rows::CellId;
+use clr_needs::VersionId;
+use clr_plan_sentences::add_label as add_cell;
+use clr_rows::Schema;
 use clr_svg::Pixels;
 use std::alloc::AllocError;
 
 /// The most entries of a certificate whose witnesses have labels.
 const MOST_ENTRIES: usize = 12;
 
-/// Returns a cell as a label names it.
-fn cell_words(scene: &MapScene<'_>, cell: CellId) -> Result<String, AllocError> {
-    let table = scene.field.schema.name_of_table(cell.table);
-    let key = cell.key;
-    format!(in scene.field.alloc; "{table} {key}")
+/// Adds the row that serves a need then, if there is one.
+fn add_then(text: &mut String, schema: &Schema, then: Option<VersionId>) -> Result<(), AllocError>
+    ensures { OnOk result (string_bytes text.new ≡ string_bytes text.old ++ then_text schema.now then) }
+{
+    match then {
+        Some(version) => {
+            text.push_str(", then ")?;
+            add_cell(text, schema, version.cell)
+        }
+        None => Ok(()),
+    }
 }
 
-/// Returns who serves a need, and until when.
-fn witness_words(scene: &MapScene<'_>, entry: &Entry) -> Result<String, AllocError> {
-    let mut words = cell_words(scene, entry.one.cell)?;
-    if let Some(two) = entry.two {
-        words.push_str(", then ")?;
-        let then = cell_words(scene, two.cell)?;
-        words.push_str(then.as_str())?;
-    }
-    Ok(words)
+/// Returns who serves a need, and who does then.
+fn witness_words(scene: &MapScene<'_>, entry: &Entry) -> Result<String, AllocError>
+    ensures { IfOk result (λ text. string_bytes text ≡ witness_label scene.now.field.schema.now entry.now) }
+{
+    let mut text = String::new(scene.field.alloc);
+    add_cell(&mut text, scene.field.schema, entry.one.cell)?;
+    add_then(&mut text, scene.field.schema, entry.two)?;
+    Ok(text)
 }
 
 /// Writes a label beside a witness that designs change.

@@ -1,3 +1,3 @@
-mod ClashLemmas
+mod DesignLemmas
+mod ReasonLemmas
 mod SectionLemmas
-mod TrialLemmas

@@ -1,11 +1,6 @@
 -- The smallest sets of the designs that can't be merged together, as a report tells them.
-use Rattle.std.specs.Prelude.{◌≡◌, ◌⊎◌, ℕ, Bool, true, false, List, [], ◌∷◌, ◌++◌, Option, Some, codes, map, slice_get}
+use Rattle.std.specs.Prelude.{◌≡◌, ◌⊎◌, ◌==◌, ℕ, Bool, true, false, List, [], ◌∷◌, Some, codes, length, map, slice_get, if◌then◌else◌}
 use Rattle.std.specs.List.{filter_map}
-use Rattle.clr_html.specs.declared.blocks.Block.{Block}
-use Rattle.clr_html.specs.declared.blocks.Block.TheVariants as block
-use Rattle.clr_html.specs.declared.tables.TableRow.{TableRow}
-use Rattle.clr_html.specs.declared.tables.Table.{Table}
-use Rattle.clr_html.specs.Words.{words_of_row, words_of_text}
 use Rattle.clr_workspaces.specs.Marks.{Name}
 use Rattle.clr_steps.specs.Offices.{Office}
 use Rattle.clr_steps.specs.Quiet.{MergeSet}
@@ -15,49 +10,40 @@ use Rattle.clr_clearance.specs.Verdicts.{names_fault}
 use Rattle.clr_merge_clashes.specs.declared.clash_sets.MergeClash.{MergeClash}
 use Rattle.clr_merge_clashes.specs.declared.clash_sets.MergeClashes.{MergeClashes}
 use Rattle.clr_merge_clashes.specs.MergeClashes.{FindsClashes}
+use Rattle.clr_merge_sets.specs.MergeSetNames.{merge_set}
 use Rattle.clr_phrases.specs.Lists.{names_text}
-use Rattle.clr_plan_page.specs.Sections.{ArePlain, IsHeading, IsParagraph}
+use Rattle.clr_plan_sentences.specs.Causes.{reason_text}
+use Rattle.clr_plan_page.specs.Shown.{Shown, Heading, Paragraph, Table}
 
--- the designs of a set, as a sentence lists them
-abbrev pub set_words : List Name → MergeClash → List ℕ
-set_words members clash = names_text (filter_map (slice_get members) clash.members.items)
+-- the designs of a set
+abbrev pub set_names : List Name → MergeClash → List Name
+set_names members clash = filter_map (slice_get members) clash.members.items
 
--- the words of a row's first cell
-abbrev pub first_words : TableRow → Option (List ℕ)
-first_words row = slice_get (words_of_row row) 0
+-- designs of a root, and why they can't be merged together; the cause numbers them from 0 among themselves
+abbrev pub set_row : Office → Name → List Name → Verdict → List (List ℕ)
+set_row o root names cause = names_text names ∷ reason_text o (merge_set root names) cause ∷ []
 
--- a table with a row for each set, in their order
-pub record AreSetsShown (members : List Name) (clashes : List MergeClash) (b : Block) : Type 0 where
-  pub table : Table
-  pub shown : b ≡ block.Table table
-  pub heads : map words_of_text table.heads.items ≡ codes "Designs" ∷ codes "Why not together" ∷ []
-  pub rows : map first_words table.rows.items ≡ map (λ k. Some (set_words members k)) clashes
+-- the row of a set of the designs of a merge set
+abbrev pub clash_row : Office → MergeSet → MergeClash → List (List ℕ)
+clash_row o s clash = set_row o s.root (set_names s.members clash) clash.cause
 
--- the sets, or that there is none
-abbrev pub TellsSets : List Name → List MergeClash → Block → Type 0
-TellsSets members [] b = IsParagraph (codes "No set of these designs clashes.") b
-TellsSets members (clash ∷ clashes) b = AreSetsShown members (clash ∷ clashes) b
+abbrev pub set_heads : List (List ℕ)
+set_heads = codes "Designs" ∷ codes "Why not together" ∷ []
 
-abbrev pub TellsFound : List Name → MergeClashes → List Block → Type 0
-TellsFound members found blocks =
-    (heading b : Block) × IsHeading (codes "The clashes") heading × TellsSets members found.clashes.items b × (blocks ≡ heading ∷ b ∷ [])
+-- a row for each set, in their order; or that there is none
+abbrev pub sets_shown : Office → MergeSet → List MergeClash → Shown
+sets_shown o s clashes =
+    if length clashes == 0 then Paragraph (codes "No set of these designs clashes.") else Table set_heads (map (clash_row o s) clashes)
+
+abbrev pub clashes_shown : Office → MergeSet → MergeClashes → List Shown
+clashes_shown o s found = Heading (codes "The clashes") ∷ sets_shown o s found.clashes.items ∷ []
 
 abbrev pub is_lost : Verdict → Bool
 is_lost verdict.OutOfMemory = true
 is_lost _ = false
 
 -- the sets that are found, and nothing where a name is unfit
-abbrev pub TellsClashes : Office → MergeSet → List Block → Type 0
+abbrev pub TellsClashes : Office → MergeSet → List Shown → Type 0
 TellsClashes o s blocks =
-    ((found : MergeClashes) × FindsClashes o s found × TellsFound s.members found blocks)
+    ((found : MergeClashes) × FindsClashes o s found × (blocks ≡ clashes_shown o s found))
     ⊎ ((fault : Verdict) × (names_fault o s ≡ Some fault) × (blocks ≡ []))
-
--- what each design changes, and then the clashes
-pub record AreDesigns (o : Office) (s : MergeSet) (blocks : List Block) : Type 0 where
-  pub heading : Block
-  pub designs : List Block
-  pub told : List Block
-  pub heads : IsHeading (codes "The designs") heading
-  pub plain : ArePlain designs
-  pub clashes : TellsClashes o s told
-  pub whole : blocks ≡ heading ∷ designs ++ told

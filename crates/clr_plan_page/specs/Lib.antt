@@ -1,4 +1,7 @@
+pub mod Causes
 pub mod Clashes
+pub mod Designs
+pub mod Needs
 pub mod Reasons
 pub mod Reports
-pub mod Sections
+pub mod Shown

@@ -1,9 +1,7 @@
 -- What the report of a plan tells.
-use Rattle.std.specs.Prelude.{◌≡◌, ℕ, List, [], ◌∷◌, ◌++◌, true, All, codes, if◌then◌else◌}
-use Rattle.std.specs.Global.{Global}
+use Rattle.std.specs.Prelude.{◌≡◌, ◌==◌, ℕ, List, [], ◌∷◌, ◌++◌, codes, length, map, if◌then◌else◌}
 use Rattle.std.specs.List.{flat_map}
 use Rattle.std.specs.Str.{bytes_eq}
-use Rattle.std.specs.declared.vec.Vec.{Vec}
 use Rattle.clr_rows.specs.declared.tables.TableDef.{TableDef}
 use Rattle.clr_rows.specs.Names.{live_name}
 use Rattle.clr_workspaces.specs.Marks.{Name}
@@ -12,19 +10,17 @@ use Rattle.clr_steps.specs.Quiet.{MergeSet}
 use Rattle.clr_merge_sets.specs.declared.plans.Plan.{Plan}
 use Rattle.clr_merge_sets.specs.declared.plans.Plan.TheVariants as plan
 use Rattle.clr_plan.specs.PlanLines.{plan_text}
-use Rattle.clr_html.specs.declared.blocks.Block.{Block}
-use Rattle.clr_html.specs.declared.blocks.Block.TheVariants as block
+use Rattle.clr_phrases.specs.Lists.{names_text}
 use Rattle.clr_html.specs.declared.blocks.Tone.{Tone}
 use Rattle.clr_html.specs.declared.blocks.Tone.TheVariants.{Good, Bad, Neither}
 use Rattle.clr_html.specs.declared.pages.HtmlPage.{HtmlPage}
-use Rattle.clr_html.specs.declared.pages.Section.{Section}
 use Rattle.clr_html.specs.Pages.{html_page_text}
-use Rattle.clr_html.specs.Words.{is_escaped}
 use Rattle.clr_work_orders.specs.declared.trials.Trial.{Trial}
 use Rattle.clr_work_orders.specs.Trials.{AreTrialsOf}
 use Rattle.clr_plan_map.specs.Maps.{IsMap, plan_word}
-use Rattle.clr_plan_page.specs.Clashes.{AreDesigns}
+use Rattle.clr_plan_page.specs.Designs.{AreDesigns}
 use Rattle.clr_plan_page.specs.Reasons.{IsWhy}
+use Rattle.clr_plan_page.specs.Shown.{Shown, Heading, Lines, Paragraph, Picture, Verdict, section_shown}
 use Rattle.clr_plan_page.specs.declared.feet.TheConstants.{PLAN, PLANUNDER}
 
 -- the command ----------------------------------------------------------------------------------
@@ -41,7 +37,7 @@ under_text root = if bytes_eq root live_name then PLAN.now else PLANUNDER.now ++
 unfoldable pub command_text : List Name → Name → List ℕ
 command_text members root = under_text root ++ flat_map word_text members ++ codes "\n"
 
--- the page -------------------------------------------------------------------------------------
+-- the head -------------------------------------------------------------------------------------
 
 -- whether what a plan says is welcome
 abbrev pub plan_tone : Plan → Tone
@@ -50,44 +46,58 @@ plan_tone (plan.Blocked order cause) = Bad
 plan_tone (plan.Unfit v) = Neither
 plan_tone plan.OutOfMemory = Neither
 
--- a section of two blocks: the first shows the word for what a plan says, in the tone of the plan, and the second this picture
-abbrev pub Begins : Plan → List ℕ → Section → Type 0
-Begins p picture section =
-    (shown about drawn : Vec ℕ Global)
-    × (section.blocks.items ≡ block.Verdict (plan_tone p) shown about ∷ block.Picture drawn ∷ [])
-    × (shown.items ≡ plan_word p) × (drawn.items ≡ picture)
+abbrev pub members_text : List Name → List ℕ
+members_text members = if length members == 0 then codes "nothing" else names_text members
 
--- the last block of a section is these lines, and each text above is escaped
-abbrev pub EndsWith : Section → List ℕ → Type 0
-EndsWith section lines =
-    (above : List Block) × (last : Vec ℕ Global) × All (λ b. is_escaped b ≡ true) above × (section.blocks.items ≡ above ++ block.Lines last ∷ [])
-    × (last.items ≡ lines)
+-- who is to be merged into what
+abbrev pub about_text : List Name → Name → List ℕ
+about_text members root = members_text members ++ codes " into " ++ root
+
+-- the word for what a plan says, in the tone of the plan, and what it is about; and this picture
+abbrev pub head_shown : Plan → List ℕ → List ℕ → List Shown
+head_shown p about picture = Verdict (plan_tone p) (plan_word p) about ∷ Picture picture ∷ []
+
+-- the foot -------------------------------------------------------------------------------------
+
+-- what the lines of a plan are
+abbrev pub note_text : Plan → List ℕ
+note_text (plan.Cleared c) =
+    codes "This page stands on the lines that this command prints; DB is the file of the office. The lines behind the first "
+    ++ codes "are a certificate, which clr_office check reads."
+note_text _ = codes "This page stands on the lines that this command prints; DB is the file of the office."
+
+-- the command that prints the lines of a plan, and these lines
+abbrev pub lines_text : List TableDef → List Name → Name → Plan → List ℕ
+lines_text tables members root p = command_text members root ++ plan_text tables members root p
+
+abbrev pub foot_shown : List TableDef → List Name → Name → Plan → List Shown
+foot_shown tables members root p =
+    Heading (codes "To look again") ∷ Paragraph (note_text p) ∷ Lines (lines_text tables members root p) ∷ []
+
+-- the page -------------------------------------------------------------------------------------
 
 -- why a plan says what it says, with these trials, and then the designs with their clashes; no verdict and no picture is among these
-pub record AreBetween (o : Office) (s : MergeSet) (p : Plan) (trials : List Trial) (sections : List Section) : Type 0 where
-  pub why : Section
-  pub designs : Section
+pub record AreBetween (o : Office) (s : MergeSet) (p : Plan) (trials : List Trial) (sections : List (List Shown)) : Type 0 where
+  pub why : List Shown
+  pub designs : List Shown
   pub whole : sections ≡ why ∷ designs ∷ []
-  pub reasons : IsWhy p trials why.blocks.items
-  pub told : AreDesigns o s designs.blocks.items
+  pub reasons : IsWhy o s p trials why
+  pub told : AreDesigns o s designs
 
 -- a page that begins with the word for a plan and with a picture, and ends with the command and the lines of the plan; between are these sections
-pub record IsReportPage (tables : List TableDef) (s : MergeSet) (p : Plan) (picture : List ℕ) (between : List Section) (page : HtmlPage) : Type 0 where
-  pub about : List ℕ
-  pub head : Section
-  pub foot : Section
-  pub title : page.title.items ≡ plan_word p ++ codes ": " ++ about
-  pub sections : page.sections.items ≡ head ∷ between ++ foot ∷ []
-  pub begins : Begins p picture head
-  pub ends : EndsWith foot (command_text s.members s.root ++ plan_text tables s.members s.root p)
+pub record IsReportPage (tables : List TableDef) (s : MergeSet) (p : Plan) (picture : List ℕ) (between : List (List Shown)) (page : HtmlPage) : Type 0
+  where
+    pub title : page.title.items ≡ plan_word p ++ codes ": " ++ about_text s.members s.root
+    pub sections : map section_shown page.sections.items
+        ≡ head_shown p (about_text s.members s.root) picture ∷ (between ++ foot_shown tables s.members s.root p ∷ [])
 
 -- the text of such a page, whose picture is the map of the plan
 pub record IsReport (o : Office) (s : MergeSet) (p : Plan) (text : List ℕ) : Type 0 where
   pub picture : List ℕ
   pub trials : List Trial
-  pub between : List Section
+  pub between : List (List Shown)
   pub page : HtmlPage
-  pub map : IsMap o.schema s.members s.root p picture
+  pub map : IsMap o s p picture
   pub tried : AreTrialsOf o s p trials
   pub told : AreBetween o s p trials between
   pub shown : IsReportPage o.schema s p picture between page

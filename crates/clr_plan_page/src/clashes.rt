@@ -1,16 +1,15 @@
 //! The smallest sets of members that can't be merged together.
 
-ghost use Rattle.std.specs.Prelude.{◌≡◌, ◌++◌, Some, false, map, string_bytes, IfOk, OnOk};
-ghost use Rattle.clr_html.specs.declared.blocks.Block.TheVariants as block;
+ghost use Rattle.std.specs.Prelude.{◌≡◌, ◌++◌, ◌∷◌, [], false, map, string_bytes, IfOk, OnOk};
+ghost use Rattle.clr_html.specs.Words.{words_of_row};
 ghost use Rattle.clr_merge_sets.specs.MemberChanges.{AreMembers, set_of};
-ghost use Rattle.clr_merge_sets.specs.MergeSetNames.{merge_set};
 ghost use Rattle.clr_phrases.specs.Lists.{names_text as listed_names};
-ghost use Rattle.clr_plan_page.specs.Clashes.{AreSetsShown, TellsClashes, TellsFound, TellsSets, first_words, is_lost, set_words};
-ghost use Rattle.clr_plan_page.specs.Sections.{Adds, AddsOne};
+ghost use Rattle.clr_plan_page.specs.Clashes.{TellsClashes, clash_row, clashes_shown, is_lost, set_heads, set_row, sets_shown};
+ghost use Rattle.clr_plan_page.specs.Shown.{Adds, heads_of, rows_of, shown};
 
 use crate::sections::{Builder, row_of, table_of};
 use clr_clearance::Verdict;
-use clr_html::{Block, Table, TableRow};
+use clr_html::{Table, TableRow};
 use clr_member_changes::MemberChanges;
 use clr_merge_clashes::{MergeClash, MergeClashes, merge_clashes_of};
 use clr_merge_sets::names_at;
@@ -27,15 +26,15 @@ fn join_names(alloc: Global, names: &[&str]) -> Result<String, AllocError>
     Ok(text)
 }
 
-/// Returns the row of a set: its members, and why they can't be merged together. No member's changes are looked at for that.
-fn clash_row(setting: Setting<'_>, clash: &MergeClash) -> Result<TableRow, AllocError>
-    ensures { IfOk result (λ row. first_words row ≡ Some (set_words (map (λ name. name.now) setting.entry.members.now.names.now) clash.now)) }
+/// Returns the row of members with these names: who they are, and why they can't be merged together. No member's changes are looked at for that.
+fn set_row(setting: Setting<'_>, names: &[&str], cause: &Verdict) -> Result<TableRow, AllocError>
+    ensures { IfOk result (λ row. words_of_row row
+        ≡ set_row setting.entry.office.now setting.entry.members.now.root.now (map (λ name. name.now) names.now) cause.now) }
 {
     let alloc = setting.alloc;
-    let names = names_at(alloc, setting.members.names, clash.members.as_slice())?;
     let members = MemberChanges {
         root: setting.members.root,
-        names: names.as_slice(),
+        names,
         changes: Vec::new(alloc),
     };
     let among = Setting {
@@ -43,9 +42,21 @@ fn clash_row(setting: Setting<'_>, clash: &MergeClash) -> Result<TableRow, Alloc
         office: setting.office,
         members: &members,
     };
-    let reason = among.reason(&clash.cause)?;
-    let list = join_names(alloc, names.as_slice())?;
+    let reason = among.reason(cause)?;
+    let list = join_names(alloc, names)?;
     row_of(alloc, &[list.as_str(), reason.as_str()])
+}
+
+/// Returns the row of a set: its members, and why they can't be merged together.
+fn clash_row(setting: Setting<'_>, clash: &MergeClash) -> Result<TableRow, AllocError>
+    ensures { IfOk result (λ row. words_of_row row ≡ clash_row setting.entry.office.now (set_of setting.entry.members.now) clash.now) }
+{
+    let names = names_at(
+        setting.alloc,
+        setting.members.names,
+        clash.members.as_slice(),
+    )?;
+    set_row(setting, names.as_slice(), &clash.cause)
 }
 
 /// Adds the rows of sets.
@@ -54,8 +65,8 @@ fn add_rows(
     clashes: &[MergeClash],
     rows: &mut Vec<TableRow>,
 ) -> Result<(), AllocError>
-    ensures { OnOk result (map first_words rows.new.items ≡ map first_words rows.old.items
-        ++ map (λ clash. Some (set_words (map (λ name. name.now) setting.entry.members.now.names.now) clash)) clashes.now) }
+    ensures { OnOk result (map words_of_row rows.new.items ≡ map words_of_row rows.old.items
+        ++ map (clash_row setting.entry.office.now (set_of setting.entry.members.now)) clashes.now) }
 {
     for clash in clashes {
         rows.push(clash_row(setting, clash)?)?;
@@ -64,8 +75,9 @@ fn add_rows(
 }
 
 /// Returns the table of sets.
-fn clashes_table(setting: Setting<'_>, clashes: &[MergeClash]) -> Result<Table, AllocError>
-    ensures { IfOk result (λ table. AreSetsShown (map (λ name. name.now) setting.entry.members.now.names.now) clashes.now (block.Table table)) }
+fn sets_table(setting: Setting<'_>, clashes: &[MergeClash]) -> Result<Table, AllocError>
+    ensures heads { IfOk result (λ table. heads_of table ≡ set_heads) }
+    ensures rows { IfOk result (λ table. rows_of table ≡ map (clash_row setting.entry.office.now (set_of setting.entry.members.now)) clashes.now) }
 {
     let mut table = table_of(setting.alloc, &["Designs", "Why not together"])?;
     add_rows(setting, clashes, &mut table.rows)?;
@@ -78,14 +90,14 @@ fn add_sets(
     setting: Setting<'_>,
     clashes: &[MergeClash],
 ) -> Result<(), AllocError>
-    ensures { OnOk result (AddsOne (TellsSets (map (λ name. name.now) setting.entry.members.now.names.now) clashes.now)
-        section.old.blocks.items section.new.blocks.items) }
+    ensures { OnOk result (map shown section.new.blocks.items ≡ map shown section.old.blocks.items
+        ++ sets_shown setting.entry.office.now (set_of setting.entry.members.now) clashes.now ∷ []) }
 {
     if clashes.is_empty() {
         return section.add_paragraph("No set of these designs clashes.");
     }
-    let table = clashes_table(setting, clashes)?;
-    section.add(Block::Table(table))
+    let table = sets_table(setting, clashes)?;
+    section.add_table(table)
 }
 
 /// Adds the sets that were found, below a heading.
@@ -94,8 +106,8 @@ fn add_found(
     setting: Setting<'_>,
     found: &MergeClashes,
 ) -> Result<(), AllocError>
-    ensures { OnOk result (Adds (TellsFound (map (λ name. name.now) setting.entry.members.now.names.now) found.now)
-        section.old.blocks.items section.new.blocks.items) }
+    ensures { OnOk result (map shown section.new.blocks.items ≡ map shown section.old.blocks.items
+        ++ clashes_shown setting.entry.office.now (set_of setting.entry.members.now) found.now) }
 {
     section.add_heading("The clashes")?;
     add_sets(section, setting, found.clashes.as_slice())
@@ -115,9 +127,8 @@ fn unless_lost(fault: &Verdict) -> Result<(), AllocError>
 /// memory for the sets, this call fails too.
 pub(crate) fn add_clashes(section: &mut Builder, setting: Setting<'_>) -> Result<(), AllocError>
     requires { AreMembers setting.office.now (set_of setting.members.now) setting.members.now }
-    ensures { OnOk result (Adds (TellsClashes setting.entry.office.now
-        (merge_set setting.entry.members.now.root.now (map (λ name. name.now) setting.entry.members.now.names.now)))
-        section.old.blocks.items section.new.blocks.items) }
+    ensures { OnOk result (Adds (TellsClashes setting.entry.office.now (set_of setting.entry.members.now))
+        (map shown section.old.blocks.items) (map shown section.new.blocks.items)) }
 {
     match merge_clashes_of(
         setting.alloc,

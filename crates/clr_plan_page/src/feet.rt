@@ -2,8 +2,8 @@
 
 ghost use Rattle.std.specs.Prelude.{◌≡◌, ◌++◌, codes, map, IfOk, OnOk};
 ghost use Rattle.std.specs.List.{flat_map};
-ghost use Rattle.clr_plan.specs.PlanLines.{plan_text};
-ghost use Rattle.clr_plan_page.specs.Reports.{EndsWith, command_text, under_text, word_text};
+ghost use Rattle.clr_plan_page.specs.Reports.{command_text, foot_shown, lines_text, note_text, under_text, word_text};
+ghost use Rattle.clr_plan_page.specs.Shown.{section_shown};
 
 use clr_html::{Block, InlineText, Section};
 use clr_plan::{Plan, plan_lines};
@@ -69,8 +69,7 @@ fn lines_of(
     members: &[&str],
     plan: &Plan,
 ) -> Result<Vec<u8>, AllocError>
-    ensures { IfOk result (λ text. text.items ≡ command_text (map (λ name. name.now) members.now) root.now
-        ++ plan_text schema.now (map (λ name. name.now) members.now) root.now plan.now) }
+    ensures { IfOk result (λ text. text.items ≡ lines_text schema.now (map (λ name. name.now) members.now) root.now plan.now) }
 {
     let lines = plan_lines(alloc, schema, members, root, plan)?;
     let mut text = Vec::new(alloc);
@@ -80,7 +79,9 @@ fn lines_of(
 }
 
 /// Returns what the lines at the foot of a report are.
-fn note_of(plan: &Plan) -> &'static str {
+fn note_of(plan: &Plan) -> &'static str
+    ensures { result.now ≡ note_text plan.now }
+{
     match plan {
         Plan::Cleared(_) => {
             "This page stands on the lines that this command prints; DB is the file of the office. The lines behind the first \
@@ -100,8 +101,7 @@ pub(crate) fn foot_of(
     members: &[&str],
     plan: &Plan,
 ) -> Result<Section, AllocError>
-    ensures { IfOk result (λ section. EndsWith section (command_text (map (λ name. name.now) members.now) root.now
-        ++ plan_text schema.now (map (λ name. name.now) members.now) root.now plan.now)) }
+    ensures { IfOk result (λ section. section_shown section ≡ foot_shown schema.now (map (λ name. name.now) members.now) root.now plan.now) }
 {
     let heading = Vec::from_slice(alloc, b"To look again")?;
     let note = Vec::from_slice(alloc, note_of(plan).as_bytes())?;

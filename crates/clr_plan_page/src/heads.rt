@@ -1,7 +1,8 @@
 //! The head of a report: the word for what the plan says, and the map.
 
-ghost use Rattle.std.specs.Prelude.{◌≡◌, IfOk};
-ghost use Rattle.clr_plan_page.specs.Reports.{Begins, plan_tone};
+ghost use Rattle.std.specs.Prelude.{◌≡◌, ◌++◌, map, string_bytes, IfOk, OnOk};
+ghost use Rattle.clr_plan_page.specs.Reports.{about_text, head_shown, members_text, plan_tone};
+ghost use Rattle.clr_plan_page.specs.Shown.{section_shown};
 
 use clr_html::{Block, Section, Tone};
 use clr_phrases::add_names;
@@ -20,13 +21,22 @@ fn plan_tone(plan: &Plan) -> Tone
     }
 }
 
-/// Returns who is to be merged into what.
-pub(crate) fn about(alloc: Global, root: &str, members: &[&str]) -> Result<String, AllocError> {
-    let mut text = String::new(alloc);
+/// Adds members, or that there are none.
+fn add_members(text: &mut String, members: &[&str]) -> Result<(), AllocError>
+    ensures { OnOk result (string_bytes text.new ≡ string_bytes text.old ++ members_text (map (λ name. name.now) members.now)) }
+{
     if members.is_empty() {
-        text.push_str("nothing")?;
+        return text.push_str("nothing");
     }
-    add_names(&mut text, members)?;
+    add_names(text, members)
+}
+
+/// Returns who is to be merged into what.
+pub(crate) fn about(alloc: Global, root: &str, members: &[&str]) -> Result<String, AllocError>
+    ensures { IfOk result (λ text. string_bytes text ≡ about_text (map (λ name. name.now) members.now) root.now) }
+{
+    let mut text = String::new(alloc);
+    add_members(&mut text, members)?;
     text.push_str(" into ")?;
     text.push_str(root)?;
     Ok(text)
@@ -39,7 +49,7 @@ pub(crate) fn head_of(
     about: &str,
     picture: Vec<u8>,
 ) -> Result<Section, AllocError>
-    ensures { IfOk result (Begins plan.now picture.items) }
+    ensures { IfOk result (λ section. section_shown section ≡ head_shown plan.now about.now picture.items) }
 {
     let word = Vec::from_slice(alloc, plan_word(plan).as_bytes())?;
     let about = Vec::from_slice(alloc, about.as_bytes())?;

@@ -3,12 +3,11 @@
 ghost use Rattle.std.specs.Prelude.{◌≡◌, ◌++◌, map, IfOk, OnOk};
 ghost use Rattle.std.specs.List.{flat_map};
 ghost use Rattle.clr_html.specs.Words.{words_of_row};
-ghost use Rattle.clr_plan_page.specs.Reasons.{AreTrialsShown, TellsTrials, trial_rows, trial_words};
-ghost use Rattle.clr_html.specs.declared.blocks.Block.TheVariants as block;
-ghost use Rattle.clr_plan_page.specs.Sections.{Adds};
+ghost use Rattle.clr_plan_page.specs.Causes.{rows_of_trials, trial_heads, trial_rows, trial_words, trials_shown};
+ghost use Rattle.clr_plan_page.specs.Shown.{heads_of, rows_of, shown};
 
 use crate::sections::{Builder, row_of, table_of};
-use clr_html::{Block, Table, TableRow};
+use clr_html::{Table, TableRow};
 use clr_work_orders::Trial;
 use std::alloc::{AllocError, Global};
 
@@ -54,7 +53,8 @@ fn add_trials(
 
 /// Returns the table of trials, the cleared ones first.
 fn trials_table(alloc: Global, trials: &[Trial]) -> Result<Table, AllocError>
-    ensures { IfOk result (λ table. AreTrialsShown trials.now (block.Table table)) }
+    ensures heads { IfOk result (λ table. heads_of table ≡ trial_heads) }
+    ensures rows { IfOk result (λ table. rows_of table ≡ rows_of_trials trials.now) }
 {
     let mut table = table_of(alloc, &["Tried", "Then all that are left are"])?;
     add_trials(alloc, &mut table.rows, trials, true)?;
@@ -64,12 +64,12 @@ fn trials_table(alloc: Global, trials: &[Trial]) -> Result<Table, AllocError>
 
 /// Adds what was tried and what the planner says of it, the cleared ones first; nothing where nothing was tried.
 pub(crate) fn add_remedies(section: &mut Builder, trials: &[Trial]) -> Result<(), AllocError>
-    ensures { OnOk result (Adds (TellsTrials trials.now) section.old.blocks.items section.new.blocks.items) }
+    ensures { OnOk result (map shown section.new.blocks.items ≡ map shown section.old.blocks.items ++ trials_shown trials.now) }
 {
     if trials.is_empty() {
         return Ok(());
     }
     section.add_heading("What would help, each by itself")?;
     let table = trials_table(section.alloc, trials)?;
-    section.add(Block::Table(table))
+    section.add_table(table)
 }

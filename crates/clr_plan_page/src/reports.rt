@@ -3,10 +3,11 @@
 ghost use Rattle.std.specs.Prelude.{◌≡◌, map, IfOk, OnOk};
 ghost use Rattle.clr_merge_sets.specs.MemberChanges.{AreMembers, set_of};
 ghost use Rattle.clr_merge_sets.specs.MergeSetNames.{merge_set};
-ghost use Rattle.clr_plan_page.specs.Clashes.{AreDesigns};
+ghost use Rattle.clr_plan_page.specs.Causes.{AreBlocked};
+ghost use Rattle.clr_plan_page.specs.Designs.{AreDesigns};
 ghost use Rattle.clr_plan_page.specs.Reasons.{AreReasons, IsWhy};
 ghost use Rattle.clr_plan_page.specs.Reports.{AreBetween, IsReport, IsReportPage};
-ghost use Rattle.clr_plan_page.specs.Sections.{Adds};
+ghost use Rattle.clr_plan_page.specs.Shown.{Adds, section_shown, shown};
 
 use crate::cause_tables::add_cause;
 use crate::clashes::add_clashes;
@@ -16,6 +17,7 @@ use crate::heads::{about, head_of};
 use crate::needs::add_needs;
 use crate::remedies::add_remedies;
 use crate::sections::Builder;
+use clr_clearance::Verdict;
 use clr_engine::Office;
 use clr_html::{HtmlPage, Section, write_page};
 use clr_member_changes::MemberChanges;
@@ -27,6 +29,22 @@ use clr_rows::Schema;
 use clr_work_orders::{Trial, try_remedies};
 use std::alloc::{AllocError, Global};
 
+/// Adds the cause of a no, and what was tried to help.
+fn add_blocked(
+    section: &mut Builder,
+    setting: Setting<'_>,
+    cause: &Verdict,
+    trials: &[Trial],
+) -> Result<(), AllocError>
+    requires { AreMembers setting.office.now (set_of setting.members.now) setting.members.now }
+    ensures { OnOk result (Adds (AreBlocked setting.entry.office.now (set_of setting.entry.members.now)
+        setting.entry.members.now.changes.items cause.now trials.now) (map shown section.old.blocks.items) (map shown section.new.blocks.items)) }
+{
+    let cause = setting.cause_words(cause)?;
+    add_cause(section, &cause)?;
+    add_remedies(section, trials)
+}
+
 /// Adds what serves each need of a cleared plan; or the cause of a blocked one, and what was tried to help.
 fn add_reasons(
     section: &mut Builder,
@@ -34,16 +52,15 @@ fn add_reasons(
     plan: &Plan,
     trials: &[Trial],
 ) -> Result<(), AllocError>
-    ensures { OnOk result (Adds (AreReasons plan.now trials.now) section.old.blocks.items section.new.blocks.items) }
+    requires { AreMembers setting.office.now (set_of setting.members.now) setting.members.now }
+    ensures { OnOk result (Adds (AreReasons setting.entry.office.now (set_of setting.entry.members.now)
+        setting.entry.members.now.changes.items plan.now trials.now) (map shown section.old.blocks.items) (map shown section.new.blocks.items)) }
 {
     match plan {
         Plan::Cleared(certificate) => {
             add_needs(section, setting, certificate.entries.as_slice())
         }
-        Plan::Blocked { cause, .. } => {
-            add_cause(section, setting, cause)?;
-            add_remedies(section, trials)
-        }
+        Plan::Blocked { cause, .. } => add_blocked(section, setting, cause, trials),
         Plan::Unfit(_) => Ok(()),
         Plan::OutOfMemory => Ok(()),
     }
@@ -51,7 +68,9 @@ fn add_reasons(
 
 /// Returns why a plan says what it says, and what would help.
 fn why_of(setting: Setting<'_>, plan: &Plan, trials: &[Trial]) -> Result<Section, AllocError>
-    ensures { IfOk result (λ section. IsWhy plan.now trials.now section.blocks.items) }
+    requires { AreMembers setting.office.now (set_of setting.members.now) setting.members.now }
+    ensures { IfOk result (λ section. IsWhy setting.entry.office.now (set_of setting.entry.members.now)
+        plan.now trials.now (section_shown section)) }
 {
     let mut section = Builder::new(setting.alloc);
     section.add_heading("Why")?;
@@ -64,8 +83,7 @@ fn why_of(setting: Setting<'_>, plan: &Plan, trials: &[Trial]) -> Result<Section
 /// Returns the designs, and the smallest sets of them that can't be merged together.
 fn designs_of(setting: Setting<'_>, plan: &Plan) -> Result<Section, AllocError>
     requires { AreMembers setting.office.now (set_of setting.members.now) setting.members.now }
-    ensures { IfOk result (λ section. AreDesigns setting.entry.office.now
-        (merge_set setting.entry.members.now.root.now (map (λ name. name.now) setting.entry.members.now.names.now)) section.blocks.items) }
+    ensures { IfOk result (λ section. AreDesigns setting.entry.office.now (set_of setting.entry.members.now) (section_shown section)) }
 {
     let mut section = Builder::new(setting.alloc);
     section.add_heading("The designs")?;
@@ -83,8 +101,7 @@ fn sections_between(
     trials: &[Trial],
 ) -> Result<Vec<Section>, AllocError>
     requires { AreMembers office.now (set_of members.now) members.now }
-    ensures { IfOk result (λ sections. AreBetween office.now (merge_set members.now.root.now (map (λ name. name.now) members.now.names.now))
-        plan.now trials.now sections.items) }
+    ensures { IfOk result (λ sections. AreBetween office.now (set_of members.now) plan.now trials.now (map section_shown sections.items)) }
 {
     let setting = Setting {
         alloc,
@@ -110,11 +127,13 @@ fn page_of(
     picture: Vec<u8>,
     mut between: Vec<Section>,
 ) -> Result<HtmlPage, AllocError>
-    ensures { IfOk result (IsReportPage schema.now (merge_set root.now (map (λ name. name.now) members.now)) plan.now picture.items between.items) }
+    ensures { IfOk result (IsReportPage schema.now (merge_set root.now (map (λ name. name.now) members.now)) plan.now picture.items
+        (map section_shown between.items)) }
 {
-    let about = about(alloc, root, members)?;
-    let title = plan_title(alloc, plan, about.as_str())?;
-    let head = head_of(alloc, plan, about.as_str(), picture)?;
+    let words = about(alloc, root, members)?;
+    let about = words.as_str();
+    let title = plan_title(alloc, plan, about)?;
+    let head = head_of(alloc, plan, about, picture)?;
     let foot = foot_of(alloc, schema, root, members, plan)?;
     let mut sections = Vec::new(alloc);
     sections.push(head)?;
@@ -135,8 +154,7 @@ pub fn plan_report(
     plan: &Plan,
 ) -> Result<Vec<u8>, AllocError>
     requires { AreMembers office.old (set_of members.now) members.now }
-    ensures report { IfOk result (λ text. IsReport office.old (merge_set members.now.root.now (map (λ name. name.now) members.now.names.now))
-        plan.now text.items) }
+    ensures report { IfOk result (λ text. IsReport office.old (set_of members.now) plan.now text.items) }
     ensures back { IfOk result (λ text. office.new ≡ office.old) }
 {
     let (root, names) = (members.root, members.names);

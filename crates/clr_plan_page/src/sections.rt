@@ -2,7 +2,7 @@
 
 ghost use Rattle.std.specs.Prelude.{◌≡◌, ◌++◌, ◌∷◌, [], map, IfOk, OnOk};
 ghost use Rattle.clr_html.specs.Words.{words_of_row, words_of_text};
-ghost use Rattle.clr_plan_page.specs.Sections.{Adds, AddsOne, AreSaid, IsHeading};
+ghost use Rattle.clr_plan_page.specs.Shown.{Heading, Table as ShownTable, heads_of, rows_of, said, section_shown, shown};
 
 use clr_html::{Block, InlineText, Section, Table, TableRow};
 use std::alloc::{AllocError, Global};
@@ -30,7 +30,7 @@ fn strong_text(alloc: Global, words: &str) -> Result<InlineText, AllocError>
 
 /// Returns an empty table with these heads.
 pub(crate) fn table_of(alloc: Global, heads: &[&str]) -> Result<Table, AllocError>
-    ensures heads { IfOk result (λ table. map words_of_text table.heads.items ≡ map (λ head. head.now) heads.now) }
+    ensures heads { IfOk result (λ table. heads_of table ≡ map (λ head. head.now) heads.now) }
     ensures rows { IfOk result (λ table. table.rows.items ≡ []) }
 {
     let mut texts = Vec::with_capacity(alloc, heads.len())?;
@@ -79,7 +79,7 @@ impl Builder {
 
     /// Adds a heading.
     pub(crate) fn add_heading(&mut self, words: &str) -> Result<(), AllocError>
-        ensures { OnOk result (AddsOne (IsHeading words.now) self.old.blocks.items self.new.blocks.items) }
+        ensures { OnOk result (map shown self.new.blocks.items ≡ map shown self.old.blocks.items ++ Heading words.now ∷ []) }
     {
         let words = Vec::from_slice(self.alloc, words.as_bytes())?;
         self.add(Block::Heading(words))
@@ -87,7 +87,7 @@ impl Builder {
 
     /// Adds a paragraph, where there are words for one.
     pub(crate) fn add_paragraph(&mut self, words: &str) -> Result<(), AllocError>
-        ensures { OnOk result (Adds (AreSaid words.now) self.old.blocks.items self.new.blocks.items) }
+        ensures { OnOk result (map shown self.new.blocks.items ≡ map shown self.old.blocks.items ++ said words.now) }
     {
         if words.is_empty() {
             return Ok(());
@@ -96,16 +96,24 @@ impl Builder {
         self.add(Block::Paragraph(text))
     }
 
+    /// Adds a table.
+    pub(crate) fn add_table(&mut self, table: Table) -> Result<(), AllocError>
+        ensures { OnOk result (map shown self.new.blocks.items
+            ≡ map shown self.old.blocks.items ++ ShownTable (heads_of table) (rows_of table) ∷ []) }
+    {
+        self.add(Block::Table(table))
+    }
+
     /// Adds a block.
     pub(crate) fn add(&mut self, block: Block) -> Result<(), AllocError>
-        ensures { OnOk result (self.new.blocks.items ≡ self.old.blocks.items ++ block ∷ []) }
+        ensures { OnOk result (map shown self.new.blocks.items ≡ map shown self.old.blocks.items ++ shown block ∷ []) }
     {
         Ok(self.blocks.push(block)?)
     }
 
     /// Returns the section.
     pub(crate) fn into_section(self) -> Section
-        ensures { result.blocks ≡ self.blocks }
+        ensures { section_shown result ≡ map shown self.blocks.items }
     {
         Section {
             blocks: self.blocks,

@@ -1,7 +1,7 @@
 use Rattle.std.proofs.Common.{◌≡◌, ◌++◌, map, take}
 use Rattle.std.specs.List.{flat_map}
 use Rattle.clr_html.specs.Words.{words_of_row}
-use Rattle.clr_plan_page.specs.Reasons.{trial_rows}
+use Rattle.clr_plan_page.specs.Causes.{trial_rows}
 use Rattle.clr_plan_page.proofs.remedies.add_trials.Given as goal
 
 -- the rows of the trials so far are added

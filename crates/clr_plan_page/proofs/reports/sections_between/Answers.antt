@@ -1,5 +1,6 @@
-use Rattle.std.proofs.Common.{◌∙◌, ◌++◌, ◌∷◌, [], List, ap}
+use Rattle.std.proofs.Common.{◌∙◌, ◌++◌, ◌∷◌, [], List, ap, map}
 use Rattle.clr_html.specs.declared.pages.Section.{Section}
+use Rattle.clr_plan_page.specs.Shown.{section_shown}
 use Rattle.clr_plan_page.proofs.reports.sections_between.Goals as goal
 
 pub returns : goal.returns
@@ -8,9 +9,9 @@ returns c =
     let designs = c.in_ok-designs.designs in
     let first = c.in_ok-push.ensures.items ∙ ap (λ (sections : List Section). sections ++ why ∷ []) c.new-sections.ensures.items in
     record {
-      why = why;
-      designs = designs;
-      whole = c.in_ok-push-2.ensures.items ∙ ap (λ (sections : List Section). sections ++ designs ∷ []) first;
+      why = section_shown why;
+      designs = section_shown designs;
+      whole = ap (map section_shown) (c.in_ok-push-2.ensures.items ∙ ap (λ (sections : List Section). sections ++ designs ∷ []) first);
       reasons = c.in_ok-why.ensures;
       told = c.in_ok-designs.ensures;
     }

@@ -1,6 +1,17 @@
-use Rattle.clr_plan_page.proofs.SectionLemmas.{why_whole}
+use Rattle.std.proofs.Common.{◌∙◌, List, ap, map, subst, sym}
+use Rattle.clr_merge_sets.specs.MemberChanges.{set_of}
+use Rattle.clr_plan_page.specs.Reasons.{IsWhy}
+use Rattle.clr_plan_page.specs.Shown.{Shown, shown}
+use Rattle.clr_plan_page.proofs.ReasonLemmas.{why_whole}
 use Rattle.clr_plan_page.proofs.reports.why_of.Goals as goal
 
 pub returns : goal.returns
-returns c = rw c.into_section.ensures (why_whole c.args.plan.now c.args.trials.now _ _ _ _ _ c.new-section.ensures c.in_ok-add_heading.ensures
-    c.in_ok-add_paragraph.ensures c.in_ok-add_reasons.ensures)
+returns c =
+    let o = c.args.setting.office.now in
+    let m = c.args.setting.members.now in
+    let p = c.args.plan.now in
+    let trials = c.args.trials.now in
+    let answer = c.as_str.ensures.value ∙ c.in_ok-answer.ensures in
+    subst (λ (blocks : List Shown). IsWhy o (set_of m) p trials blocks) (sym c.into_section.ensures)
+    (why_whole o (set_of m) m.changes.items p trials c.as_str.result.now _ _ _ _ c.requires.changes answer (ap (map shown) c.new-section.ensures)
+    c.in_ok-add_heading.ensures c.in_ok-add_paragraph.ensures c.in_ok-add_reasons.ensures)

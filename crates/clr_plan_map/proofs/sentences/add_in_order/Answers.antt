@@ -1,0 +1,11 @@
+use Rattle.std.proofs.Common.{codes, string_bytes}
+use Rattle.clr_merge_sets.specs.MemberChanges.{set_of}
+use Rattle.clr_plan_sentences.specs.Answers.{order_text}
+use Rattle.clr_plan_sentences.proofs.PieceLemmas.{three_behind}
+use Rattle.clr_plan_map.proofs.sentences.add_in_order.Goals as goal
+
+pub returns : goal.returns
+returns c =
+    rw (c.in_ok-push_str-2.ensures.bytes, c.in_ok-add_members.ensures, c.in_ok-push_str.ensures.bytes)
+    (three_behind (string_bytes c.args.text.now) (codes "Merged in the order ") (order_text (set_of c.args.members.now).members c.args.order.now)
+    (codes ", one merge is refused. "))

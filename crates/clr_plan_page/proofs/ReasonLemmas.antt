@@ -1,0 +1,80 @@
+-- Reasons of plans, and clashes of designs, that are told.
+use Rattle.std.proofs.Common.{◌≡◌, ◌∙◌, ℕ, false, List, [], ◌∷◌, ◌++◌, ap, append_assoc, arith, codes, inl, inr, refl, subst, sym}
+use Rattle.std.proofs.lemmas.List.{append-nil}
+use Rattle.std.specs.Global.{Global}
+use Rattle.std.specs.declared.vec.Vec.{Vec}
+use Rattle.clr_rows.specs.Contents.{Changes}
+use Rattle.clr_cert.specs.declared.certificates.Certificate.{Certificate}
+use Rattle.clr_cert.specs.declared.certificates.Entry.{Entry}
+use Rattle.clr_steps.specs.Offices.{Office}
+use Rattle.clr_steps.specs.Quiet.{MergeSet}
+use Rattle.clr_clearance.specs.declared.verdicts.Verdict.{Verdict}
+use Rattle.clr_clearance.specs.MergeSets.{change_sets}
+use Rattle.clr_merge_clashes.specs.MergeClashes.{IsFaultOfNames}
+use Rattle.clr_merge_sets.specs.declared.plans.Plan.{Plan}
+use Rattle.clr_merge_sets.specs.declared.plans.Plan.TheVariants as plan
+use Rattle.clr_plan_sentences.specs.Answers.{answer_text}
+use Rattle.clr_plan_sentences.specs.Causes.{IsCause}
+use Rattle.clr_plan_sentences.specs.declared.told_rows.CauseWords.{CauseWords}
+use Rattle.clr_work_orders.specs.declared.trials.Trial.{Trial}
+use Rattle.clr_plan_page.specs.Causes.{AreBlocked, cause_shown, trials_shown}
+use Rattle.clr_plan_page.specs.Clashes.{TellsClashes, is_lost}
+use Rattle.clr_plan_page.specs.Designs.{AreDesigns, designs_shown}
+use Rattle.clr_plan_page.specs.Needs.{needs_shown}
+use Rattle.clr_plan_page.specs.Reasons.{AreReasons, IsWhy}
+use Rattle.clr_plan_page.specs.Shown.{Adds, Shown, Heading, said}
+use Rattle.clr_plan_page.proofs.SectionLemmas.{in_a_row}
+
+-- a cause, and then what was tried
+pub blocked_told : (o : Office) (s : MergeSet) (sets : List Changes) (v : Verdict) (trials : List Trial) (cause : CauseWords) (old one new : List Shown)
+    → IsCause o s sets v cause → one ≡ old ++ cause_shown cause → new ≡ one ++ trials_shown trials → Adds (AreBlocked o s sets v trials) old new
+blocked_told o s sets v trials cause old one new is e f = (
+  cause_shown cause ++ trials_shown trials,
+  (cause, is, refl),
+  f ∙ ap (λ (blocks : List Shown). blocks ++ trials_shown trials) e ∙ append_assoc old (cause_shown cause) (trials_shown trials),
+)
+
+pub reasons_of_cleared : (o : Office) (s : MergeSet) (sets : List Changes) (p : Plan) (trials : List Trial) (c : Certificate) (entries : List Entry)
+    (old new : List Shown) → p ≡ plan.Cleared c → entries ≡ c.entries → new ≡ old ++ needs_shown o s.members sets entries
+    → Adds (AreReasons o s sets p trials) old new
+reasons_of_cleared o s sets p trials c entries old new is same e =
+    let told = needs_shown o s.members sets entries in (
+      told,
+      subst (λ (q : Plan). AreReasons o s sets q trials told) (sym is) (ap (needs_shown o s.members sets) same),
+      e,
+    )
+
+pub reasons_of_blocked : (o : Office) (s : MergeSet) (sets : List Changes) (p : Plan) (trials : List Trial) (order : Vec ℕ Global) (v : Verdict)
+    (old new : List Shown) → p ≡ plan.Blocked order v → Adds (AreBlocked o s sets v trials) old new → Adds (AreReasons o s sets p trials) old new
+reasons_of_blocked o s sets p trials order v old new is (more, blocked, e) =
+    (more, subst (λ (q : Plan). AreReasons o s sets q trials more) (sym is) blocked, e)
+
+pub no_reasons : (o : Office) (s : MergeSet) (sets : List Changes) (p : Plan) (trials : List Trial) (old : List Shown)
+    → AreReasons o s sets p trials [] → Adds (AreReasons o s sets p trials) old old
+no_reasons o s sets p trials old none = ([], none, sym (append-nil old))
+
+pub why_whole : (o : Office) (s : MergeSet) (sets : List Changes) (p : Plan) (trials : List Trial) (words : List ℕ) (none one two all : List Shown)
+    → sets ≡ change_sets o s → words ≡ answer_text s p → none ≡ [] → one ≡ none ++ Heading (codes "Why") ∷ [] → two ≡ one ++ said words
+    → Adds (AreReasons o s sets p trials) two all → IsWhy o s p trials all
+why_whole o s sets p trials words none one two all are answer nothing e f (more, reasons, g) = (
+  more,
+  subst (λ (changes : List Changes). AreReasons o s changes p trials more) are reasons,
+  in_a_row none one two all (Heading (codes "Why")) (said words) more nothing e f g
+      ∙ ap (λ (text : List ℕ). Heading (codes "Why") ∷ (said text ++ more)) answer,
+)
+
+pub designs_whole : (o : Office) (s : MergeSet) (sets : List Changes) (none one two all : List Shown) → sets ≡ change_sets o s → none ≡ []
+    → one ≡ none ++ Heading (codes "The designs") ∷ [] → two ≡ one ++ designs_shown o.schema s.members sets → Adds (TellsClashes o s) two all
+    → AreDesigns o s all
+designs_whole o s sets none one two all are nothing e f (told, clashes, g) = record {
+  told = told;
+  clashes = clashes;
+  whole = in_a_row none one two all (Heading (codes "The designs")) (designs_shown o.schema s.members sets) told nothing e f g
+      ∙ ap (λ (changes : List Changes). Heading (codes "The designs") ∷ (designs_shown o.schema s.members changes ++ told)) are;
+}
+
+-- no clashes are told where a name is unfit
+pub fault_told : (o : Office) (s : MergeSet) (fault : Verdict) (old : List Shown) → IsFaultOfNames o s fault → is_lost fault ≡ false
+    → Adds (TellsClashes o s) old old
+fault_told o s fault old (inl named) known = ([], inr (fault, named, refl), sym (append-nil old))
+fault_told o s fault old (inr lost) known = grind (arith, ap is_lost lost, known)

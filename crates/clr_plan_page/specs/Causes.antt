@@ -1,0 +1,59 @@
+-- Why members are blocked, and what was tried to help, as a report tells it.
+use Rattle.std.specs.Prelude.{◌≡◌, ◌++◌, ◌==◌, ℕ, Bool, true, false, List, [], ◌∷◌, codes, length, map, if◌then◌else◌}
+use Rattle.std.specs.List.{flat_map}
+use Rattle.clr_rows.specs.Contents.{Changes}
+use Rattle.clr_steps.specs.Offices.{Office}
+use Rattle.clr_steps.specs.Quiet.{MergeSet}
+use Rattle.clr_clearance.specs.declared.verdicts.Verdict.{Verdict}
+use Rattle.clr_plan_sentences.specs.declared.told_rows.CauseWords.{CauseWords}
+use Rattle.clr_plan_sentences.specs.declared.told_rows.RowWords.{RowWords}
+use Rattle.clr_plan_sentences.specs.Causes.{IsCause}
+use Rattle.clr_work_orders.specs.declared.trials.Trial.{Trial}
+use Rattle.clr_plan_page.specs.Shown.{Shown, Heading, Table, said}
+
+-- the cause -------------------------------------------------------------------------------------
+
+-- a row that a cause names: its table and key, where it stands, and its values and its place
+abbrev pub cause_row : RowWords → List (List ℕ)
+cause_row row = row.label ∷ row.standing ∷ row.words ∷ []
+
+abbrev pub cause_heads : List (List ℕ)
+cause_heads = codes "Row" ∷ codes "Stands" ∷ codes "Values and place, in metres" ∷ []
+
+-- why, the rows that the cause names, in their order, and where they meet
+abbrev pub cause_shown : CauseWords → List Shown
+cause_shown cause = said cause.reason ++ Table cause_heads (map cause_row cause.rows) ∷ [] ++ said cause.place
+
+-- what was tried --------------------------------------------------------------------------------
+
+-- what the planner says of a trial
+abbrev pub answer_words : Bool → List ℕ
+answer_words true = codes "cleared"
+answer_words false = codes "not cleared"
+
+abbrev pub trial_words : Trial → List (List ℕ)
+trial_words trial = trial.words ∷ answer_words trial.is_cleared ∷ []
+
+-- the row of a trial that has this answer, and nothing of another
+abbrev pub trial_rows : Bool → Trial → List (List (List ℕ))
+trial_rows true trial = if trial.is_cleared then trial_words trial ∷ [] else []
+trial_rows false trial = if trial.is_cleared then [] else trial_words trial ∷ []
+
+abbrev pub trial_heads : List (List ℕ)
+trial_heads = codes "Tried" ∷ codes "Then all that are left are" ∷ []
+
+-- a row for each trial, the cleared ones first
+abbrev pub rows_of_trials : List Trial → List (List (List ℕ))
+rows_of_trials trials = flat_map (trial_rows true) trials ++ flat_map (trial_rows false) trials
+
+-- trials below a heading, and nothing where nothing was tried
+abbrev pub trials_shown : List Trial → List Shown
+trials_shown trials =
+    if length trials == 0 then []
+    else Heading (codes "What would help, each by itself") ∷ Table trial_heads (rows_of_trials trials) ∷ []
+
+-- both ------------------------------------------------------------------------------------------
+
+-- why members that make these changes are blocked, and then these trials
+abbrev pub AreBlocked : Office → MergeSet → List Changes → Verdict → List Trial → List Shown → Type 0
+AreBlocked o s sets v trials blocks = (cause : CauseWords) × IsCause o s sets v cause × (blocks ≡ cause_shown cause ++ trials_shown trials)
