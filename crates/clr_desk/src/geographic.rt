@@ -4,6 +4,7 @@ ghost use Rattle.clr_desk.specs.Geographic.{IsGeographicAnswer};
 ghost use Rattle.clr_desk_prints.specs.Printing.{IsMadePrintout};
 
 use clr_desk_command_line::GeographicAsk;
+use clr_desk_errors::answer_error_features;
 use clr_desk_layers::{
     GivenLayer, LayerOptions, answer_design, answer_design_script, answer_layer, answer_office,
 };
@@ -38,6 +39,9 @@ pub(crate) fn answer_geographic(
                 rounded: *rounded,
             };
             answer_office(alloc, office, options, layers)
+        }
+        GeographicAsk::ErrorFeatures(system) => {
+            answer_error_features(alloc, office, system.as_ref())
         }
         GeographicAsk::Design(design) => {
             let options = LayerOptions {

@@ -10,11 +10,11 @@ use Rattle.clr_rows.specs.Schemas.{is_key}
 use Rattle.clr_records.specs.Decimals.{number_of}
 use Rattle.clr_command_line.specs.Asks.{database_and, database_of, given_names, given_value}
 use Rattle.clr_desk_command_line.specs.declared.asks.DeskAsk.{DeskAsk}
-use Rattle.clr_desk_command_line.specs.declared.asks.DeskAsk.TheVariants.{Certificate, Check, Merge, Format, Keep, Clashes, Why, WorkOrder, Map, Report}
-use Rattle.clr_desk_command_line.specs.declared.asks.DeskAsk.TheVariants.{Geographic}
+use Rattle.clr_desk_command_line.specs.declared.asks.DeskAsk.TheVariants.{Certificate, Check, Merge, Format, Accept, Mended, Errors, Keep, Clashes, Why, WorkOrder}
+use Rattle.clr_desk_command_line.specs.declared.asks.DeskAsk.TheVariants.{Map, Report, Geographic}
 use Rattle.clr_desk_command_line.specs.declared.asks.DesignAsk.{DesignAsk}
 use Rattle.clr_desk_command_line.specs.declared.asks.GeographicAsk.{GeographicAsk}
-use Rattle.clr_desk_command_line.specs.declared.asks.GeographicAsk.TheVariants.{Features, Layer, Office, Design, DesignScript}
+use Rattle.clr_desk_command_line.specs.declared.asks.GeographicAsk.TheVariants.{Features, Layer, Office, ErrorFeatures, Design, DesignScript}
 use Rattle.clr_desk_command_line.specs.declared.asks.TextKind.TheVariants as kind
 
 -- the value that is given, or another
@@ -25,12 +25,21 @@ given_or otherwise id rows = unwrap_or (first_of id rows) otherwise
 abbrev pub given_root : List Row → Text
 given_root rows = given_or live_name (codes "under") rows
 
+-- an option without a value is given
+abbrev pub is_set : Text → List Row → Bool
+is_set name rows = option_map_or (λ value. bytes_eq value (codes "true")) (first_of name rows) false
+
 -- what `why` asks for, and its files: of the script if one is given, else of the certificate if one is given, else of the office
 abbrev pub why_of : List Row → DeskAsk × List Text
 why_of rows =
     if is_some (first_of (codes "script") rows) then (Why kind.Script, database_and (codes "script") rows)
     else (if is_some (first_of (codes "certificate") rows) then (Why kind.Certificate, database_and (codes "certificate") rows)
     else (Why kind.Office, database_of rows))
+
+-- what `errors` asks for, and its file: features where they are asked for, and else lines
+abbrev pub errors_of : List Row → DeskAsk × List Text
+errors_of rows =
+    if is_set (codes "geojson") rows then (Geographic (ErrorFeatures (first_of (codes "crs") rows)), database_of rows) else (Errors, database_of rows)
 
 -- what is asked of members of a root
 unfoldable pub members_ask : Text → Text → List Text → Option DeskAsk
@@ -79,10 +88,6 @@ tables_and_files words = if list_all is_layer words then Some (map table_in word
 
 abbrev pub layers_ask : List Row → Option (List Text × List Text)
 layers_ask rows = tables_and_files (unwrap_or (all_of (codes "TABLE=FILE") rows) [])
-
--- an option without a value is given
-abbrev pub is_set : Text → List Row → Bool
-is_set name rows = option_map_or (λ value. bytes_eq value (codes "true")) (first_of name rows) false
 
 -- the key that a text is, if it is one
 abbrev pub key_in : Text → Option ℕ
@@ -135,8 +140,11 @@ ask_by_name name rows =
     if bytes_eq name (codes "check") then Some (Check, database_and (codes "CERT") rows)
     else (if bytes_eq name (codes "merge") then Some (merge_ask rows)
     else (if bytes_eq name (codes "format") then Some (Format, database_of rows)
+    else (if bytes_eq name (codes "accept") then Some (Accept, database_of rows)
+    else (if bytes_eq name (codes "mended") then Some (Mended, database_of rows)
+    else (if bytes_eq name (codes "errors") then Some (errors_of rows)
     else (if bytes_eq name (codes "why") then Some (why_of rows)
-    else or_members_asked (geographic_asked name rows) name rows)))
+    else or_members_asked (geographic_asked name rows) name rows))))))
 
 -- what the subcommand that words name asks for, if they name one
 abbrev pub ask_of : Option (Text × List Row) → Option (DeskAsk × List Text)

@@ -5,9 +5,9 @@ ghost use Rattle.clap.specs.Words.{app_of};
 ghost use Rattle.clr_desk_command_line.specs.Program.{program};
 
 use crate::helps::{
-    ABOUT, CERTIFICATE_PRINTS, CHECK_PRINTS, CLASHES_PRINTS, DESIGN_PRINTS, FORMAT_PRINTS,
-    GEOJSON_PRINTS, KEEP_PRINTS, LAYER_PRINTS, MAP_PRINTS, MERGE_PRINTS, OFFICE_PRINTS,
-    REPORT_PRINTS, STATUSES, WHY_PRINTS, WORDS_PRINTS,
+    ABOUT, ACCEPT_PRINTS, CERTIFICATE_PRINTS, CHECK_PRINTS, CLASHES_PRINTS, DESIGN_PRINTS,
+    ERRORS_PRINTS, FORMAT_PRINTS, GEOJSON_PRINTS, KEEP_PRINTS, LAYER_PRINTS, MAP_PRINTS,
+    MENDED_PRINTS, MERGE_PRINTS, OFFICE_PRINTS, REPORT_PRINTS, STATUSES, WHY_PRINTS, WORDS_PRINTS,
 };
 use clap::Command;
 use clr_command_line::{Argument, DATABASE, ProgramTable, Subcommand, VERSION, command_of};
@@ -34,6 +34,12 @@ const LAYERS: Argument<'static> = Argument::RequiredValues(
 const ROUND: Argument<'static> = Argument::Flag(
     "round",
     "Round coordinates that are finer than a millimetre",
+);
+
+const SYSTEM: Argument<'static> = Argument::ValueOption(
+    "crs",
+    "EPSG:N",
+    "The reference system of the coordinates",
 );
 
 /// The arguments of a subcommand over an office text and designs of a root.
@@ -122,12 +128,7 @@ const DESK: ProgramTable<'static> = ProgramTable {
             name: "geojson",
             about: "Prints what the plan of designs is about as GeoJSON",
             prints: GEOJSON_PRINTS,
-            arguments: &[
-                DATABASE,
-                ROOT,
-                DESIGNS,
-                Argument::ValueOption("crs", "EPSG:N", "The reference system of the coordinates"),
-            ],
+            arguments: &[DATABASE, ROOT, DESIGNS, SYSTEM],
         },
         Subcommand {
             name: "layer",
@@ -172,6 +173,28 @@ const DESK: ProgramTable<'static> = ProgramTable {
                 ),
                 ROUND,
             ],
+        },
+        Subcommand {
+            name: "errors",
+            about: "Lists what is broken in LIVE, with the rows, their places and the rules",
+            prints: ERRORS_PRINTS,
+            arguments: &[
+                DATABASE,
+                Argument::Flag("geojson", "Print the errors as GeoJSON, a point for each"),
+                SYSTEM,
+            ],
+        },
+        Subcommand {
+            name: "accept",
+            about: "Prints the office in which what is broken is known, so that designs can be planned over it",
+            prints: ACCEPT_PRINTS,
+            arguments: &[DATABASE],
+        },
+        Subcommand {
+            name: "mended",
+            about: "Lists what was known to be broken and isn't any more",
+            prints: MENDED_PRINTS,
+            arguments: &[DATABASE],
         },
     ],
 };

@@ -1,10 +1,10 @@
 //! Systems of coordinates, by name.
 
 ghost use Rattle.std.specs.Prelude.{◌≡◌, ◌≢◌, ℕ, ◌<◌, ◌^◌, decimal, None, IfOk, IfSome};
-ghost use Rattle.clr_desk_pages.specs.Features.{IsNoSystem, no_system_print, system_name};
+ghost use Rattle.clr_desk_prints.specs.Systems.{IsNoSystem, no_system_print, system_name};
 ghost use Rattle.clr_desk_prints.specs.Printing.{printed};
 
-use clr_desk_prints::{Ending, Print};
+use crate::prints::{Ending, Print};
 use clr_records::read_number;
 use std::alloc::{AllocError, Global};
 
@@ -21,7 +21,7 @@ fn code_of(digits: &str) -> Option<u32>
 }
 
 /// Returns the number of a system of coordinates in the register of EPSG that a text names, as `EPSG:25832`; or none where it names none.
-pub(crate) fn system_of(text: &str) -> Option<u32>
+pub fn system_of(text: &str) -> Option<u32>
     ensures named { IfSome result (λ code. text.now ≡ system_name code) }
     ensures no_other { result ≡ None → IsNoSystem text.now }
 {
@@ -32,7 +32,7 @@ pub(crate) fn system_of(text: &str) -> Option<u32>
 }
 
 /// Returns what is printed where a text names no system of coordinates.
-pub(crate) fn print_of_no_system(alloc: Global, text: &str) -> Result<Print, AllocError>
+pub fn print_of_no_system(alloc: Global, text: &str) -> Result<Print, AllocError>
     ensures { IfOk result (λ print. printed print ≡ no_system_print text.now) }
 {
     let mut notes = Vec::from_slice(alloc, b"'")?;

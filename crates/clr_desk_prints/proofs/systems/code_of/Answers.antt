@@ -1,7 +1,7 @@
 use Rattle.std.proofs.Common.{◌≡◌, None, Some, sym}
 use Rattle.clr_records.specs.Decimals.{number_of}
-use Rattle.clr_desk_pages.proofs.Codes.{decimal_again, decimal_form, fits_again, same_number}
-use Rattle.clr_desk_pages.proofs.systems.code_of.Goals as goal
+use Rattle.clr_desk_prints.proofs.Codes.{decimal_again, decimal_form, fits_again, same_number}
+use Rattle.clr_desk_prints.proofs.systems.code_of.Goals as goal
 
 pub returns-in_err-number-clause-no_other : goal.returns-in_err-number-clause-no_other
 returns-in_err-number-clause-no_other c = λ _ code low is.

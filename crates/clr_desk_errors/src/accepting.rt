@@ -1,0 +1,73 @@
+//! Offices with their errors accepted, and offices that are opened whatever is broken in them.
+
+ghost use Rattle.std.specs.Prelude.{◌≡◌, Ok, IfErr, IfOk};
+ghost use Rattle.clr_office_reading.specs.Offices.{known_in};
+ghost use Rattle.clr_office_texts.specs.Drafts.{draft_in};
+ghost use Rattle.clr_office_reports.specs.Printing.{IsOfficeFault};
+ghost use Rattle.clr_desk_errors.specs.Accepting.{IsAccepted, IsAcceptPrint, IsPrintoutOfDraft};
+ghost use Rattle.clr_desk_prints.specs.Printing.{IsMadePrintout, printed};
+
+use clr_desk_prints::{Print, RunFault};
+use clr_engine::{Draft, Office};
+use clr_office_reports::draft_of;
+use clr_office_texts::{DraftText, KnownNeeds, write_office};
+use std::alloc::{AllocError, Global};
+
+/// An office, and the needs that its text names as known.
+#[derive(Drop)]
+pub(crate) struct KnownOffice {
+    pub office: Office,
+    pub known: KnownNeeds,
+}
+
+/// Returns the office of a draft, with all that is broken in it as known.
+pub(crate) fn admitted(draft: Draft) -> Result<Office, AllocError>
+    ensures { IfOk result (λ office. office ≡ draft) }
+{
+    let needs = draft.broken_needs()?;
+    match draft.admit(needs.as_slice()) {
+        Ok(office) => Ok(office),
+        // (only for want of memory, since each broken need is known)
+        Err(_) => Err(AllocError),
+    }
+}
+
+/// Returns the office of a text, whatever is broken in it, and the needs that are known there. Fails with `BadOffice` where the text is no
+/// office, and with `OutOfMemory` if memory runs out.
+pub(crate) fn open_known(alloc: Global, text: &[u8]) -> Result<KnownOffice, RunFault>
+    ensures office { IfOk result (λ opened. draft_in text.now ≡ Ok opened.office) }
+    ensures known { IfOk result (λ opened. opened.known ≡ known_in text.now) }
+    ensures fault { IfErr result (IsOfficeFault (draft_in text.now)) }
+{
+    let DraftText { draft, known } = draft_of(alloc, text)?;
+    let office = admitted(draft)?;
+    Ok(KnownOffice { office, known })
+}
+
+/// Returns the text of an office with just its broken needs as known, ended by `\n`.
+fn accepted_office(alloc: Global, office: &Office) -> Result<Vec<u8>, AllocError>
+    ensures { IfOk result (λ text. IsAccepted office.now text.items) }
+{
+    let _standing = office.len();
+    let mut text = write_office(alloc, office)?;
+    text.push(b'\n')?;
+    Ok(text)
+}
+
+/// Returns what is printed of an office with its errors accepted.
+fn accept_print(alloc: Global, office: &Office) -> Result<Print, AllocError>
+    ensures { IfOk result (λ p. IsAcceptPrint office.now (printed p)) }
+{
+    let text = accepted_office(alloc, office)?;
+    Ok(Print::of_text(alloc, text))
+}
+
+/// Returns an office text: that of the given office, with just those needs as known that are broken in LIVE or in a workspace that is kept,
+/// whether the given text knows them or not. Fails with `BadOffice` where the text is no office, and with `OutOfMemory` for want of memory,
+/// which may come in place of any other answer.
+pub fn answer_accept(alloc: Global, office: &[u8]) -> Result<Print, RunFault>
+    ensures { IsMadePrintout (IsPrintoutOfDraft IsAcceptPrint (draft_in office.now)) result }
+{
+    let opened = open_known(alloc, office)?;
+    Ok(accept_print(alloc, &opened.office)?)
+}
