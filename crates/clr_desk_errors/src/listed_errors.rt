@@ -9,12 +9,13 @@ ghost use Rattle.clr_rules.specs.Needs.{broken_cmp};
 ghost use Rattle.clr_desk_errors.specs.ListedErrors.{AreListed, IsListed, error_place, live_alone, need_in_live, old_version};
 
 use crate::error_places::error_place;
+use clr_audit::audit;
 use clr_engine::{Broken, Office};
 use clr_map_scenes::Cause;
 use clr_member_changes::MemberChanges;
 use clr_merge_sets::read_member_changes;
 use clr_needs::{Need, VersionId};
-use clr_old_errors::{errors_of, is_among};
+use clr_old_errors::is_among;
 use clr_plan_causes::cause_of_need;
 use clr_rows::{CellId, LIVE, Place, Words};
 use clr_rules::Ask;
@@ -123,6 +124,6 @@ pub(crate) fn list_errors(
 {
     let mut in_order = Vec::from_slice(alloc, known)?;
     put_in_order(&mut in_order);
-    let needs = errors_of(alloc, office, LIVE)?;
+    let needs = audit(alloc, office.book(), office.live())?;
     list_beside(alloc, office, in_order.as_slice(), needs.as_slice())
 }

@@ -1,8 +1,7 @@
-use Rattle.std.proofs.Common.{sym, subst}
+use Rattle.std.proofs.Common.{subst, sym}
 use Rattle.clr_rows.specs.Schemas.{FitsSchema}
 use Rattle.clr_rules.specs.Books.{FitsBook}
-use Rattle.clr_steps.proofs.FitLemmas.{fits_content_of}
-use Rattle.clr_old_errors.proofs.content_errors.errors_of.Goals as goal
+use Rattle.clr_desk_errors.proofs.listed_errors.list_errors.Goals as goal
 
 pub audit-requires : goal.audit-requires
 audit-requires c =
@@ -11,5 +10,5 @@ audit-requires c =
     record {
       tables = o.schema;
       book = subst (FitsBook o.schema) (sym c.book.ensures.value) fit.book;
-      rows = subst (FitsSchema o.schema) (sym c.in_ok-rows.ensures) (fits_content_of o fit.rows c.args.name.now);
+      rows = subst (FitsSchema o.schema) (sym c.live.ensures.value) fit.rows.live;
     }
