@@ -1,4 +1,4 @@
-//! Tests of drafts, and of an office's commands while memory is wanting, by their public calls.
+//! Tests of drafts, of offices with old errors, and of an office's commands while memory is wanting, by their public calls.
 #![tactic(auto)]
 
 #[cfg(test)]
@@ -11,5 +11,7 @@ mod known_needs;
 mod scarce_admissions;
 #[cfg(test)]
 mod scarce_commands;
+#[cfg(test)]
+mod scarce_needs;
 #[cfg(test)]
 mod scarce_runs;

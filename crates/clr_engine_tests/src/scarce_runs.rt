@@ -196,6 +196,32 @@ delete,main,77
 ====
 ";
 
+/// A kept workspace with an old error under LIVE with another: it is refreshed, mended, released and held.
+const RUNS_BESIDE_OLD_ERRORS: &str = "old errors
+----
+refresh,W1
+apply,LIVE,1
+insert,code,9,C
+refresh,W1
+apply,W1,1
+update,code,4,A
+apply,W1,1
+update,code,4,D
+release,W1
+hold,W1
+merge,W1,keep
+apply,LIVE,1
+update,code,2,A
+====
+";
+
+#[test]
+fn commands_beside_old_errors(rt: HostRuntime) -> Result<(), Fail> {
+    let wrong = first_wrong_while_scarce(rt.alloc(), &AllAtOnce, STEP, RUNS_BESIDE_OLD_ERRORS)?;
+    assert_eq!(rt; wrong, None);
+    Ok(())
+}
+
 #[test]
 fn commands_of_which_some_are_refused(rt: HostRuntime) -> Result<(), Fail> {
     let wrong = first_wrong_while_scarce(rt.alloc(), &AllAtOnce, STEP, REFUSED_RUNS)?;

@@ -1,5 +1,5 @@
 -- Cells that stand twice in a list, as they are found and told.
-use Rattle.std.proofs.Common.{◌≡◌, ℕ, ◌+◌, ◌<◌, ◌≤◌, ℤ, List, [], ◌++◌, codes, length, string_bytes, Bool, true, false, ◌&&◌, Option, Some, None, inl, inr}
+use Rattle.std.proofs.Common.{◌≡◌, ℕ, ◌<◌, ◌≤◌, ℤ, List, [], ◌++◌, codes, length, string_bytes, Bool, true, false, ◌&&◌, Option, Some, None, inl, inr}
 use Rattle.std.proofs.Common.{ap, refl, sym}
 use Rattle.std.specs.Prelude.{Decides, MatchOption}
 use Rattle.serde_json.specs.Data.{Data}

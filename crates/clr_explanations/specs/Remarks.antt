@@ -10,6 +10,7 @@ use Rattle.clr_rule_text.specs.declared.faults.TextFault.TheVariants as fault
 use Rattle.clr_rule_text.specs.declared.named_rules.NamedRule.{NamedRule}
 use Rattle.clr_rule_text.specs.Rules.{named_rule_of}
 use Rattle.clr_rule_text.specs.declared.formats.Format.{Format}
+use Rattle.clr_hints.specs.JsonFaults.{IsJsonFault, Told}
 use Rattle.clr_faults.specs.InnerFaults.{book_fault_of, put_fault_of, tables_fault_of}
 use Rattle.clr_faults.specs.KnownFaults.{known_fault_of}
 use Rattle.clr_schema_explanations.specs.RowFaults.{wrong_of_row}
@@ -101,10 +102,20 @@ pub record IsRemarkIn (text : List ℕ) (d : Data) (e : TextFault) (at : FaultyI
   pub place : string_bytes remark.place ≡ place_text d at steps
   pub told : TellsFault text d e at (said_at steps remark)
 
--- what is said of a fault at an item of a text, and of a text that is no value, which has no path
+abbrev pub told_in : Remark → Told
+told_in remark = record { offset = remark.offset; sentence = string_bytes remark.sentence; hint = option_map string_bytes remark.hint }
+
+-- what is said of a text that is no value: where it stops being JSON, by a line and a column that the reader of JSON tells; it has no path
+pub record IsJsonRemark (text : List ℕ) (remark : Remark) : Type 0 where
+  pub place : string_bytes remark.place ≡ []
+  pub line : ℕ
+  pub column : ℕ
+  pub told : IsJsonFault text line column (told_in remark)
+
+-- what is said of a fault at an item of a text, and of a text that is no value
 pub record IsRemarkAt (text : List ℕ) (e : TextFault) (at : FaultyItem) (remark : Remark) : Type 0 where
   pub within : remark.offset ≤ length text
-  pub said : MatchOption (value_in text) (string_bytes remark.place ≡ []) (λ d. IsRemarkIn text d e at remark)
+  pub said : MatchOption (value_in text) (IsJsonRemark text remark) (λ d. IsRemarkIn text d e at remark)
 
 -- what is said of a fault of a text: it stands at the item that is found
 abbrev pub IsOfficeRemark : List ℕ → TextFault → Remark → Type 0

@@ -1,5 +1,5 @@
 -- What is wrong with the fields of the item at which a fault stands.
-use Rattle.std.specs.Prelude.{List, [], ◌∷◌, codes, Option, Some, None, Result, Ok, Err}
+use Rattle.std.specs.Prelude.{[], ◌∷◌, codes, Option, Some, None, Result, Ok, Err}
 use Rattle.std.specs.Option.{option_or}
 use Rattle.serde_json.specs.Data.{Data}
 use Rattle.clr_office_reading.specs.Offices.{format_of}

@@ -4,7 +4,7 @@
 //!   has it, the first of its list whose own reading answers this fault. Its path is exactly the steps to the item and on to the value that
 //!   is wrong (`place_text`), and its sentence and hint are exactly what is told of that (`TellsFault`): of the first field that isn't what
 //!   must stand there, of just the fault that the reader drops, of the first known need that its rule can't have, and of the first
-//!   name that the schema hasn't.
+//!   name that the schema hasn't. Of a text that is no JSON it says where that stops being JSON (`IsJsonRemark`).
 //! - `paths_lead_to_values`: each path leads to a value of the text, and no step to a value is left out.
 //! - `explain_standing` [`none`, `told`]: of a text that can be read, the fault of its workspaces as a whole, and the first that has it.
 //! - `office_fault_words`: the word `office`, and the number and the name of a fault.

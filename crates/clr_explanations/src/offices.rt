@@ -1,8 +1,8 @@
 //! What is said of an office text that can't be read.
-ghost use Rattle.std.specs.Prelude.{◌≡◌, ◌≤◌, [], length, string_bytes, unwrap_or, Err, IfOk, IfNone, IfSome, IsOk};
+ghost use Rattle.std.specs.Prelude.{◌≡◌, ◌≤◌, length, option_map, string_bytes, unwrap_or, Err, IfOk, IfNone, IfSome, IsOk};
 ghost use Rattle.serde_json.specs.View.{view};
 ghost use Rattle.clr_office_reading.specs.Offices.{office_in};
-ghost use Rattle.clr_explanations.specs.Remarks.{IsOfficeRemark, IsRemarkAt, IsRemarkIn, TellsFault};
+ghost use Rattle.clr_explanations.specs.Remarks.{IsJsonRemark, IsOfficeRemark, IsRemarkAt, IsRemarkIn, TellsFault};
 ghost use Rattle.clr_item_explanations.specs.Slips.{said};
 ghost use Rattle.clr_item_explanations.specs.Tellings.{Tells, TellsIfAny};
 ghost use Rattle.clr_explanations.specs.WrongItems.{unknown, wrong_part_at};
@@ -81,6 +81,16 @@ fn remark_in(alloc: Global, text: &[u8], json: &Json, found: Found) -> Result<Re
     remark_of(alloc, text, json, found.spot, slip)
 }
 
+/// Returns a hint as a text of its own.
+fn own_hint(alloc: Global, hint: Option<&str>) -> Result<Option<String>, AllocError>
+    ensures { IfOk result (λ found. option_map string_bytes found ≡ option_map (λ words. words.now) hint.entry) }
+{
+    match hint {
+        Some(words) => Ok(Some(String::from_str(alloc, words)?)),
+        None => Ok(None),
+    }
+}
+
 /// Returns what is said of a text that is no JSON, which the reader of JSON tells by a line and a
 /// column.
 fn remark_on_json(
@@ -90,17 +100,15 @@ fn remark_on_json(
     column: usize,
 ) -> Result<Remark, AllocError>
     ensures within { IfOk result (λ remark. remark.offset ≤ length text.now) }
-    ensures place { IfOk result (λ remark. string_bytes remark.place ≡ []) }
+    ensures said { IfOk result (IsJsonRemark text.now) }
 {
     let fault = json_fault(text, line, column);
-    let hint = match fault.hint {
-        Some(words) => Some(String::from_str(alloc, words)?),
-        None => None,
-    };
+    let hint = own_hint(alloc, fault.hint)?;
+    let sentence = String::from_str(alloc, fault.sentence)?;
     Ok(Remark {
         offset: fault.offset,
         place: String::new(alloc),
-        sentence: String::from_str(alloc, fault.sentence)?,
+        sentence,
         hint,
     })
 }

@@ -1,5 +1,5 @@
-//! Tests of checks, plans, runs under certificates, and whole runs of the program while memory is wanting, by public calls. Offices,
-//! scripts and certificates are texts, and so is what is answered.
+//! Tests of checks, plans, runs under certificates, office texts, and whole runs of the program while memory is wanting, by public calls.
+//! Offices, scripts and certificates are texts, and so is what is answered.
 #![tactic(auto)]
 
 #[cfg(test)]
@@ -10,6 +10,8 @@ mod refused_asks;
 mod refused_runs;
 #[cfg(test)]
 mod scarce_checks;
+#[cfg(test)]
+mod scarce_offices;
 #[cfg(test)]
 mod scarce_plans;
 #[cfg(test)]

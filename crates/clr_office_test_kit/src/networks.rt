@@ -46,6 +46,14 @@ const ONE_CODE: &str = r#"{"format":3,"tables":[
 "rules":[{"kind":"UNIQUE","subject":{"table":"code"},"columns":["code"]}],
 "live":[{"t":"code","k":1,"v":["A"],"s":[]}]}"#;
 
+/// Codes of which no two may be the same: in LIVE codes 1 and 2 are, and in W1, which is kept, codes 2 and 4. Both are known.
+const OLD_ERRORS: &str = r#"{"format":4,"tables":[
+{"name":"code","columns":[["code","TEXT"]],"shape":"NONE"}],
+"rules":[{"kind":"UNIQUE","subject":{"table":"code"},"columns":["code"],"known":[[1,2],[2,4]]}],
+"live":[{"t":"code","k":1,"v":["A"],"s":[]},{"t":"code","k":2,"v":["A"],"s":[]}],
+"workspaces":[{"name":"W1","parent":"LIVE","kept":true,
+"rows":[{"t":"code","k":2,"v":["B"],"s":[]},{"t":"code","k":4,"v":["B"],"s":[]}]}]}"#;
+
 /// Returns the office text of a name.
 pub fn network(name: &str) -> Option<&'static str> {
     match name {
@@ -54,6 +62,7 @@ pub fn network(name: &str) -> Option<&'static str> {
         "paths" => Some(PATHS),
         "one node" => Some(ONE_NODE),
         "one code" => Some(ONE_CODE),
+        "old errors" => Some(OLD_ERRORS),
         _ => None,
     }
 }

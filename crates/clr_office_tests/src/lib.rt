@@ -1,6 +1,5 @@
-//! Tests of whole offices: runs of the program over devices that fail, checks of two texts, plans of offices that dice make, whose
-//! merges are then given in every order, and groups of members and which of them are independent, compared with what the definitions
-//! say, worked out plainly.
+//! Tests of whole offices: runs of the program over devices that fail, checks of two texts, and groups of members and which of them are
+//! independent, in offices that dice make too, compared with what the definitions say, worked out plainly.
 #![tactic(auto)]
 
 #[cfg(test)]
@@ -13,10 +12,6 @@ mod dice_offices;
 mod faults;
 #[cfg(test)]
 mod groups;
-#[cfg(test)]
-mod made_up;
-#[cfg(test)]
-mod made_up_edits;
 #[cfg(test)]
 mod merge_sets;
 #[cfg(test)]

@@ -1,5 +1,5 @@
 -- The draft of a text, by its parts and by its workspaces as a whole.
-use Rattle.std.proofs.Common.{◌≡◌, ℕ, List, Option, Some, None, Result, Ok, Err, refl, sym, subst}
+use Rattle.std.proofs.Common.{◌≡◌, ℕ, List, Some, Result, Ok, Err, refl, sym, subst}
 use Rattle.std.specs.Prelude.{IsOk}
 use Rattle.clr_workspace_parts.specs.declared.parts.PartFault.{PartFault}
 use Rattle.clr_workspace_parts.specs.Parts.{workspaces_fault}

@@ -3,9 +3,9 @@
 /// What is found in a text that is asked about.
 #[derive(Debug, Drop)]
 pub enum Why {
-    /// The text can be read, and where it is an office its rules hold.
+    /// The text can be read, and where it is an office it names each of its broken needs as known.
     NoFault,
-    /// The text is an office in which a rule doesn't hold: the lines that say so.
+    /// The text is an office in which a need is broken that it doesn't name as known: the lines that say so.
     Unheld(Vec<u8>),
     /// The text can't be read, or the office that it is over can't: the lines of the fault.
     Faulty(Vec<u8>),

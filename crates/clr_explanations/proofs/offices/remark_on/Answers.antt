@@ -19,5 +19,5 @@ returns-in_ok-bare-in-Err c = record {
   said =
       said_of_no_value c.args.text.now c.args.found.fault c.args.found.spot _
       (no_value c.args.text.now (c.in-Err.ensures.err (λ memory. both_ways _ c.if-is_memory.false (c.is_memory.ensures.1 memory))))
-      c.in_ok-bare-in-Err.ensures.place;
+      c.in_ok-bare-in-Err.ensures.said;
 }

@@ -1,6 +1,6 @@
 //! Offices that dice make, with members whose merges are planned and then given.
 
-use crate::made_up_edits::edit;
+use crate::edits::edit;
 use clr_call_test_kit::Dice;
 use clr_check::{Verdict, check};
 use clr_engine::{Office, Reply};
@@ -20,20 +20,25 @@ const RULES: [&str; 6] = [
     r#"{"kind":"NEAR","a":{"table":"hydrant"},"b":{"table":"hydrant"},"d":2}"#,
 ];
 
-/// Returns an empty network under two rules.
-fn network(alloc: Global, dice: &mut Dice) -> Result<String, AllocError> {
+/// Returns two rules, as dice choose.
+pub(crate) fn rules(alloc: Global, dice: &mut Dice) -> Result<String, AllocError> {
     let first = RULES[dice.throw(6) as usize];
     let second = RULES[dice.throw(6) as usize];
+    format!(in alloc; "{first},{second}")
+}
+
+/// Returns an empty network under rules.
+pub(crate) fn network(alloc: Global, rules: &str) -> Result<String, AllocError> {
     format!(in alloc;
         r#"{{"format":1,"tables":[{{"name":"node","columns":[["kind","TEXT"]],"shape":"POINT"}},
 {{"name":"main","columns":[["code","TEXT"]],"shape":"SEGMENT"}},
-{{"name":"hydrant","columns":[["main","INT"]],"shape":"POINT"}}],"rules":[{first},{second}],"live":[]}}"#
+{{"name":"hydrant","columns":[["main","INT"]],"shape":"POINT"}}],"rules":[{rules}],"live":[]}}"#
     )
 }
 
 /// Adds edits of a workspace, each in a command of its own, so that one that is refused leaves the
 /// others.
-fn add_edits(
+pub(crate) fn add_edits(
     alloc: Global,
     dice: &mut Dice,
     script: &mut String,
@@ -49,7 +54,7 @@ fn add_edits(
 }
 
 /// Returns edits of LIVE, and then of each of three workspaces under it.
-fn script(alloc: Global, dice: &mut Dice) -> Result<String, AllocError> {
+pub(crate) fn script(alloc: Global, dice: &mut Dice) -> Result<String, AllocError> {
     let mut script = String::new(alloc);
     add_edits(alloc, dice, &mut script, "LIVE", 14)?;
     for name in NAMES {
@@ -114,7 +119,7 @@ fn rows_after_merges(
 }
 
 /// Returns whether all members of a cleared office can be merged in three orders, with the same rows.
-fn are_alike(
+pub(crate) fn are_alike(
     alloc: Global,
     dice: &mut Dice,
     texts: (&str, &str),
@@ -128,7 +133,7 @@ fn are_alike(
 
 /// How the plan for members of a made-up office turns out.
 #[derive(Clone, Copy, Debug, PartialEq, Eq)]
-enum Outcome {
+pub(crate) enum Outcome {
     /// The plan is blocked, and one of the merges in its order is refused.
     Refused,
     /// The plan is cleared, its certificate is clear, and all merges are done in whatever order.
@@ -183,7 +188,7 @@ fn outcome_in(
 }
 
 /// Returns how the plan for members of LIVE turns out in the office of a text after a script.
-fn outcome_over(
+pub(crate) fn outcome_over(
     alloc: Global,
     (network, script): (&str, &str),
     members: &[&str],
@@ -197,7 +202,8 @@ fn outcome_over(
 /// Returns how the plan of the office that a seed makes turns out.
 fn plan_outcome(alloc: Global, seed: u64) -> Result<Outcome, Fail> {
     let mut dice = Dice::new(seed);
-    let network = network(alloc, &mut dice)?;
+    let rules = rules(alloc, &mut dice)?;
+    let network = network(alloc, rules.as_str())?;
     let script = script(alloc, &mut dice)?;
     let texts = (network.as_str(), script.as_str());
     let members: u8 = if seed % 2 == 0 { 2 } else { 3 };
