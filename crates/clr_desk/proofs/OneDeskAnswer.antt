@@ -11,8 +11,8 @@ use Rattle.clr_desk_command_line.specs.declared.asks.DeskAsk.{DeskAsk}
 use Rattle.clr_desk_command_line.specs.declared.asks.DeskAsk.TheVariants as ask
 use Rattle.clr_desk_command_line.specs.declared.asks.GeographicAsk.{GeographicAsk}
 use Rattle.clr_desk_command_line.specs.declared.asks.GeographicAsk.TheVariants as geographic
-use Rattle.clr_desk_layers.specs.Designs.{IsDesignPrint, IsDesignScriptPrint, IsOfficePrint}
-use Rattle.clr_desk_layers.specs.Designs.{IsPrintOfDesign, IsPrintOfLive, IsPrintOfScript}
+use Rattle.clr_desk_layers.specs.Designs.{IsAcceptedOfficePrint, IsDesignPrint, IsDesignScriptPrint, IsOfficePrint}
+use Rattle.clr_desk_layers.specs.Designs.{IsPrintOfAccepted, IsPrintOfDesign, IsPrintOfLive, IsPrintOfScript}
 use Rattle.clr_desk_errors.specs.Accepting.{IsAcceptPrint}
 use Rattle.clr_desk_errors.specs.Mended.{IsMendedPrint}
 use Rattle.clr_desk_prints.specs.Members.{set_asked}
@@ -26,7 +26,7 @@ use Rattle.clr_desk.specs.Formats.{IsFormatPrint}
 use Rattle.clr_desk.specs.Geographic.{IsGeographicAnswer, options_of}
 use Rattle.clr_desk.specs.Merges.{IsHintedMerge, IsMergePrintout}
 use Rattle.clr_desk.specs.OneAnswer.{IsOnePrint, OneDeskAnswerLaw, is_whole, is_whole_layer}
-use Rattle.clr_desk.proofs.OneAnswer.{one_accept_print, one_mended_print}
+use Rattle.clr_desk.proofs.OneAnswer.{one_accept_print, one_accepted, one_mended_print}
 use Rattle.clr_desk.proofs.OneAnswer.{one_check_print, one_design, one_design_script, one_format_print, one_live, one_merge_print, one_of_layers}
 use Rattle.clr_desk.proofs.OneAnswer.{one_plan_print}
 use Rattle.clr_desk.proofs.OneChoice.{one_choice_print}
@@ -37,6 +37,9 @@ one_geographic : (asked : GeographicAsk) (office : List ℕ) (layers : List Give
 one_geographic (geographic.Features root names system) office layers whole = absurd (false≢true whole)
 one_geographic (geographic.Layer table workspace) office layers whole = absurd (false≢true whole)
 one_geographic (geographic.ErrorFeatures system) office layers whole = absurd (false≢true whole)
+one_geographic (geographic.AcceptedOffice tables rounded) office layers whole =
+    one_of_draft (IsAcceptedOfficePrint (options_of 1 rounded) layers) (λ o. one_of_layers (options_of 1 rounded) layers IsPrintOfAccepted one_accepted o)
+    (draft_in office)
 one_geographic (geographic.Office tables rounded) office layers whole =
     one_in (IsOfficePrint (options_of 1 rounded) layers) (λ o. one_of_layers (options_of 1 rounded) layers IsPrintOfLive one_live o) (opened_in office)
 one_geographic (geographic.Design design) office layers whole =

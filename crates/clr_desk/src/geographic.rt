@@ -6,7 +6,8 @@ ghost use Rattle.clr_desk_prints.specs.Printing.{IsMadePrintout};
 use clr_desk_command_line::GeographicAsk;
 use clr_desk_errors::answer_error_features;
 use clr_desk_layers::{
-    GivenLayer, LayerOptions, answer_design, answer_design_script, answer_layer, answer_office,
+    GivenLayer, LayerOptions, answer_accepted_office, answer_design, answer_design_script,
+    answer_layer, answer_office,
 };
 use clr_desk_pages::answer_geojson;
 use clr_desk_prints::Print;
@@ -39,6 +40,13 @@ pub(crate) fn answer_geographic(
                 rounded: *rounded,
             };
             answer_office(alloc, office, options, layers)
+        }
+        GeographicAsk::AcceptedOffice(_, rounded) => {
+            let options = LayerOptions {
+                first_key: 1,
+                rounded: *rounded,
+            };
+            answer_accepted_office(alloc, office, options, layers)
         }
         GeographicAsk::ErrorFeatures(system) => {
             answer_error_features(alloc, office, system.as_ref())

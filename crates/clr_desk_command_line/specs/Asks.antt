@@ -14,7 +14,7 @@ use Rattle.clr_desk_command_line.specs.declared.asks.DeskAsk.TheVariants.{Certif
 use Rattle.clr_desk_command_line.specs.declared.asks.DeskAsk.TheVariants.{Map, Report, Geographic}
 use Rattle.clr_desk_command_line.specs.declared.asks.DesignAsk.{DesignAsk}
 use Rattle.clr_desk_command_line.specs.declared.asks.GeographicAsk.{GeographicAsk}
-use Rattle.clr_desk_command_line.specs.declared.asks.GeographicAsk.TheVariants.{Features, Layer, Office, ErrorFeatures, Design, DesignScript}
+use Rattle.clr_desk_command_line.specs.declared.asks.GeographicAsk.TheVariants.{Features, Layer, Office, AcceptedOffice, ErrorFeatures, Design, DesignScript}
 use Rattle.clr_desk_command_line.specs.declared.asks.TextKind.TheVariants as kind
 
 -- the value that is given, or another
@@ -101,8 +101,14 @@ first_key_of rows = option_map_or key_in (first_of (codes "keys") rows) (Some 1)
 abbrev pub asked_of_layers : Text → (List Text → GeographicAsk) → List Row → Option (GeographicAsk × List Text)
 asked_of_layers database ask rows = option_map (λ layers. (ask layers.0, given_value database rows ∷ layers.1)) (layers_ask rows)
 
+-- the office of these tables, with its errors accepted or not
+abbrev pub office_of : Bool → List Text → Bool → GeographicAsk
+office_of true tables rounded = AcceptedOffice tables rounded
+office_of false tables rounded = Office tables rounded
+
 abbrev pub office_ask : List Row → Option (GeographicAsk × List Text)
-office_ask rows = asked_of_layers (codes "SCHEMA") (λ tables. Office tables (is_set (codes "round") rows)) rows
+office_ask rows =
+    asked_of_layers (codes "SCHEMA") (λ tables. office_of (is_set (codes "accept") rows) tables (is_set (codes "round") rows)) rows
 
 -- a design of these tables, whose rows get keys from this one on
 abbrev pub design_in : List Row → ℕ → List Text → DesignAsk

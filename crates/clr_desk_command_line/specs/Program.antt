@@ -55,7 +55,7 @@ abbrev pub layer : App
 layer = with_rule (with_rule (database_command (codes "layer")) (value (codes "TABLE"))) (option (codes "in"))
 
 abbrev pub office : App
-office = with_rule (with_rule (with_rule (new_app (codes "office")) (value (codes "SCHEMA"))) layers) round
+office = with_rule (with_rule (with_rule (with_rule (new_app (codes "office")) (value (codes "SCHEMA"))) layers) round) (flag (codes "accept"))
 
 -- the design's name, and its layers
 abbrev pub design_of_layers : App

@@ -33,6 +33,8 @@ pub enum GeographicAsk {
     /// The office in which LIVE has the rows of layers: the tables of the layers, in the order of their files, and whether coordinates finer than
     /// a millimetre are rounded.
     Office(Names, bool),
+    /// The same office with its errors accepted.
+    AcceptedOffice(Names, bool),
     /// The errors of LIVE as features of a map: the name of the reference system of their coordinates, as it was given.
     ErrorFeatures(Option<Words>),
     /// The office with one more design.

@@ -155,6 +155,10 @@ const DESK: ProgramTable<'static> = ProgramTable {
                 ),
                 LAYERS,
                 ROUND,
+                Argument::Flag(
+                    "accept",
+                    "Accept what is broken then, so that it is known in the office",
+                ),
             ],
         },
         Subcommand {

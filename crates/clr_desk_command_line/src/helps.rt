@@ -114,7 +114,8 @@ pub(crate) const OFFICE_PRINTS: &str =
     "It prints the office in which LIVE has the rows of the layers in place of those of their tables, and nothing else,
 with status 0. A layer is CSV, as `clr_desk layer` prints it, with shapes as WKT in metres; a row whose KEY is empty
 gets the least key that is free. Where a layer can't be read or a rule doesn't hold it prints nothing, and on standard
-error the line that says so, with status 2 or 1.
+error the line that says so, with status 2 or 1. With --accept no rule is in the way: what is broken is known in the
+office, as `clr_desk accept` has it, and standard error says how many needs these are of each rule.
 
 Example:
   clr_desk office schema.json main=main.csv valve=valve.csv > office.json";

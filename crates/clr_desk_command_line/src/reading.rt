@@ -165,7 +165,7 @@ fn refusal(alloc: Global, matches: &ArgMatches) -> Result<AskFault, AllocError> 
 /// `check DB CERT`, `merge DB CERT NAME..`, `format DB`, `accept DB`, `mended DB`, `errors DB [--geojson] [--crs SYSTEM]`, `why DB [--script FILE]
 /// [--certificate FILE]`, `certificate`, `keep`, `clashes`, `words`, `map`
 /// and `report`, each with `DB [--under ROOT] NAME..`, `geojson DB [--under ROOT] [--crs SYSTEM] NAME..`, `layer DB TABLE [--in
-/// WORKSPACE]`, `office SCHEMA TABLE=FILE.. [--round]` and `design DB NAME TABLE=FILE.. [--script] [--keys N] [--round]`. There are none
+/// WORKSPACE]`, `office SCHEMA TABLE=FILE.. [--round] [--accept]` and `design DB NAME TABLE=FILE.. [--script] [--keys N] [--round]`. There are none
 /// or more names, and one or more layers. The root, and the workspace of a layer, is LIVE where none is given; N is 1.
 ///
 /// Fails with `Refused` where the words name no subcommand or another count of values than it has,

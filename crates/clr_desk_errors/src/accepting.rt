@@ -4,13 +4,15 @@ ghost use Rattle.std.specs.Prelude.{◌≡◌, Ok, IfErr, IfOk};
 ghost use Rattle.clr_office_reading.specs.Offices.{known_in};
 ghost use Rattle.clr_office_texts.specs.Drafts.{draft_in};
 ghost use Rattle.clr_office_reports.specs.Printing.{IsOfficeFault};
-ghost use Rattle.clr_desk_errors.specs.Accepting.{IsAccepted, IsAcceptPrint, IsPrintoutOfDraft};
+ghost use Rattle.clr_desk_errors.specs.Accepting.{IsAccepted, IsAcceptPrint, IsAcceptedPrint, IsPrintoutOfDraft, accepted_text};
 ghost use Rattle.clr_desk_prints.specs.Printing.{IsMadePrintout, printed};
 
 use clr_desk_prints::{Print, RunFault};
 use clr_engine::{Draft, Office};
+use clr_lines::count_line;
 use clr_office_reports::draft_of;
 use clr_office_texts::{DraftText, KnownNeeds, write_office};
+use clr_old_errors::add_rule_counts;
 use std::alloc::{AllocError, Global};
 
 /// An office, and the needs that its text names as known.
@@ -52,6 +54,34 @@ fn accepted_office(alloc: Global, office: &Office) -> Result<Vec<u8>, AllocError
     let mut text = write_office(alloc, office)?;
     text.push(b'\n')?;
     Ok(text)
+}
+
+/// Returns how many needs are accepted, in all and of each rule that has some, a line each.
+fn accepted_lines(alloc: Global, office: &Office) -> Result<Vec<u8>, AllocError>
+    ensures { IfOk result (λ lines. lines.items ≡ accepted_text office.now) }
+{
+    let _standing = office.len();
+    let needs = office.broken_needs()?;
+    let mut lines = count_line(alloc, "accepted", needs.len())?;
+    add_rule_counts(
+        alloc,
+        &mut lines,
+        office.schema(),
+        office.book(),
+        needs.as_slice(),
+    )?;
+    Ok(lines)
+}
+
+/// Returns the text of an office with just its broken needs as known, and as notes how many needs these are, in all and of each rule that has
+/// some.
+pub fn accepted_print(alloc: Global, draft: Draft) -> Result<Print, AllocError>
+    ensures { IfOk result (λ p. IsAcceptedPrint draft (printed p)) }
+{
+    let office = admitted(draft)?;
+    let text = accepted_office(alloc, &office)?;
+    let notes = accepted_lines(alloc, &office)?;
+    Ok(Print::new(text, notes, false, false))
 }
 
 /// Returns what is printed of an office with its errors accepted.

@@ -53,14 +53,16 @@ fn order_sentence(setting: Setting<'_>, order: &[usize]) -> Result<String, Alloc
     Ok(text)
 }
 
-/// Returns the rule of a need.
+/// Returns the rule of a need, and that it is an old error, if it is.
 fn need_sentence(setting: Setting<'_>, need: &Need) -> Result<String, AllocError> {
     let Some(rule) = rule_of(setting.office, need) else {
         return Ok(String::new(setting.alloc));
     };
     let sentence = rule_sentence(setting.alloc, setting.office.schema(), rule)?;
     let number = need.rule;
-    format!(in setting.alloc; "Rule {number}: {sentence}")
+    let old = setting.old_words(need)?;
+    let text = format!(in setting.alloc; "Rule {number}: {sentence}\n{old}")?;
+    one_line(setting.alloc, text.as_str())
 }
 
 /// Returns why a merge is refused.

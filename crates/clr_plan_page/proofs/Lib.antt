@@ -1,3 +1,4 @@
 mod ClashLemmas
+mod ErrorLemmas
 mod SectionLemmas
 mod TrialLemmas

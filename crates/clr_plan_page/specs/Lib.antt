@@ -1,4 +1,5 @@
 pub mod Clashes
+pub mod OldErrors
 pub mod Reasons
 pub mod Reports
 pub mod Sections

@@ -24,6 +24,7 @@ use Rattle.clr_work_orders.specs.declared.trials.Trial.{Trial}
 use Rattle.clr_work_orders.specs.Trials.{AreTrialsOf}
 use Rattle.clr_plan_map.specs.Maps.{IsMap, plan_word}
 use Rattle.clr_plan_page.specs.Clashes.{AreDesigns}
+use Rattle.clr_plan_page.specs.OldErrors.{AreOldErrors}
 use Rattle.clr_plan_page.specs.Reasons.{IsWhy}
 use Rattle.clr_plan_page.specs.declared.feet.TheConstants.{PLAN, PLANUNDER}
 
@@ -63,13 +64,16 @@ EndsWith section lines =
     (above : List Block) × (last : Vec ℕ Global) × All (λ b. is_escaped b ≡ true) above × (section.blocks.items ≡ above ++ block.Lines last ∷ [])
     × (last.items ≡ lines)
 
--- why a plan says what it says, with these trials, and then the designs with their clashes; no verdict and no picture is among these
+-- why a plan says what it says, with these trials, then the designs with their clashes, and then the old errors of the root, if it has some; no
+-- verdict and no picture is among these
 pub record AreBetween (o : Office) (s : MergeSet) (p : Plan) (trials : List Trial) (sections : List Section) : Type 0 where
   pub why : Section
   pub designs : Section
-  pub whole : sections ≡ why ∷ designs ∷ []
+  pub old : List Section
+  pub whole : sections ≡ why ∷ designs ∷ old
   pub reasons : IsWhy p trials why.blocks.items
   pub told : AreDesigns o s designs.blocks.items
+  pub errors : AreOldErrors o s.root old
 
 -- a page that begins with the word for a plan and with a picture, and ends with the command and the lines of the plan; between are these sections
 pub record IsReportPage (tables : List TableDef) (s : MergeSet) (p : Plan) (picture : List ℕ) (between : List Section) (page : HtmlPage) : Type 0 where

@@ -56,7 +56,7 @@ fn add_second_subject(
 }
 
 /// Returns the name of the first member that changes a cell, or an empty one where none does.
-fn changer_name<'a>(members: &'a MemberChanges<'_>, cell: CellId) -> &'a str
+pub(crate) fn changer_name<'a>(members: &'a MemberChanges<'_>, cell: CellId) -> &'a str
     ensures { result.now ≡ changer_name (set_of members.entry.now).members members.entry.now.changes.items cell }
 {
     match members.changer_of(cell) {
