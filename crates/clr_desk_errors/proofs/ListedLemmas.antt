@@ -1,5 +1,5 @@
 -- Errors that are listed beside known needs, whatever their order.
-use Rattle.std.proofs.Common.{◌≡◌, ◌↔◌, ◌∙◌, All, Contains, List}
+use Rattle.std.proofs.Common.{◌↔◌, ◌∙◌, All, Contains, List}
 use Rattle.std.proofs.lemmas.List.Elements.{All-weaker}
 use Rattle.clr_rules.specs.declared.needs.Broken.{Broken}
 use Rattle.clr_steps.specs.Offices.{Office}
