@@ -1,2 +1,3 @@
 mod Accepted
+mod ListedLemmas
 mod MendedLemmas

@@ -1,5 +1,5 @@
 -- The broken needs of LIVE as features of a map.
-use Rattle.std.specs.Prelude.{◌≡◌, ℕ, ℤ, pos, List, [], ◌∷◌, codes, map, Option, Some, None, Result, slice_get}
+use Rattle.std.specs.Prelude.{◌≡◌, ℕ, ℤ, pos, false, List, [], ◌∷◌, ◌++◌, codes, map, Option, Some, None, Result, slice_get}
 use Rattle.clr_rows.specs.declared.cells.CellId.{CellId}
 use Rattle.clr_rows.specs.declared.places.Place.{Place}
 use Rattle.clr_rows.specs.declared.places.Shape.{Shape}
@@ -38,19 +38,30 @@ abbrev pub second_key : Option CellId → ℤ
 second_key None = pos 0
 second_key (Some cell) = cell.key
 
--- the rule of an error, its rows and their parts, whether it is known, what a map would say, and what the rule asks for
-unfoldable pub error_properties : List TableDef → List ℕ → ListedError → List Property
-error_properties tables asks e =
-    number_property (codes "rule") (pos e.need.rule)
-    ∷ text_property (codes "table") (name_of_table tables e.need.first.table)
-    ∷ number_property (codes "key") e.need.first.key
-    ∷ number_property (codes "part") (pos e.need.first_part)
-    ∷ text_property (codes "table2") (second_table tables e.need.second)
-    ∷ number_property (codes "key2") (second_key e.need.second)
-    ∷ number_property (codes "part2") (pos e.need.second_part)
-    ∷ flag_property (codes "known") e.is_known
+-- the rule of a need, its first row and the part of this
+unfoldable pub first_properties : List TableDef → Broken → List Property
+first_properties tables need =
+    number_property (codes "rule") (pos need.rule)
+    ∷ text_property (codes "table") (name_of_table tables need.first.table)
+    ∷ number_property (codes "key") need.first.key
+    ∷ number_property (codes "part") (pos need.first_part) ∷ []
+
+-- its second row and the part of this
+unfoldable pub second_properties : List TableDef → Broken → List Property
+second_properties tables need =
+    text_property (codes "table2") (second_table tables need.second)
+    ∷ number_property (codes "key2") (second_key need.second)
+    ∷ number_property (codes "part2") (pos need.second_part) ∷ []
+
+-- whether an error is known, what a map would say, and what its rule asks for
+unfoldable pub told_properties : List ℕ → ListedError → List Property
+told_properties asks e =
+    flag_property (codes "known") e.is_known
     ∷ text_property (codes "says") e.says
     ∷ text_property (codes "asks") asks ∷ []
+
+abbrev pub error_properties : List TableDef → List ℕ → ListedError → List Property
+error_properties tables asks e = (first_properties tables e.need ++ second_properties tables e.need) ++ told_properties asks e
 
 -- an error as a point where it is, or without a shape
 abbrev pub error_feature : Office → ListedError → Feature

@@ -1,5 +1,5 @@
 -- The broken needs of LIVE as lines.
-use Rattle.std.specs.Prelude.{◌≡◌, ℕ, Bool, true, false, List, [], ◌++◌, codes, filter, length, map, Option, Some, None}
+use Rattle.std.specs.Prelude.{◌≡◌, ℕ, Bool, true, false, List, [], ◌++◌, codes, length, map, if◌then◌else◌, Option, Some, None}
 use Rattle.std.specs.List.{enumerate_from, flat_map}
 use Rattle.std.specs.Option.{option_map_or}
 use Rattle.clr_rows.specs.declared.cells.CellId.{CellId}
@@ -46,10 +46,14 @@ second_line tables live (Some cell) = row_line tables live cell
 abbrev pub error_text : Office → ListedError → List ℕ
 error_text o e = error_line o.schema e ++ row_line o.schema o.live e.need.first ++ second_line o.schema o.live e.need.second
 
+-- an error of a rule, and nothing of another
+abbrev pub error_of_rule : Office → ℕ → ListedError → List ℕ
+error_of_rule o number e = if is_of_rule number e.need then error_text o e else []
+
 -- of a rule that has errors: how many, its sentence, and each of them
 abbrev pub rule_errors : Office → List ListedError → ℕ × Rule → List ℕ
 rule_errors o errors e =
-    rule_count_text o.schema (map (λ error. error.need) errors) e ++ flat_map (error_text o) (filter (λ error. is_of_rule e.0 error.need) errors)
+    rule_count_text o.schema (map (λ error. error.need) errors) e ++ flat_map (error_of_rule o e.0) errors
 
 -- how many errors there are, and then each rule that has some, ascending
 unfoldable pub errors_text : Office → List ListedError → List ℕ

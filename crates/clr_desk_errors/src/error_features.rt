@@ -6,6 +6,7 @@ ghost use Rattle.std.specs.Option.{option_copied};
 ghost use Rattle.clr_geojson.specs.Collections.{collection_text, line_with_comma};
 ghost use Rattle.clr_desk_errors.specs.ErrorFeatures.{AreErrorFeatures, IsErrorFeaturesAnswer};
 ghost use Rattle.clr_desk_errors.specs.ErrorFeatures.{asked_words, error_feature, error_properties, point_at, second_key, second_table};
+ghost use Rattle.clr_desk_errors.specs.ErrorFeatures.{first_properties, second_properties, told_properties};
 ghost use Rattle.clr_office_reading.specs.Offices.{known_in};
 ghost use Rattle.clr_office_texts.specs.Drafts.{draft_in};
 ghost use Rattle.clr_desk_errors.specs.Accepting.{IsPrintoutOfDraft};
@@ -62,6 +63,57 @@ fn second_key(cell: Option<CellId>) -> i64
     }
 }
 
+/// Returns the properties that tell the rule of a need, its first row and the part of this.
+#[tactic(auto, unfolding(crate::specs::ErrorFeatures::first_properties))]
+fn first_properties(
+    alloc: Global,
+    schema: &Schema,
+    need: &Broken,
+) -> Result<Vec<Property>, AllocError>
+    ensures { IfOk result (λ list. list.items ≡ first_properties schema.now need.now) }
+{
+    let table = schema.name_of_table(need.first.table);
+    let mut list = Vec::new(alloc);
+    list.push(Property::number(alloc, "rule", i64::from(need.rule))?)?;
+    list.push(Property::text(alloc, "table", table)?)?;
+    list.push(Property::number(alloc, "key", need.first.key)?)?;
+    list.push(Property::number(alloc, "part", i64::from(need.first_part))?)?;
+    Ok(list)
+}
+
+/// Returns the properties that tell the second row of a need and the part of this.
+#[tactic(auto, unfolding(crate::specs::ErrorFeatures::second_properties))]
+fn second_properties(
+    alloc: Global,
+    schema: &Schema,
+    need: &Broken,
+) -> Result<Vec<Property>, AllocError>
+    ensures { IfOk result (λ list. list.items ≡ second_properties schema.now need.now) }
+{
+    let table = second_table(schema, need.second);
+    let mut list = Vec::new(alloc);
+    list.push(Property::text(alloc, "table2", table)?)?;
+    list.push(Property::number(alloc, "key2", second_key(need.second))?)?;
+    list.push(Property::number(alloc, "part2", i64::from(need.second_part))?)?;
+    Ok(list)
+}
+
+/// Returns the properties that tell whether an error is known, a few words, and what its rule asks for.
+#[tactic(auto, unfolding(crate::specs::ErrorFeatures::told_properties))]
+fn told_properties(
+    alloc: Global,
+    asks: &str,
+    error: &ListedError,
+) -> Result<Vec<Property>, AllocError>
+    ensures { IfOk result (λ list. list.items ≡ told_properties asks.now error.now) }
+{
+    let mut list = Vec::new(alloc);
+    list.push(Property::flag(alloc, "known", error.is_known)?)?;
+    list.push(Property::text(alloc, "says", error.says.as_str())?)?;
+    list.push(Property::text(alloc, "asks", asks)?)?;
+    Ok(list)
+}
+
 /// Returns the properties of an error under a rule that asks for this.
 fn error_properties(
     alloc: Global,
@@ -71,19 +123,11 @@ fn error_properties(
 ) -> Result<Vec<Property>, AllocError>
     ensures { IfOk result (λ list. list.items ≡ error_properties schema.now asks.now error.now) }
 {
-    let need = &error.need;
-    let (first, second) = (need.first, need.second);
-    let mut list = Vec::new(alloc);
-    list.push(Property::number(alloc, "rule", i64::from(need.rule))?)?;
-    list.push(Property::text(alloc, "table", schema.name_of_table(first.table))?)?;
-    list.push(Property::number(alloc, "key", first.key)?)?;
-    list.push(Property::number(alloc, "part", i64::from(need.first_part))?)?;
-    list.push(Property::text(alloc, "table2", second_table(schema, second))?)?;
-    list.push(Property::number(alloc, "key2", second_key(second))?)?;
-    list.push(Property::number(alloc, "part2", i64::from(need.second_part))?)?;
-    list.push(Property::flag(alloc, "known", error.is_known)?)?;
-    list.push(Property::text(alloc, "says", error.says.as_str())?)?;
-    list.push(Property::text(alloc, "asks", asks)?)?;
+    let mut list = first_properties(alloc, schema, &error.need)?;
+    let mut second = second_properties(alloc, schema, &error.need)?;
+    list.append(&mut second)?;
+    let mut told = told_properties(alloc, asks, error)?;
+    list.append(&mut told)?;
     Ok(list)
 }
 

@@ -1,11 +1,10 @@
 //! The broken needs of LIVE as lines.
 
-ghost use Rattle.std.specs.Prelude.{◌≡◌, ◌++◌, filter, map, IfOk, OnOk};
+ghost use Rattle.std.specs.Prelude.{◌≡◌, ◌++◌, map, IfOk, OnOk};
 ghost use Rattle.std.specs.List.{flat_map};
-ghost use Rattle.clr_desk_errors.specs.ErrorLines.{error_line, error_text, errors_text, known_word, place_words, row_line, rule_errors};
+ghost use Rattle.clr_desk_errors.specs.ErrorLines.{error_line, error_of_rule, error_text, errors_text, known_word, place_words, row_line, rule_errors};
 ghost use Rattle.clr_desk_errors.specs.ErrorLines.{IsErrorsPrint};
 ghost use Rattle.clr_desk_errors.specs.ListedErrors.{is_any_unknown};
-ghost use Rattle.clr_old_errors.specs.RuleCounts.{is_of_rule};
 ghost use Rattle.clr_office_reading.specs.Offices.{known_in};
 ghost use Rattle.clr_office_texts.specs.Drafts.{draft_in};
 ghost use Rattle.clr_desk_errors.specs.Accepting.{IsPrintoutOfDraft};
@@ -97,6 +96,22 @@ fn add_error(
     }
 }
 
+/// Adds an error if it is of a rule, and nothing otherwise.
+fn add_error_of_rule(
+    alloc: Global,
+    text: &mut Vec<u8>,
+    office: &Office,
+    number: u16,
+    error: &ListedError,
+) -> Result<(), AllocError>
+    ensures { OnOk result (text.new.items ≡ text.old.items ++ error_of_rule office.now number error.now) }
+{
+    if error.need.rule == number {
+        return add_error(alloc, text, office, error);
+    }
+    Ok(())
+}
+
 /// Adds those of some errors that are of a rule.
 fn add_errors_of_rule(
     alloc: Global,
@@ -105,13 +120,10 @@ fn add_errors_of_rule(
     number: u16,
     errors: &[ListedError],
 ) -> Result<(), AllocError>
-    ensures { OnOk result (text.new.items ≡ text.old.items
-        ++ flat_map (error_text office.now) (filter (λ e. is_of_rule number e.need) errors.now)) }
+    ensures { OnOk result (text.new.items ≡ text.old.items ++ flat_map (error_of_rule office.now number) errors.now) }
 {
     for error in errors {
-        if error.need.rule == number {
-            add_error(alloc, text, office, error)?;
-        }
+        add_error_of_rule(alloc, text, office, number, error)?;
     }
     Ok(())
 }

@@ -125,5 +125,6 @@ pub(crate) fn list_errors(
     let mut in_order = Vec::from_slice(alloc, known)?;
     put_in_order(&mut in_order);
     let needs = audit(alloc, office.book(), office.live())?;
-    list_beside(alloc, office, in_order.as_slice(), needs.as_slice())
+    let errors = list_beside(alloc, office, in_order.as_slice(), needs.as_slice())?;
+    Ok(errors)
 }

@@ -11,7 +11,6 @@ use clr_desk_prints::{Print, RunFault};
 use clr_engine::{Broken, Draft};
 use clr_lines::{add_need, count_line};
 use clr_office_reports::draft_of;
-use clr_office_texts::DraftText;
 use clr_old_errors::needs_beside;
 use clr_rows::Schema;
 use std::alloc::{AllocError, Global};
@@ -53,6 +52,6 @@ fn mended_print(alloc: Global, draft: &Draft, known: &[Broken]) -> Result<Print,
 pub fn answer_mended(alloc: Global, office: &[u8]) -> Result<Print, RunFault>
     ensures { IsMadePrintout (IsPrintoutOfDraft (IsMendedPrint (known_in office.now)) (draft_in office.now)) result }
 {
-    let DraftText { draft, known } = draft_of(alloc, office)?;
-    Ok(mended_print(alloc, &draft, known.as_slice())?)
+    let read = draft_of(alloc, office)?;
+    Ok(mended_print(alloc, &read.draft, read.known.as_slice())?)
 }

@@ -38,8 +38,8 @@ fn resolve(alloc: Global, dice: &mut Dice, name: &str) -> Result<String, AllocEr
 fn step(alloc: Global, dice: &mut Dice) -> Result<String, AllocError> {
     let name = NAMES[dice.throw(3) as usize];
     match dice.throw(12) {
-        0..4 => format!(in alloc; "apply,LIVE,1\n{}", edit(alloc, dice)?),
-        4..7 => format!(in alloc; "apply,{name},1\n{}", edit(alloc, dice)?),
+        0..=3 => format!(in alloc; "apply,LIVE,1\n{}", edit(alloc, dice)?),
+        4..=6 => format!(in alloc; "apply,{name},1\n{}", edit(alloc, dice)?),
         7 => named(alloc, dice, name),
         8 => resolve(alloc, dice, name),
         9 => format!(in alloc; "merge,{name},keep\n"),

@@ -31,6 +31,15 @@ module _ (needs : List Broken) (need : Broken) where
       go true e = absurd (absent (there_if_known e))
       go false e = refl
 
+-- the same needs are known by two lists that have the same
+pub same_known : (one other : List Broken) → ((x : Broken) → Contains one x ↔ Contains other x) → (need : Broken)
+    → is_known one need ≡ is_known other need
+same_known one other same need = known_by other need (is_known one need) (test (is_known one need) refl)
+  where
+    test : (told : Bool) → is_known one need ≡ told → IsTestOf told (Contains other need)
+    test true e = (same need).0 (there_if_known one need e)
+    test false e = λ there. false≢true (sym e ∙ known_if_there one need ((same need).1 there))
+
 -- the needs of a list that aren't among others
 abbrev left_of : List Broken → List Broken → List Broken
 left_of others needs = filter (λ need. not (is_known others need)) needs

@@ -1,1 +1,1 @@
-mod KnownLemmas
+pub mod KnownLemmas
