@@ -1,5 +1,5 @@
 -- The needs that an office breaks are just those that its accepted text knows; and what is printed of a draft.
-use Rattle.std.proofs.Common.{◌≡◌, ◌↔◌, ◌∷◌, [], ℕ, List, Contains, None, Result, Ok, length, ap, refl, subst, sym, ◌∙◌}
+use Rattle.std.proofs.Common.{◌≡◌, ◌↔◌, ◌∷◌, ℕ, List, Contains, None, Result, Ok, length, ap, refl, subst, sym, ◌∙◌}
 use Rattle.clr_rules.specs.declared.needs.Broken.{Broken}
 use Rattle.clr_rules.proofs.Elements.{among, contained}
 use Rattle.clr_workspaces.specs.Soundness.{IsSound}
