@@ -1,3 +1,3 @@
-mod Accepted
+pub mod Accepted
 mod ListedLemmas
 mod MendedLemmas
