@@ -1,5 +1,5 @@
 use Rattle.std.proofs.Common.{◌≡◌, ◌∙◌, Bool, true, false, cond, ◌||◌, Option, Some, None, ap₂, is_some, refl, subst, sym, unwrap_or}
-use Rattle.clr_rows.specs.Contents.{Content, no_rows}
+use Rattle.clr_rows.specs.Contents.{no_rows}
 use Rattle.clr_rows.specs.Schemas.{FitsSchema}
 use Rattle.clr_rules.specs.Books.{FitsBook}
 use Rattle.clr_rules.specs.Needs.{broken_needs}
