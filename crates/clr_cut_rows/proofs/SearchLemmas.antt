@@ -1,0 +1,159 @@
+-- Searches among the versions of a cut, one cell after another and one rule after another.
+use Rattle.std.proofs.Common.{◌≡◌, ◌∙◌, ◌<◌, ◌≤◌, ◌+◌, ℕ, Bool, true, false, ◌&&◌, ◌||◌, List, Some, None, ◌⊎◌, inl, inr, Contains, get_or, length, take}
+use Rattle.std.proofs.Common.{refl, sym, ap, subst, arith}
+use Rattle.std.specs.Prelude.{Decides}
+use Rattle.std.proofs.lemmas.Bool.{cases_lt, false≢true}
+use Rattle.std.proofs.lemmas.Bool.Decides.{Decides-and, Decides-like, Decides-or}
+use Rattle.clr_rows.specs.declared.cells.CellId.{CellId}
+use Rattle.clr_rows.specs.Held.{Held}
+use Rattle.clr_needs.specs.declared.needs.VersionId.{VersionId}
+use Rattle.clr_needs.specs.Settings.{Setting, Lived, version}
+use Rattle.clr_needs.proofs.Reading.{all_taken, none_taken, one_more, read_in}
+use Rattle.clr_row_versions.specs.declared.versions.Version.{Version}
+use Rattle.clr_row_versions.specs.Versions.{IsNamed, row_and_life, version_of}
+use Rattle.clr_foot.proofs.TouchLaws.{lived_is}
+use Rattle.clr_reach.specs.declared.aims.Aim.{Aim}
+use Rattle.clr_reach.specs.Found.{IsFound, IsFoundUnder, IsNear, MayBeTouched, MayTouch}
+use Rattle.clr_cut_rows.specs.declared.near.NearCells.{NearCells}
+use Rattle.clr_cut_rows.specs.Searches.{AreNearCells, HasAmong, HasAt}
+use Rattle.clr_cut_rows.proofs.NearLemmas.{sharing_below}
+
+-- tests --------------------------------------------------------------------------------------------
+
+module _ {P : Type 0} where
+  pub told_yes : P → Decides true P
+  told_yes h = (λ _. h, λ _. refl)
+
+  pub told_no : ¬ P → Decides false P
+  told_no h = (λ yes. absurd (false≢true yes), λ p. absurd (h p))
+
+  pub holds_by : (yes : Bool) → yes ≡ true → Decides yes P → P
+  holds_by yes is told = told.0 is
+
+  pub fails_by : (yes : Bool) → yes ≡ false → Decides yes P → ¬ P
+  fails_by yes is told p = false≢true (sym is ∙ told.1 p)
+
+told_itself : (b : Bool) → Decides b (b ≡ true)
+told_itself b = (λ yes. yes, λ yes. yes)
+
+-- a version that may touch, by what is asked of it
+pub plans_told : (fresh pairs taken serves : Bool) (T : Type 0) → Decides taken T
+    → Decides ((fresh && pairs) || (taken && serves)) (((fresh ≡ true) × (pairs ≡ true)) ⊎ (T × (serves ≡ true)))
+plans_told fresh pairs taken serves T told = Decides-or (fresh && pairs) (taken && serves)
+    (Decides-and fresh pairs (told_itself fresh) (told_itself pairs)) (Decides-and taken serves told (told_itself serves))
+
+pub groups_told : (of_member pairs serves : Bool) (T : Type 0) → Decides of_member T
+    → Decides (of_member && (pairs || serves)) (T × ((pairs ≡ true) ⊎ (serves ≡ true)))
+groups_told of_member pairs serves T told =
+    Decides-and of_member (pairs || serves) told (Decides-or pairs serves (told_itself pairs) (told_itself serves))
+
+-- versions -----------------------------------------------------------------------------------------
+
+module _ (P : VersionId → Lived ℕ → Type 0) (c : Setting ℕ) where
+  pub none_at : (v : VersionId) → version c v ≡ None → Decides false (HasAt P c v)
+  none_at v none = told_no (λ has. let clash : None ≡ Some has.0 = sym none ∙ has.1 in absurd cc)
+
+  pub one_at : (v : VersionId) (w : Version) (yes : Bool) → IsNamed c v w → Decides yes (P w.id (row_and_life w)) → Decides yes (HasAt P c v)
+  one_at v w yes named told = Decides-like yes to from told
+    where
+      to : P w.id (row_and_life w) → HasAt P c v
+      to holds = (row_and_life w, ap (version c) (sym named.0) ∙ named.1, subst (λ u. P u (row_and_life w)) named.0 holds)
+
+      from : HasAt P c v → P w.id (row_and_life w)
+      from (l, is, holds) = subst (λ u. P u (row_and_life w)) (sym named.0) (subst (P v) (sym (lived_is c w v l named.0 named.1 is)) holds)
+
+  -- cells one after another
+  module _ (fresh : Bool) (cells : List CellId) where
+    pub none_to : ¬ (HasAmong P c fresh (take 0 cells))
+    none_to (q, h, has) = none_taken cells q h
+
+    pub none_more : (k : ℕ) (d : CellId) (yes : Bool) → k < length cells → yes ≡ false → Decides yes (HasAt P c (version_of fresh (get_or cells k d)))
+        → ¬ (HasAmong P c fresh (take k cells)) → ¬ (HasAmong P c fresh (take (k + 1) cells))
+    none_more k d yes less no told before (q, h, has) = by (one_more cells k d q less h)
+      where
+        by : Contains (take k cells) q ⊎ (q ≡ get_or cells k d) → ⊥
+        by (inl earlier) = before (q, earlier, has)
+        by (inr last) = fails_by yes no told (subst (λ p. HasAt P c (version_of fresh p)) last has)
+
+    pub one_of_all : (k : ℕ) (d : CellId) (yes : Bool) → k < length cells → yes ≡ true → Decides yes (HasAt P c (version_of fresh (get_or cells k d)))
+        → Decides true (HasAmong P c fresh cells)
+    one_of_all k d yes less is told = told_yes (get_or cells k d, read_in cells k d less, told.0 is)
+
+    pub none_of_all : (k : ℕ) → length cells ≤ k → ¬ (HasAmong P c fresh (take k cells)) → Decides false (HasAmong P c fresh cells)
+    none_of_all k past none = told_no (λ has. none (has.0, all_taken cells k has.0 past has.1, has.2))
+
+  -- those near a row
+  pub near_told : (number : ℕ) (s : Held) (near : NearCells) (old new : Bool) → AreNearCells c number s near
+      → Decides old (HasAmong P c false near.old.items) → Decides new (HasAmong P c true near.new.items) → Decides (old || new) (IsNear P c number s)
+  near_told number s near old new are told told_too = Decides-like (old || new) to from (Decides-or old new told told_too)
+    where
+      to : HasAmong P c false near.old.items ⊎ HasAmong P c true near.new.items → IsNear P c number s
+      to (inl (q, h, l, is, holds)) = record { id = version_of false q; lived = l; is = is; holds = holds; shares = are.old.only q l h is }
+      to (inr (q, h, l, is, holds)) = record { id = version_of true q; lived = l; is = is; holds = holds; shares = are.new.only q l h is }
+
+      from : IsNear P c number s → HasAmong P c false near.old.items ⊎ HasAmong P c true near.new.items
+      from it = by it.id.fresh refl
+        where
+          by : (b : Bool) → it.id.fresh ≡ b → HasAmong P c false near.old.items ⊎ HasAmong P c true near.new.items
+          by false e =
+              let same : version_of false it.id.cell ≡ it.id = λ i. record { cell = it.id.cell; fresh = sym e i } in
+              let is = ap (version c) same ∙ it.is in
+              inl (it.id.cell, are.old.every it.id.cell it.lived is it.shares, it.lived, is, subst (λ v. P v it.lived) (sym same) it.holds)
+          by true e =
+              let same : version_of true it.id.cell ≡ it.id = λ i. record { cell = it.id.cell; fresh = sym e i } in
+              let is = ap (version c) same ∙ it.is in
+              inr (it.id.cell, are.new.every it.id.cell it.lived is it.shares, it.lived, is, subst (λ v. P v it.lived) (sym same) it.holds)
+
+-- rules one after another --------------------------------------------------------------------------
+
+module _ (aim : Aim) (c : Setting ℕ) (s : Held) where
+  -- the row is found under none of the first rules
+  abbrev pub NoneUnder : ℕ → Type 0
+  NoneUnder count = (number : ℕ) → number < count → ¬ (IsFoundUnder aim c number s)
+
+  found_below : (number : ℕ) → IsFoundUnder aim c number s → number < length c.rules
+  found_below number (inl near) = sharing_below c.rules number (near.id.cell, near.lived.row) s near.shares
+  found_below number (inr (serves, near)) = sharing_below c.rules number (near.id.cell, near.lived.row) s near.shares
+
+  pub none_first : NoneUnder 0
+  none_first number less = absurd (omega (arith, less))
+
+  pub none_next : (k : ℕ) (yes : Bool) → yes ≡ false → Decides yes (IsFoundUnder aim c k s) → NoneUnder k → NoneUnder (k + 1)
+  none_next k yes no told before number less it = by (cases_lt number k)
+    where
+      by : (number < k) ⊎ (k ≤ number) → ⊥
+      by (inl earlier) = before number earlier it
+      by (inr last) = let same : number ≡ k = omega (arith, less, last) in fails_by yes no told (subst (λ n. IsFoundUnder aim c n s) same it)
+
+  pub none_under_all : (k : ℕ) → length c.rules ≤ k → NoneUnder k → Decides false (IsFound aim c s)
+  none_under_all k past none = told_no (λ found. none found.0 (let less = found_below found.0 found.1 in omega (arith, less, past)) found.1)
+
+  pub found_under : (number : ℕ) (yes : Bool) → yes ≡ true → Decides yes (IsFoundUnder aim c number s) → Decides true (IsFound aim c s)
+  found_under number yes is told = told_yes (number, told.0 is)
+
+-- choices ------------------------------------------------------------------------------------------
+
+module _ {P Q : Type 0} where
+  pub left_told : (yes : Bool) → yes ≡ true → Decides yes P → Decides true (P ⊎ Q)
+  left_told yes is told = told_yes (inl (told.0 is))
+
+  pub right_told : (yes other : Bool) → yes ≡ false → Decides yes P → Decides other Q → Decides other (P ⊎ Q)
+  right_told yes other no told told_too = Decides-like other inr from told_too
+    where
+      from : P ⊎ Q → Q
+      from (inl p) = absurd (fails_by yes no told p)
+      from (inr q) = q
+
+  pub right_if_told : (yes may other : Bool) → yes ≡ false → may ≡ true → Decides yes P → Decides other Q → Decides other (P ⊎ ((may ≡ true) × Q))
+  right_if_told yes may other no is told told_too = Decides-like other (λ q. inr (is, q)) from told_too
+    where
+      from : P ⊎ ((may ≡ true) × Q) → Q
+      from (inl p) = absurd (fails_by yes no told p)
+      from (inr q) = q.1
+
+  pub none_told : (yes may : Bool) → yes ≡ false → may ≡ false → Decides yes P → Decides false (P ⊎ ((may ≡ true) × Q))
+  none_told yes may no isnt told = told_no none
+    where
+      none : P ⊎ ((may ≡ true) × Q) → ⊥
+      none (inl p) = fails_by yes no told p
+      none (inr q) = false≢true (sym isnt ∙ q.0)
