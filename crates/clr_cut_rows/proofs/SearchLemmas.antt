@@ -1,6 +1,6 @@
 -- Searches among the versions of a cut, one cell after another and one rule after another.
-use Rattle.std.proofs.Common.{◌≡◌, ◌∙◌, ◌<◌, ◌≤◌, ◌+◌, ℕ, Bool, true, false, ◌&&◌, ◌||◌, List, Some, None, ◌⊎◌, inl, inr, Contains, get_or, length, take}
-use Rattle.std.proofs.Common.{refl, sym, ap, subst, arith}
+use Rattle.std.proofs.Common.{◌≡◌, ◌∙◌, ◌<◌, ◌≤◌, ◌+◌, ℕ, Bool, true, false, ◌&&◌, ◌||◌, List, Option, Some, None, ◌⊎◌, inl, inr}
+use Rattle.std.proofs.Common.{is_some, Contains, get_or, length, take, refl, sym, ap, subst, arith}
 use Rattle.std.specs.Prelude.{Decides}
 use Rattle.std.proofs.lemmas.Bool.{cases_lt, false≢true}
 use Rattle.std.proofs.lemmas.Bool.Decides.{Decides-and, Decides-like, Decides-or}
@@ -97,11 +97,11 @@ module _ (P : VersionId → Lived ℕ → Type 0) (c : Setting ℕ) where
           by : (b : Bool) → it.id.fresh ≡ b → HasAmong P c false near.old.items ⊎ HasAmong P c true near.new.items
           by false e =
               let same : version_of false it.id.cell ≡ it.id = λ i. record { cell = it.id.cell; fresh = sym e i } in
-              let is = ap (version c) same ∙ it.is in
+              let is : version c (version_of false it.id.cell) ≡ Some it.lived = ap (version c) same ∙ it.is in
               inl (it.id.cell, are.old.every it.id.cell it.lived is it.shares, it.lived, is, subst (λ v. P v it.lived) (sym same) it.holds)
           by true e =
               let same : version_of true it.id.cell ≡ it.id = λ i. record { cell = it.id.cell; fresh = sym e i } in
-              let is = ap (version c) same ∙ it.is in
+              let is : version c (version_of true it.id.cell) ≡ Some it.lived = ap (version c) same ∙ it.is in
               inr (it.id.cell, are.new.every it.id.cell it.lived is it.shares, it.lived, is, subst (λ v. P v it.lived) (sym same) it.holds)
 
 -- rules one after another --------------------------------------------------------------------------
@@ -126,7 +126,8 @@ module _ (aim : Aim) (c : Setting ℕ) (s : Held) where
       by (inr last) = let same : number ≡ k = omega (arith, less, last) in fails_by yes no told (subst (λ n. IsFoundUnder aim c n s) same it)
 
   pub none_under_all : (k : ℕ) → length c.rules ≤ k → NoneUnder k → Decides false (IsFound aim c s)
-  none_under_all k past none = told_no (λ found. none found.0 (let less = found_below found.0 found.1 in omega (arith, less, past)) found.1)
+  none_under_all k past none = told_no (λ found. let less : found.0 < length c.rules = found_below found.0 found.1 in
+      none found.0 (omega (arith, less, past)) found.1)
 
   pub found_under : (number : ℕ) (yes : Bool) → yes ≡ true → Decides yes (IsFoundUnder aim c number s) → Decides true (IsFound aim c s)
   found_under number yes is told = told_yes (number, told.0 is)
@@ -157,3 +158,20 @@ module _ {P Q : Type 0} where
       none : P ⊎ ((may ≡ true) × Q) → ⊥
       none (inl p) = fails_by yes no told p
       none (inr q) = false≢true (sym isnt ∙ q.0)
+
+-- changed cells ------------------------------------------------------------------------------------
+
+module _ {P : Type 0} (found changer : Option ℕ) (is : found ≡ changer) where
+  pub changed_told : is_some found ≡ true → Decides true (((x : ℕ) × (changer ≡ Some x)) ⊎ P)
+  changed_told some = told_yes (inl (by found refl some))
+    where
+      by : (o : Option ℕ) → found ≡ o → is_some o ≡ true → (x : ℕ) × (changer ≡ Some x)
+      by None e yes = absurd (false≢true yes)
+      by (Some x) e yes = (x, sym is ∙ e)
+
+  pub unchanged_told : (yes : Bool) → is_some found ≡ false → Decides yes P → Decides yes (((x : ℕ) × (changer ≡ Some x)) ⊎ P)
+  unchanged_told yes none told = Decides-like yes inr from told
+    where
+      from : ((x : ℕ) × (changer ≡ Some x)) ⊎ P → P
+      from (inl (x, e)) = absurd (false≢true (sym none ∙ ap is_some (is ∙ e)))
+      from (inr p) = p

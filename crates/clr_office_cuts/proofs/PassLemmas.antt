@@ -11,7 +11,7 @@ use Rattle.clr_steps.specs.Quiet.{MergeSet, root_content}
 use Rattle.clr_steps.specs.Readings.{changes_in}
 use Rattle.clr_clearance.specs.MergeSets.{change_sets, setting_by_position}
 use Rattle.clr_cuts.specs.Cuts.{AreSomeOf, with_root}
-use Rattle.clr_cuts.specs.Passes.{AreRowsOf, IsPass, TakesReach, lacked}
+use Rattle.clr_cuts.specs.Passes.{AreRowsOf, IsAfterPass, IsPass, TakesReach, lacked}
 use Rattle.clr_cuts.proofs.PassLaws.{pass, three_passes}
 use Rattle.clr_cuts.proofs.ReachLaws.{reached_is_cut}
 use Rattle.clr_office_cuts.specs.OfficeCuts.{IsOfficeCut, IsOfficeOfCells, root_rows}
@@ -43,7 +43,11 @@ module _ (cells : CellId → Bool) (whole cut : Office) (merge_set : MergeSet) (
       (subst (λ (s : Setting ℕ). lacked s rows test list ≡ []) (same_over rows) none)))
 
   as_whole : (one next : View) → IsPass d list one next → IsPass c list one next
-  as_whole one next it = subst (λ (s : Setting ℕ). IsPass s list one next) (same_over one) it
+  as_whole one next it = record {
+    test = it.test;
+    takes = subst (λ (s : Setting ℕ). TakesReach s one it.test) (same_over one) it.takes;
+    after = subst (λ (s : Setting ℕ). IsAfterPass s one it.test list next) (same_over one) it.after;
+  }
 
   pub three_cut : (start first second : View) → AreSomeOf start c.root → IsPass d list start first → IsPass d list first second → IsPass d list second rows
       → IsOfficeCut whole cut merge_set
