@@ -102,8 +102,9 @@ fn whole_row(
     )
 }
 
-/// Returns the row of a record.
-fn row(
+/// Returns the row of a record of a layer, by where the header says that its fields stand. It fails with
+/// `FieldCount` where the record has another number of fields than the header, and else as `read_layer` does.
+pub fn read_row(
     alloc: Global,
     schema: &Schema,
     table: u16,
@@ -134,7 +135,7 @@ fn rows(
 {
     let mut list = Vec::new(alloc);
     for (i, fields) in records.iter().enumerate() {
-        match row(alloc, schema, table, rounded, headings, fields) {
+        match read_row(alloc, schema, table, rounded, headings, fields) {
             Ok(row) => {
                 if list.push(row).is_err() {
                     return Err((0, LayerFault::OutOfMemory));
