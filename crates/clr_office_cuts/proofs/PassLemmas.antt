@@ -34,7 +34,7 @@ module _ (cells : CellId → Bool) (whole cut : Office) (merge_set : MergeSet) (
       (λ name is. (same_member cells whole cut merge_set of_cells name is).changes)
 
   -- over the same rows both settings are one
-  same_over : (view : View) → with_root d view ≡ with_root c view
+  pub same_over : (view : View) → with_root d view ≡ with_root c view
   same_over view = λ i. with_root (setting (of_cells.book i) (root_content whole merge_set) (same_sets i)) view
 
   pub none_cut : (test : Held → Bool) → AreSomeOf rows c.root → TakesReach d rows test → lacked d rows test list ≡ [] → IsOfficeCut whole cut merge_set
