@@ -12,8 +12,8 @@ loop-cell-preserved g c = none_more (MayTouch c.args.self.now.aim c.args.self.no
     c.args.fresh c.args.cells.now c.loop-cell.cell-index _ c.may_touch_at.result c.loop-cell-test.true c.if-may_touch_at.false c.may_touch_at.ensures
     c.loop-cell.invariant
 
-pub returns-then-branch : goal.returns-then-branch
-returns-then-branch g c = one_of_all (MayTouch c.args.self.now.aim c.args.self.now.book.now c.args.rule) (setting_in g.V.RowView.content c.args.self.now)
+pub returns-then-may_touch_at : goal.returns-then-may_touch_at
+returns-then-may_touch_at g c = one_of_all (MayTouch c.args.self.now.aim c.args.self.now.book.now c.args.rule) (setting_in g.V.RowView.content c.args.self.now)
     c.args.fresh c.args.cells.now c.loop-cell.cell-index _ c.may_touch_at.result c.loop-cell-test.true c.if-may_touch_at.true c.may_touch_at.ensures
 
 pub returns : goal.returns

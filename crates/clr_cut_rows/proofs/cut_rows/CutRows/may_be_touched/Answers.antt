@@ -10,10 +10,12 @@ pub cells_near-requires-clause-fit : goal.cells_near-requires-clause-fit
 cells_near-requires-clause-fit g c = fit_one (setting_in g.V.RowView.content c.args.self.now) c.requires.ready.fit c.args.version _ c.requires.at
     c.as_held.ensures
 
-pub returns-then-branch : goal.returns-then-branch
-returns-then-branch g c = left_told c.is_touching.result c.if-is_touching.true c.is_touching.ensures
+pub returns-then-is_touching : goal.returns-then-is_touching
+returns-then-is_touching g c = left_told c.is_touching.result c.if-is_touching.true c.is_touching.ensures
 
 pub returns : goal.returns
-returns g c = right_told c.is_touching.result c.is_near_touching.result c.if-is_touching.false c.is_touching.ensures
+returns g c =
+    let s = setting_in g.V.RowView.content c.args.self.now in
+    right_told c.is_touching.result c.is_near_touching.result c.if-is_touching.false c.is_touching.ensures
     (c.is_near_touching.ensures (row_of c.args.version)
-    (subst (λ (s : Held). AreNearCells (setting_in g.V.RowView.content c.args.self.now) c.args.rule s c.in_ok-near.near) c.as_held.ensures c.in_ok-near.ensures))
+    (subst (λ (r : Held). AreNearCells s c.args.rule r c.in_ok-near.near) c.as_held.ensures c.in_ok-near.ensures))
