@@ -94,7 +94,8 @@ pub fn perform_cleared(
     ensures refused { IfErr result (IsRefusingVerdict office.old (ordered_merge_set_of certificate.now) (entries_in certificate.now.entries)) }
     ensures unchanged { OnErr result (office.new ≡ office.old) }
     ensures clear { OnOk result (IsVerdictInTurn office.old (ordered_merge_set_of certificate.now) (entries_in certificate.now.entries) verdict.Clear) }
-    ensures start { IfOk result (λ run. IsQuietStartInTurn office.old (ordered_merge_set_of certificate.now) commands.now run.replies.items office.new run.stopped) }
+    ensures start { IfOk result (λ run. IsQuietStartInTurn office.old (ordered_merge_set_of certificate.now)
+        commands.now run.replies.items office.new run.stopped) }
     ensures run { IfOk result (λ run. IsClearedRunInTurn office.old (ordered_merge_set_of certificate.now)
         (take (length run.replies.items) commands.now) run.replies.items office.new) }
 {

@@ -70,7 +70,8 @@ merge_outcome replies stopped left = outcome (merge_text replies stopped left) (
 pub data IsMergeOutcome (o : Office) (c : Certificate) (names : List Name) (all : Outcome) : Type 0 where
   of_merges : (replies : List Reply) (stopped : Option ℕ) (left : Office) → AreMerged o c names replies stopped left
       → all ≡ merge_outcome replies stopped left → IsMergeOutcome o c names all
-  of_verdict : (v : Verdict) → IsRefusingVerdict o (ordered_merge_set_of c) (entries_in c.entries) v → all ≡ verdict_outcome o c v → IsMergeOutcome o c names all
+  of_verdict : (v : Verdict) → IsRefusingVerdict o (ordered_merge_set_of c) (entries_in c.entries) v → all ≡ verdict_outcome o c v
+      → IsMergeOutcome o c names all
 
 -- texts --------------------------------------------------------------------------------------
 
