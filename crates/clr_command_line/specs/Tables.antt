@@ -48,6 +48,10 @@ subcommand_app s = with_rules (new_app s.name.now) (map argument_rule s.argument
 abbrev pub demanding : Text → App
 demanding name = let bare = new_app name in record bare { top = record bare.top { has_version = true; subcommand_required = true } }
 
+-- a command with subcommands at its end
+abbrev pub with_subcommands : App → List Subcommand → App
+with_subcommands command subcommands = fold with_subcommand command (map (λ s. (subcommand_app s).top) subcommands)
+
 -- a program with its subcommands
 abbrev pub program_app : ProgramTable → App
-program_app p = fold with_subcommand (demanding p.name.now) (map (λ s. (subcommand_app s).top) p.subcommands.now)
+program_app p = with_subcommands (demanding p.name.now) p.subcommands.now

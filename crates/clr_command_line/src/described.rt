@@ -3,7 +3,7 @@
 ghost use Rattle.std.specs.Prelude.{◌≡◌, false, map, IfOk};
 ghost use Rattle.clap.specs.Words.{app_of, rule_of};
 ghost use Rattle.clap.specs.declared.builder.command.Command.TheViews.{out-Command as fields_of};
-ghost use Rattle.clr_command_line.specs.Tables.{argument_rule, demanding, program_app, subcommand_app, with_rules};
+ghost use Rattle.clr_command_line.specs.Tables.{argument_rule, demanding, program_app, subcommand_app, with_rules, with_subcommands};
 
 use crate::tables::{Argument, ProgramTable, Subcommand};
 use clap::{Arg, ArgAction, Command};
@@ -71,8 +71,7 @@ fn subcommand_of<'a>(
 
 /// Returns the command without its subcommands, of which it requires one.
 fn start<'a>(alloc: Global, table: ProgramTable<'a>) -> Command<'a>
-    ensures shape { app_of result ≡ demanding table.entry.name.now }
-    ensures plain { (fields_of result).has_globals ≡ false }
+    ensures { app_of result ≡ demanding table.entry.name.now }
 {
     Command::new(alloc, table.name)
         .version(table.version)
@@ -81,13 +80,24 @@ fn start<'a>(alloc: Global, table: ProgramTable<'a>) -> Command<'a>
         .subcommand_required(true)
 }
 
+/// Returns the command with subcommands at its end, in this order.
+pub fn with_subcommands<'a>(
+    alloc: Global,
+    command: Command<'a>,
+    subcommands: &'a [Subcommand<'a>],
+) -> Result<Command<'a>, AllocError>
+    ensures { IfOk result (λ c. app_of c ≡ with_subcommands (app_of command.entry) subcommands.now) }
+{
+    let mut whole = command;
+    for subcommand in subcommands {
+        whole = whole.subcommand(subcommand_of(alloc, subcommand)?)?;
+    }
+    Ok(whole)
+}
+
 /// Returns the command line of a program.
 pub fn command_of<'a>(alloc: Global, table: ProgramTable<'a>) -> Result<Command<'a>, AllocError>
     ensures { IfOk result (λ c. app_of c ≡ program_app table.entry) }
 {
-    let mut command = start(alloc, table);
-    for subcommand in table.subcommands {
-        command = command.subcommand(subcommand_of(alloc, subcommand)?)?;
-    }
-    Ok(command)
+    with_subcommands(alloc, start(alloc, table), table.subcommands)
 }

@@ -5,7 +5,7 @@
 //!   memory alone. Texts of help and usage are tested only.
 //! - `names`, `database`, `database_with`, `AskFault::of`: what other programs of the same files read
 //!   by them.
-//! - `command_of`: the command line that a table describes.
+//! - `command_of`: the command line that a table describes; `with_subcommands`: a command with more subcommands.
 #![tactic(auto)]
 
 mod asks;
@@ -17,7 +17,7 @@ mod values;
 
 pub use asks::{Ask, AskFault};
 pub use command::VERSION;
-pub use described::command_of;
+pub use described::{command_of, with_subcommands};
 pub use reading::ask_of;
 pub use tables::{Argument, DATABASE, ProgramTable, Subcommand};
 pub use values::{database, database_with, names};

@@ -36,7 +36,13 @@ use Rattle.clr_office.proofs.OneSession.{found_by_status}
 use Rattle.clr_layer_changes.specs.declared.options.GivenLayer.{GivenLayer}
 use Rattle.clr_layer_changes.specs.declared.options.LayerOptions.{LayerOptions}
 use Rattle.clr_desk_layers.specs.Designs as designs
-use Rattle.clr_desk_layers.specs.Designs.{IsPrintOfDesign, IsPrintOfLayers, IsPrintOfLive, IsPrintOfScript, faulty_layer_printout, refusal_print, text_print}
+use Rattle.clr_desk_layers.specs.Designs.{IsPrintOfAccepted, IsPrintOfDesign, IsPrintOfLayers, IsPrintOfLive, IsPrintOfScript, faulty_layer_printout, refusal_print, text_print}
+use Rattle.clr_rules.specs.declared.needs.Broken.{Broken}
+use Rattle.clr_rules.proofs.BrokenOrder.{broken_total}
+use Rattle.clr_rules.proofs.Elements.{Among, among, contained, same_rising}
+use Rattle.clr_designs.specs.Designs.{with_live}
+use Rattle.clr_desk_errors.specs.Accepting.{IsAcceptPrint, accepted_text}
+use Rattle.clr_desk_errors.specs.Mended.{AreMended, IsMendedPrint, mended_text}
 use Rattle.clr_desk_prints.specs.Members.{members_or_children}
 use Rattle.clr_desk_prints.specs.Printing.{PrintoutOrFault, printout_of}
 use Rattle.clr_desk.specs.Certificates.{IsPlanPrint, plan_print}
@@ -186,3 +192,25 @@ one_live o content print other (designs.of_broken need broken is) (designs.of_br
     let e : Some need ≡ Some want = sym broken ∙ broken_too in
     let same : need ≡ want = cc in
     is ∙ ap (λ n. refusal_print o.schema (RuleBroken n)) same ∙ sym is_too
+
+-- old errors ---------------------------------------------------------------------------------
+
+pub one_accept_print : (o : Office) → IsOnePrint (IsAcceptPrint o)
+one_accept_print o print other (text, accepted, is) (text_too, accepted_too, is_too) found found_too =
+    is ∙ ap (λ t. printout_of t [] false false) (accepted.bytes ∙ sym accepted_too.bytes) ∙ sym is_too
+
+same_mended : (o : Office) (known list other : List Broken) → AreMended o known list → AreMended o known other → list ≡ other
+same_mended o known list other one two =
+    same_rising broken_total list other one.ascending two.ascending (passed list other one two) (passed other list two one)
+  where
+    passed : (xs ys : List Broken) → AreMended o known xs → AreMended o known ys → (x : Broken) → Among x xs → Among x ys
+    passed xs ys here there x h = among x ys ((there.exactly x).1 ((here.exactly x).0 (contained x xs h)))
+
+pub one_mended_print : (known : List Broken) (o : Office) → IsOnePrint (IsMendedPrint known o)
+one_mended_print known o print other (list, mended, is) (list_too, mended_too, is_too) found found_too =
+    is ∙ ap (λ needs. printout_of (mended_text o.schema needs) [] false false) (same_mended o known list list_too mended mended_too) ∙ sym is_too
+
+pub one_accepted : (o : Office) (content : Content) (print other : PrintoutOrFault) → IsPrintOfAccepted o content print → IsPrintOfAccepted o content other
+    → print ≡ other
+one_accepted o content print other (text, accepted, is) (text_too, accepted_too, is_too) =
+    is ∙ ap (λ t. printout_of t (accepted_text (with_live o content)) false false) (accepted.bytes ∙ sym accepted_too.bytes) ∙ sym is_too

@@ -3,14 +3,18 @@ use Rattle.std.proofs.Common.{◌≡◌, ◌∙◌, ◌||◌, ◌∷◌, Bool, t
 use Rattle.std.specs.List.{list_any}
 use Rattle.std.proofs.lemmas.Bool.{false≢true}
 use Rattle.clr_check.specs.Cases.{case_of}
-use Rattle.clr_office_texts.specs.Drafts.{opened_in}
+use Rattle.clr_office_reading.specs.Offices.{known_in}
+use Rattle.clr_office_texts.specs.Drafts.{draft_in, opened_in}
 use Rattle.clr_office.specs.Answers.{is_too_long}
 use Rattle.clr_layer_changes.specs.declared.options.GivenLayer.{GivenLayer}
 use Rattle.clr_desk_command_line.specs.declared.asks.DeskAsk.{DeskAsk}
 use Rattle.clr_desk_command_line.specs.declared.asks.DeskAsk.TheVariants as ask
 use Rattle.clr_desk_command_line.specs.declared.asks.GeographicAsk.{GeographicAsk}
 use Rattle.clr_desk_command_line.specs.declared.asks.GeographicAsk.TheVariants as geographic
-use Rattle.clr_desk_layers.specs.Designs.{IsDesignPrint, IsDesignScriptPrint, IsOfficePrint, IsPrintOfDesign, IsPrintOfLive, IsPrintOfScript}
+use Rattle.clr_desk_layers.specs.Designs.{IsAcceptedOfficePrint, IsDesignPrint, IsDesignScriptPrint, IsOfficePrint}
+use Rattle.clr_desk_layers.specs.Designs.{IsPrintOfAccepted, IsPrintOfDesign, IsPrintOfLive, IsPrintOfScript}
+use Rattle.clr_desk_errors.specs.Accepting.{IsAcceptPrint}
+use Rattle.clr_desk_errors.specs.Mended.{IsMendedPrint}
 use Rattle.clr_desk_prints.specs.Members.{set_asked}
 use Rattle.clr_desk_prints.specs.NameHints.{IsHinted}
 use Rattle.clr_desk_prints.specs.Printing.{PrintoutOrFault}
@@ -22,15 +26,20 @@ use Rattle.clr_desk.specs.Formats.{IsFormatPrint}
 use Rattle.clr_desk.specs.Geographic.{IsGeographicAnswer, options_of}
 use Rattle.clr_desk.specs.Merges.{IsHintedMerge, IsMergePrintout}
 use Rattle.clr_desk.specs.OneAnswer.{IsOnePrint, OneDeskAnswerLaw, is_whole, is_whole_layer}
+use Rattle.clr_desk.proofs.OneAnswer.{one_accept_print, one_accepted, one_mended_print}
 use Rattle.clr_desk.proofs.OneAnswer.{one_check_print, one_design, one_design_script, one_format_print, one_live, one_merge_print, one_of_layers}
 use Rattle.clr_desk.proofs.OneAnswer.{one_plan_print}
 use Rattle.clr_desk.proofs.OneChoice.{one_choice_print}
-use Rattle.clr_desk.proofs.OnePrint.{one_hinted, one_in, one_of_case}
+use Rattle.clr_desk.proofs.OnePrint.{one_hinted, one_in, one_of_case, one_of_draft}
 
 one_geographic : (asked : GeographicAsk) (office : List ℕ) (layers : List GivenLayer) → is_whole_layer asked ≡ true
     → IsOnePrint (IsGeographicAnswer asked office layers)
 one_geographic (geographic.Features root names system) office layers whole = absurd (false≢true whole)
 one_geographic (geographic.Layer table workspace) office layers whole = absurd (false≢true whole)
+one_geographic (geographic.ErrorFeatures system) office layers whole = absurd (false≢true whole)
+one_geographic (geographic.AcceptedOffice tables rounded) office layers whole =
+    one_of_draft (IsAcceptedOfficePrint (options_of 1 rounded) layers) (λ o. one_of_layers (options_of 1 rounded) layers IsPrintOfAccepted one_accepted o)
+    (draft_in office)
 one_geographic (geographic.Office tables rounded) office layers whole =
     one_in (IsOfficePrint (options_of 1 rounded) layers) (λ o. one_of_layers (options_of 1 rounded) layers IsPrintOfLive one_live o) (opened_in office)
 one_geographic (geographic.Design design) office layers whole =
@@ -52,6 +61,9 @@ one_within (ask.Merge names) office certificate layers whole =
     one_of_case (IsHintedMerge names)
     (λ o c. one_hinted (λ read. IsMergePrintout names read c) (c.root ∷ names) o (one_merge_print o c names)) (case_of office certificate)
 one_within ask.Format office second layers whole = one_in IsFormatPrint one_format_print (opened_in office)
+one_within ask.Accept office second layers whole = one_of_draft IsAcceptPrint one_accept_print (draft_in office)
+one_within ask.Mended office second layers whole = one_of_draft (IsMendedPrint (known_in office)) (one_mended_print (known_in office)) (draft_in office)
+one_within ask.Errors office second layers whole = absurd (false≢true whole)
 one_within (ask.Keep root names) office second layers whole =
     one_in (IsHinted (IsChoicePrint root names) (root ∷ names))
     (λ o. one_hinted (IsChoicePrint root names) (root ∷ names) o (one_choice_print o root names)) (opened_in office)

@@ -5,12 +5,15 @@ use Rattle.clr_workspaces.specs.Marks.{Name}
 use Rattle.clr_steps.specs.Offices.{Office}
 use Rattle.clr_cert.specs.declared.certificates.Certificate.{Certificate}
 use Rattle.clr_check.specs.Cases.{Case}
+use Rattle.clr_rule_text.specs.declared.faults.TextFault.{TextFault}
 use Rattle.clr_office_texts.specs.Drafts.{Opened}
 use Rattle.clr_office.specs.Clearances.{fault_print}
 use Rattle.clr_office_reports.specs.Printing.{IsNoPrint, IsPrintIn, IsPrintWhereHeld, Printed as Lines}
+use Rattle.clr_process_io.specs.declared.faults.RunFault.TheVariants as run_fault
 use Rattle.clr_desk_prints.specs.NameHints.{HintsAt, IsHinted, with_lines}
 use Rattle.clr_desk_prints.specs.Printing.{IsPrintoutIn, IsPrintoutOfCase, PrintoutOrFault, as_notes, of_case, of_fault, of_office, of_why}
 use Rattle.clr_desk_prints.proofs.OneHint.{one_hints}
+use Rattle.clr_desk_errors.specs.Accepting.{IsPrintoutOfDraft, of_draft, of_no_office}
 use Rattle.clr_desk.specs.OneAnswer.{FoundMemory, IsOnePrint}
 
 -- why an office isn't looked at has one line alone
@@ -38,6 +41,20 @@ module _ (P : Office → PrintoutOrFault → Type 0) (one_print : (o : Office) �
   one_in given print other (of_fault lines here told) (of_office o is there) found found_too = absurd (no_line o given is lines here)
   one_in given print other (of_fault lines here told) (of_fault others there told_too) found found_too =
       told ∙ ap as_notes (one_line lines others given here there) ∙ sym told_too
+
+-- of an office text, whatever is broken in it
+module _ (P : Office → PrintoutOrFault → Type 0) (one_print : (o : Office) → IsOnePrint (P o)) where
+  pub one_of_draft : (given : Result Office TextFault) → IsOnePrint (IsPrintoutOfDraft P given)
+  one_of_draft given print other (of_draft o is here) (of_draft p is_too there) found found_too =
+      let same : p ≡ o = (let e : Ok p ≡ Ok o = sym is_too ∙ is in cc) in
+      one_print o print other here (subst (λ q. P q other) same there) found found_too
+  one_of_draft given print other (of_draft o is here) (of_no_office fault is_too told) found found_too =
+      absurd (let e : Ok o ≡ Err fault = sym is ∙ is_too in cc)
+  one_of_draft given print other (of_no_office fault is told) (of_draft o is_too there) found found_too =
+      absurd (let e : Ok o ≡ Err fault = sym is_too ∙ is in cc)
+  one_of_draft given print other (of_no_office fault is told) (of_no_office another is_too told_too) found found_too =
+      let same : fault ≡ another = (let e : Err fault ≡ Err another = sym is ∙ is_too in cc) in
+      told ∙ ap (λ why. Err (run_fault.BadOffice why)) same ∙ sym told_too
 
 -- of an office text and the text of a certificate
 module _ (P : Office → Certificate → PrintoutOrFault → Type 0) (one_print : (o : Office) (c : Certificate) → IsOnePrint (P o c)) where

@@ -3,7 +3,8 @@ use Rattle.std.specs.Prelude.{◌≡◌, ◌∷◌, ◌||◌, ◌⊎◌, ℕ, Bo
 use Rattle.std.specs.List.{list_any}
 use Rattle.std.specs.Io.KnownBytes.{Appends}
 use Rattle.clr_check.specs.Cases.{case_of}
-use Rattle.clr_office_texts.specs.Drafts.{opened_in}
+use Rattle.clr_office_reading.specs.Offices.{known_in}
+use Rattle.clr_office_texts.specs.Drafts.{draft_in, opened_in}
 use Rattle.clr_layer_changes.specs.declared.options.GivenLayer.{GivenLayer}
 use Rattle.clr_office.specs.Answers.{is_too_long}
 use Rattle.clr_process_io.specs.declared.faults.RunFault.{RunFault}
@@ -21,6 +22,9 @@ use Rattle.clr_desk_prints.specs.NameHints.{IsHinted}
 use Rattle.clr_desk.specs.Orders.{IsOrderPrint}
 use Rattle.clr_desk_prints.specs.Printing.{IsPrintoutFault, IsPrintoutIn, IsPrintoutOfCase, Printout, PrintoutOrFault}
 use Rattle.clr_desk.specs.Whys.{IsWhyPrint}
+use Rattle.clr_desk_errors.specs.Accepting.{IsAcceptPrint, IsPrintoutOfDraft}
+use Rattle.clr_desk_errors.specs.ErrorLines.{IsErrorsPrint}
+use Rattle.clr_desk_errors.specs.Mended.{IsMendedPrint}
 use Rattle.clr_desk_pages.specs.Maps.{IsMapPrint}
 use Rattle.clr_desk_pages.specs.Reports.{IsReportPrint}
 
@@ -31,6 +35,9 @@ IsDeskAnswerWithin (ask.Certificate root names) office second layers print =
 IsDeskAnswerWithin ask.Check office certificate layers print = IsPrintoutOfCase IsCheckPrint (case_of office certificate) print
 IsDeskAnswerWithin (ask.Merge names) office certificate layers print = IsPrintoutOfCase (IsHintedMerge names) (case_of office certificate) print
 IsDeskAnswerWithin ask.Format office second layers print = IsPrintoutIn IsFormatPrint (opened_in office) print
+IsDeskAnswerWithin ask.Accept office second layers print = IsPrintoutOfDraft IsAcceptPrint (draft_in office) print
+IsDeskAnswerWithin ask.Mended office second layers print = IsPrintoutOfDraft (IsMendedPrint (known_in office)) (draft_in office) print
+IsDeskAnswerWithin ask.Errors office second layers print = IsPrintoutOfDraft (IsErrorsPrint (known_in office)) (draft_in office) print
 IsDeskAnswerWithin (ask.Keep root names) office second layers print = IsPrintoutIn (IsHinted (IsChoicePrint root names) (root ∷ names)) (opened_in office) print
 IsDeskAnswerWithin (ask.Clashes root names) office second layers print =
     IsPrintoutIn (IsHinted (IsClashesPrint root names) (root ∷ names)) (opened_in office) print

@@ -1,11 +1,14 @@
 -- What is printed in the texts of geographic information systems, and of such texts.
 use Rattle.std.specs.Prelude.{ℕ, Bool, List, [], ◌∷◌}
-use Rattle.clr_office_texts.specs.Drafts.{opened_in}
+use Rattle.clr_office_reading.specs.Offices.{known_in}
+use Rattle.clr_office_texts.specs.Drafts.{draft_in, opened_in}
 use Rattle.clr_desk_command_line.specs.declared.asks.GeographicAsk.{GeographicAsk}
 use Rattle.clr_desk_command_line.specs.declared.asks.GeographicAsk.TheVariants as ask
 use Rattle.clr_layer_changes.specs.declared.options.GivenLayer.{GivenLayer}
 use Rattle.clr_layer_changes.specs.declared.options.LayerOptions.{LayerOptions}
-use Rattle.clr_desk_layers.specs.Designs.{IsDesignPrint, IsDesignScriptPrint, IsOfficePrint}
+use Rattle.clr_desk_errors.specs.Accepting.{IsPrintoutOfDraft}
+use Rattle.clr_desk_errors.specs.ErrorFeatures.{IsErrorFeaturesAnswer}
+use Rattle.clr_desk_layers.specs.Designs.{IsAcceptedOfficePrint, IsDesignPrint, IsDesignScriptPrint, IsOfficePrint}
 use Rattle.clr_desk_pages.specs.Features.{IsFeaturesAnswer}
 use Rattle.clr_desk_layers.specs.Layers.{IsLayerPrint}
 use Rattle.clr_desk_prints.specs.NameHints.{IsHinted}
@@ -21,6 +24,9 @@ IsGeographicAnswer (ask.Features root names system) office layers print = IsFeat
 IsGeographicAnswer (ask.Layer table workspace) office layers print =
     IsPrintoutIn (IsHinted (IsLayerPrint table workspace) (workspace ∷ [])) (opened_in office) print
 IsGeographicAnswer (ask.Office tables rounded) office layers print = IsPrintoutIn (IsOfficePrint (options_of 1 rounded) layers) (opened_in office) print
+IsGeographicAnswer (ask.AcceptedOffice tables rounded) office layers print =
+    IsPrintoutOfDraft (IsAcceptedOfficePrint (options_of 1 rounded) layers) (draft_in office) print
+IsGeographicAnswer (ask.ErrorFeatures system) office layers print = IsErrorFeaturesAnswer (known_in office) system (draft_in office) print
 IsGeographicAnswer (ask.Design design) office layers print =
     IsPrintoutIn (IsDesignPrint design.name (options_of design.first_key design.is_rounded) layers) (opened_in office) print
 IsGeographicAnswer (ask.DesignScript design) office layers print =

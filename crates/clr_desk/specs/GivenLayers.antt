@@ -10,6 +10,7 @@ use Rattle.clr_layer_changes.specs.declared.options.GivenLayer.{GivenLayer}
 -- the tables of the layers that are asked for, in the order of their files
 abbrev pub tables_of : DeskAsk → List Name
 tables_of (ask.Geographic (geographic.Office tables rounded)) = tables
+tables_of (ask.Geographic (geographic.AcceptedOffice tables rounded)) = tables
 tables_of (ask.Geographic (geographic.Design design)) = design.tables
 tables_of (ask.Geographic (geographic.DesignScript design)) = design.tables
 tables_of _ = []

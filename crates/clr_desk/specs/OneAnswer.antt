@@ -8,16 +8,18 @@ use Rattle.clr_layer_changes.specs.declared.options.GivenLayer.{GivenLayer}
 use Rattle.clr_desk_prints.specs.Printing.{PrintoutOrFault}
 use Rattle.clr_desk.specs.Answers.{IsDeskAnswerTo}
 
--- what is asked has an answer that its definition tells whole; of clashes, faults, sentences, pictures, pages, features and layers it leaves
--- something open
+-- what is asked has an answer that its definition tells whole; of clashes, errors, faults, sentences, pictures, pages, features and layers it
+-- leaves something open
 abbrev pub is_whole_layer : GeographicAsk → Bool
 is_whole_layer (geographic.Features root names system) = false
 is_whole_layer (geographic.Layer table workspace) = false
+is_whole_layer (geographic.ErrorFeatures system) = false
 is_whole_layer _ = true
 
 abbrev pub is_whole : DeskAsk → Bool
 is_whole (ask.Clashes root names) = false
 is_whole (ask.Why kind) = false
+is_whole ask.Errors = false
 is_whole (ask.WorkOrder root names) = false
 is_whole (ask.Map root names) = false
 is_whole (ask.Report root names) = false

@@ -17,6 +17,7 @@ use crate::merges::answer_merge;
 use crate::orders::answer_work_order;
 use crate::whys::answer_why;
 use clr_desk_command_line::DeskAsk;
+use clr_desk_errors::{answer_accept, answer_errors, answer_mended};
 use clr_desk_layers::GivenLayer;
 use clr_desk_pages::{answer_map, answer_report};
 use clr_desk_prints::Print;
@@ -40,6 +41,9 @@ fn answer_texts(
         DeskAsk::Check => answer_check(alloc, office, second),
         DeskAsk::Merge(names) => answer_merge(alloc, office, second, names.as_slice()),
         DeskAsk::Format => answer_format(alloc, office),
+        DeskAsk::Accept => answer_accept(alloc, office),
+        DeskAsk::Mended => answer_mended(alloc, office),
+        DeskAsk::Errors => answer_errors(alloc, office),
         DeskAsk::Keep(root, names) => answer_keep(alloc, office, root.as_str(), names.as_slice()),
         DeskAsk::Clashes(root, names) => answer_clashes(
             alloc,

@@ -13,7 +13,9 @@ fn tables_of(ask: &DeskAsk) -> &[Words]
     ensures { result.now ≡ tables_of ask.now }
 {
     match ask {
-        DeskAsk::Geographic(GeographicAsk::Office(tables, _)) => tables.as_slice(),
+        DeskAsk::Geographic(
+            GeographicAsk::Office(tables, _) | GeographicAsk::AcceptedOffice(tables, _),
+        ) => tables.as_slice(),
         DeskAsk::Geographic(GeographicAsk::Design(design) | GeographicAsk::DesignScript(design)) =>
             { design.tables.as_slice() }
         _ => &[],

@@ -19,11 +19,12 @@
 //!   begins with that word and that picture, and ends with the command of `clr_office` and the lines of the plan (`IsReportPrint`); of
 //!   `geojson` the features of a plan, with the plan's status, and of `layer` the layer of a table; of `office` the text of the office whose LIVE
 //!   has the rows of layers, and of `design` that of the office with one more design that has them, or the script that makes it, or why there is
-//!   none (`IsGeographicAnswer`).
+//!   none (`IsGeographicAnswer`); of `accept` the text of the same office with just its broken needs as known, of `mended` the known needs that
+//!   aren't broken any more, and of `errors` the broken needs of LIVE, whether known or not, with status 0 only where all are known.
 //! - `fault_place` [`place`]: the file, the line and the column of the fault of the office text or the certificate, and nothing of any other.
 //! - `take_layers` [`layers`, `office`]: each table that is asked for with the text in its place.
 //! - `texts_have_one_answer` [`answer`]: memory aside, what is asked has one answer alone, but for what the definitions of clashes, of faults,
-//!   and of sentences, pictures, pages, features and layers leave open.
+//!   and of sentences, pictures, pages, features, layers and errors leave open.
 //! - [`silent`]: with status 3 nothing went to the sink of the text.
 //! - [`keeps`]: with any fault but WriteFailed nothing was written. After a failed write it isn't known
 //!   how much was; where the sink of the notes failed, nothing went to that of the text (`IsTorn`).

@@ -7,7 +7,7 @@ use Rattle.clap.specs.Faults.{fault_of, is_simple_and_free}
 use Rattle.clap.proofs.OnLiterals.{clap_on_literals}
 use Rattle.clr_command_line.proofs.Entering.{AllAsk, IsAsking, asked_of, asks_something, known_by_names, labels, simple_if_free}
 use Rattle.clr_desk_command_line.specs.declared.asks.DeskAsk.{DeskAsk}
-use Rattle.clr_desk_command_line.specs.Asks.{ask_by_name, geographic_asked, is_readable, members_ask, reads_layers}
+use Rattle.clr_desk_command_line.specs.Asks.{ask_by_name, asked_of_office, geographic_asked, is_readable, members_ask, reads_layers}
 use Rattle.clr_desk_command_line.specs.Program.{program}
 
 -- something is asked, or layers are read
@@ -17,10 +17,10 @@ known name rows = if reads_layers name then Some (tt {0}) else option_map (λ as
 abbrev names : List Text
 names =
     codes "certificate" ∷ codes "check" ∷ codes "merge" ∷ codes "format" ∷ codes "keep" ∷ codes "clashes" ∷ codes "why" ∷ codes "words" ∷ codes "map"
-    ∷ codes "report" ∷ codes "geojson" ∷ codes "layer" ∷ codes "office" ∷ codes "design" ∷ []
+    ∷ codes "report" ∷ codes "geojson" ∷ codes "layer" ∷ codes "office" ∷ codes "design" ∷ codes "errors" ∷ codes "accept" ∷ codes "mended" ∷ []
 
 all_ask : AllAsk known names
-unfolding ask_by_name geographic_asked members_ask
+unfolding ask_by_name asked_of_office geographic_asked members_ask
 all_ask = (
   λ rows. refl,
   (
@@ -35,7 +35,7 @@ all_ask = (
             λ rows. refl,
             (
               λ rows. refl,
-              (λ rows. refl, (λ rows. refl, (λ rows. refl, (λ rows. refl, (λ rows. refl, (λ rows. refl, (λ rows. refl, tt))))))),
+              (λ rows. refl, (λ rows. refl, (λ rows. refl, (λ rows. refl, (λ rows. refl, (λ rows. refl, (λ rows. refl, (λ rows. refl, (λ rows. refl, (λ rows. refl, tt)))))))))),
             ),
           ),
         ),

@@ -10,11 +10,11 @@ use Rattle.clr_rows.specs.Schemas.{is_key}
 use Rattle.clr_records.specs.Decimals.{number_of}
 use Rattle.clr_command_line.specs.Asks.{database_and, database_of, given_names, given_value}
 use Rattle.clr_desk_command_line.specs.declared.asks.DeskAsk.{DeskAsk}
-use Rattle.clr_desk_command_line.specs.declared.asks.DeskAsk.TheVariants.{Certificate, Check, Merge, Format, Keep, Clashes, Why, WorkOrder, Map, Report}
-use Rattle.clr_desk_command_line.specs.declared.asks.DeskAsk.TheVariants.{Geographic}
+use Rattle.clr_desk_command_line.specs.declared.asks.DeskAsk.TheVariants.{Certificate, Check, Merge, Format, Accept, Mended, Errors, Keep, Clashes, Why, WorkOrder}
+use Rattle.clr_desk_command_line.specs.declared.asks.DeskAsk.TheVariants.{Map, Report, Geographic}
 use Rattle.clr_desk_command_line.specs.declared.asks.DesignAsk.{DesignAsk}
 use Rattle.clr_desk_command_line.specs.declared.asks.GeographicAsk.{GeographicAsk}
-use Rattle.clr_desk_command_line.specs.declared.asks.GeographicAsk.TheVariants.{Features, Layer, Office, Design, DesignScript}
+use Rattle.clr_desk_command_line.specs.declared.asks.GeographicAsk.TheVariants.{Features, Layer, Office, AcceptedOffice, ErrorFeatures, Design, DesignScript}
 use Rattle.clr_desk_command_line.specs.declared.asks.TextKind.TheVariants as kind
 
 -- the value that is given, or another
@@ -25,12 +25,21 @@ given_or otherwise id rows = unwrap_or (first_of id rows) otherwise
 abbrev pub given_root : List Row → Text
 given_root rows = given_or live_name (codes "under") rows
 
+-- an option without a value is given
+abbrev pub is_set : Text → List Row → Bool
+is_set name rows = option_map_or (λ value. bytes_eq value (codes "true")) (first_of name rows) false
+
 -- what `why` asks for, and its files: of the script if one is given, else of the certificate if one is given, else of the office
 abbrev pub why_of : List Row → DeskAsk × List Text
 why_of rows =
     if is_some (first_of (codes "script") rows) then (Why kind.Script, database_and (codes "script") rows)
     else (if is_some (first_of (codes "certificate") rows) then (Why kind.Certificate, database_and (codes "certificate") rows)
     else (Why kind.Office, database_of rows))
+
+-- what `errors` asks for, and its file: features where they are asked for, and else lines
+abbrev pub errors_of : List Row → DeskAsk × List Text
+errors_of rows =
+    if is_set (codes "geojson") rows then (Geographic (ErrorFeatures (first_of (codes "crs") rows)), database_of rows) else (Errors, database_of rows)
 
 -- what is asked of members of a root
 unfoldable pub members_ask : Text → Text → List Text → Option DeskAsk
@@ -80,10 +89,6 @@ tables_and_files words = if list_all is_layer words then Some (map table_in word
 abbrev pub layers_ask : List Row → Option (List Text × List Text)
 layers_ask rows = tables_and_files (unwrap_or (all_of (codes "TABLE=FILE") rows) [])
 
--- an option without a value is given
-abbrev pub is_set : Text → List Row → Bool
-is_set name rows = option_map_or (λ value. bytes_eq value (codes "true")) (first_of name rows) false
-
 -- the key that a text is, if it is one
 abbrev pub key_in : Text → Option ℕ
 key_in text = option_and_then (λ key. if is_key key then Some (unsigned_abs key) else None) (number_of text)
@@ -96,8 +101,14 @@ first_key_of rows = option_map_or key_in (first_of (codes "keys") rows) (Some 1)
 abbrev pub asked_of_layers : Text → (List Text → GeographicAsk) → List Row → Option (GeographicAsk × List Text)
 asked_of_layers database ask rows = option_map (λ layers. (ask layers.0, given_value database rows ∷ layers.1)) (layers_ask rows)
 
+-- the office of these tables, with its errors accepted or not
+abbrev pub office_of : Bool → List Text → Bool → GeographicAsk
+office_of true tables rounded = AcceptedOffice tables rounded
+office_of false tables rounded = Office tables rounded
+
 abbrev pub office_ask : List Row → Option (GeographicAsk × List Text)
-office_ask rows = asked_of_layers (codes "SCHEMA") (λ tables. Office tables (is_set (codes "round") rows)) rows
+office_ask rows =
+    asked_of_layers (codes "SCHEMA") (λ tables. office_of (is_set (codes "accept") rows) tables (is_set (codes "round") rows)) rows
 
 -- a design of these tables, whose rows get keys from this one on
 abbrev pub design_in : List Row → ℕ → List Text → DesignAsk
@@ -129,14 +140,26 @@ abbrev pub or_members_asked : Option (GeographicAsk × List Text) → Text → L
 or_members_asked (Some asked) name rows = Some (Geographic asked.0, asked.1)
 or_members_asked None name rows = members_asked name rows
 
+-- what is asked of an office text alone, without an option
+unfoldable pub asked_of_office : Text → Option DeskAsk
+asked_of_office name =
+    if bytes_eq name (codes "format") then Some Format
+    else (if bytes_eq name (codes "accept") then Some Accept
+    else (if bytes_eq name (codes "mended") then Some Mended
+    else None))
+
+abbrev pub or_others_asked : Option DeskAsk → Text → List Row → Option (DeskAsk × List Text)
+or_others_asked (Some ask) name rows = Some (ask, database_of rows)
+or_others_asked None name rows = or_members_asked (geographic_asked name rows) name rows
+
 -- what a subcommand asks for, and its files
 unfoldable pub ask_by_name : Text → List Row → Option (DeskAsk × List Text)
 ask_by_name name rows =
     if bytes_eq name (codes "check") then Some (Check, database_and (codes "CERT") rows)
     else (if bytes_eq name (codes "merge") then Some (merge_ask rows)
-    else (if bytes_eq name (codes "format") then Some (Format, database_of rows)
+    else (if bytes_eq name (codes "errors") then Some (errors_of rows)
     else (if bytes_eq name (codes "why") then Some (why_of rows)
-    else or_members_asked (geographic_asked name rows) name rows)))
+    else or_others_asked (asked_of_office name) name rows)))
 
 -- what the subcommand that words name asks for, if they name one
 abbrev pub ask_of : Option (Text × List Row) → Option (DeskAsk × List Text)

@@ -44,14 +44,18 @@ map = over_members (codes "map")
 abbrev pub report : App
 report = over_members (codes "report")
 
+-- the option with the name of a system of coordinates
+abbrev pub system : Rule
+system = option (codes "crs")
+
 abbrev pub geojson : App
-geojson = with_rule (over_members (codes "geojson")) (option (codes "crs"))
+geojson = with_rule (over_members (codes "geojson")) system
 
 abbrev pub layer : App
 layer = with_rule (with_rule (database_command (codes "layer")) (value (codes "TABLE"))) (option (codes "in"))
 
 abbrev pub office : App
-office = with_rule (with_rule (with_rule (new_app (codes "office")) (value (codes "SCHEMA"))) layers) round
+office = with_rule (with_rule (with_rule (with_rule (new_app (codes "office")) (value (codes "SCHEMA"))) layers) round) (flag (codes "accept"))
 
 -- the design's name, and its layers
 abbrev pub design_of_layers : App
@@ -59,6 +63,15 @@ design_of_layers = with_rule (with_rule (database_command (codes "design")) (val
 
 abbrev pub design : App
 design = with_rule (with_rule (with_rule design_of_layers (flag (codes "script"))) (option (codes "keys"))) round
+
+abbrev pub errors : App
+errors = with_rule (with_rule (database_command (codes "errors")) (flag (codes "geojson"))) system
+
+abbrev pub accept : App
+accept = database_command (codes "accept")
+
+abbrev pub mended : App
+mended = database_command (codes "mended")
 
 -- the program with the commands that print a certificate or judge one
 abbrev pub certifying : App
@@ -84,6 +97,10 @@ drawing = with_subcommand (with_subcommand explaining map.top) report.top
 abbrev pub exporting : App
 exporting = with_subcommand (with_subcommand drawing geojson.top) layer.top
 
--- the whole program, with the commands that read layers
+-- with the commands that read layers
+abbrev pub importing : App
+importing = with_subcommand (with_subcommand exporting office.top) design.top
+
+-- the whole program, with the commands about old errors
 abbrev pub program : App
-program = with_subcommand (with_subcommand exporting office.top) design.top
+program = with_subcommand (with_subcommand (with_subcommand importing errors.top) accept.top) mended.top

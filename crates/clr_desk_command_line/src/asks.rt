@@ -33,6 +33,10 @@ pub enum GeographicAsk {
     /// The office in which LIVE has the rows of layers: the tables of the layers, in the order of their files, and whether coordinates finer than
     /// a millimetre are rounded.
     Office(Names, bool),
+    /// The same office with its errors accepted.
+    AcceptedOffice(Names, bool),
+    /// The errors of LIVE as features of a map: the name of the reference system of their coordinates, as it was given.
+    ErrorFeatures(Option<Words>),
     /// The office with one more design.
     Design(DesignAsk),
     /// The script that makes this design.
@@ -51,6 +55,12 @@ pub enum DeskAsk {
     Merge(Names),
     /// An office is printed again, a row a line.
     Format,
+    /// The same office with just its broken needs as known.
+    Accept,
+    /// The known needs that aren't broken any more.
+    Mended,
+    /// The broken needs of LIVE, each with its rule, its rows, its place, and whether it is known.
+    Errors,
     /// Which of these children of a root can be merged in every order, where each is taken that is
     /// cleared with those taken before it: the root, and the children, or none for all.
     Keep(Words, Names),

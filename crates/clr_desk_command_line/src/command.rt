@@ -2,15 +2,17 @@
 
 ghost use Rattle.std.specs.Prelude.{◌≡◌, IfOk};
 ghost use Rattle.clap.specs.Words.{app_of};
-ghost use Rattle.clr_desk_command_line.specs.Program.{program};
+ghost use Rattle.clr_desk_command_line.specs.Program.{drawing, program};
 
 use crate::helps::{
-    ABOUT, CERTIFICATE_PRINTS, CHECK_PRINTS, CLASHES_PRINTS, DESIGN_PRINTS, FORMAT_PRINTS,
-    GEOJSON_PRINTS, KEEP_PRINTS, LAYER_PRINTS, MAP_PRINTS, MERGE_PRINTS, OFFICE_PRINTS,
-    REPORT_PRINTS, STATUSES, WHY_PRINTS, WORDS_PRINTS,
+    ABOUT, ACCEPT_PRINTS, CERTIFICATE_PRINTS, CHECK_PRINTS, CLASHES_PRINTS, DESIGN_PRINTS,
+    ERRORS_PRINTS, FORMAT_PRINTS, GEOJSON_PRINTS, KEEP_PRINTS, LAYER_PRINTS, MAP_PRINTS,
+    MENDED_PRINTS, MERGE_PRINTS, OFFICE_PRINTS, REPORT_PRINTS, STATUSES, WHY_PRINTS, WORDS_PRINTS,
 };
 use clap::Command;
-use clr_command_line::{Argument, DATABASE, ProgramTable, Subcommand, VERSION, command_of};
+use clr_command_line::{
+    Argument, DATABASE, ProgramTable, Subcommand, VERSION, command_of, with_subcommands,
+};
 use std::alloc::{AllocError, Global};
 
 const CERTIFICATE: Argument<'static> = Argument::Value(
@@ -36,10 +38,16 @@ const ROUND: Argument<'static> = Argument::Flag(
     "Round coordinates that are finer than a millimetre",
 );
 
+const SYSTEM: Argument<'static> = Argument::ValueOption(
+    "crs",
+    "EPSG:N",
+    "The reference system of the coordinates",
+);
+
 /// The arguments of a subcommand over an office text and designs of a root.
 const OVER_MEMBERS: &[Argument<'static>] = &[DATABASE, ROOT, DESIGNS];
 
-/// The program with its subcommands, in the order of its help.
+/// The program with its subcommands about plans, in the order of its help.
 const DESK: ProgramTable<'static> = ProgramTable {
     name: "clr_desk",
     version: VERSION,
@@ -118,67 +126,100 @@ const DESK: ProgramTable<'static> = ProgramTable {
             prints: REPORT_PRINTS,
             arguments: OVER_MEMBERS,
         },
-        Subcommand {
-            name: "geojson",
-            about: "Prints what the plan of designs is about as GeoJSON",
-            prints: GEOJSON_PRINTS,
-            arguments: &[
-                DATABASE,
-                ROOT,
-                DESIGNS,
-                Argument::ValueOption("crs", "EPSG:N", "The reference system of the coordinates"),
-            ],
-        },
-        Subcommand {
-            name: "layer",
-            about: "Prints the rows of a table as CSV with shapes in metres",
-            prints: LAYER_PRINTS,
-            arguments: &[
-                DATABASE,
-                Argument::Value("TABLE", "The table"),
-                Argument::ValueOption(
-                    "in",
-                    "WORKSPACE",
-                    "The workspace whose rows are printed [default: LIVE]",
-                ),
-            ],
-        },
-        Subcommand {
-            name: "office",
-            about: "Puts the rows of layers into LIVE, and prints the office",
-            prints: OFFICE_PRINTS,
-            arguments: &[
-                Argument::Value(
-                    "SCHEMA",
-                    "The file of an office text with the tables and the rules, which is JSON",
-                ),
-                LAYERS,
-                ROUND,
-            ],
-        },
-        Subcommand {
-            name: "design",
-            about: "Makes a design that has the rows of layers, and prints the office with it",
-            prints: DESIGN_PRINTS,
-            arguments: &[
-                DATABASE,
-                Argument::Value("NAME", "The name of the new design"),
-                LAYERS,
-                Argument::Flag("script", "Print the script that makes the design"),
-                Argument::ValueOption(
-                    "keys",
-                    "N",
-                    "The least key for a row without one [default: 1]",
-                ),
-                ROUND,
-            ],
-        },
     ],
 };
 
-/// Returns the whole command line.
+/// The subcommands that come after those, which bring networks and designs in and out, and list errors.
+const OVER_NETWORKS: &[Subcommand<'static>] = &[
+    Subcommand {
+        name: "geojson",
+        about: "Prints what the plan of designs is about as GeoJSON",
+        prints: GEOJSON_PRINTS,
+        arguments: &[DATABASE, ROOT, DESIGNS, SYSTEM],
+    },
+    Subcommand {
+        name: "layer",
+        about: "Prints the rows of a table as CSV with shapes in metres",
+        prints: LAYER_PRINTS,
+        arguments: &[
+            DATABASE,
+            Argument::Value("TABLE", "The table"),
+            Argument::ValueOption(
+                "in",
+                "WORKSPACE",
+                "The workspace whose rows are printed [default: LIVE]",
+            ),
+        ],
+    },
+    Subcommand {
+        name: "office",
+        about: "Puts the rows of layers into LIVE, and prints the office",
+        prints: OFFICE_PRINTS,
+        arguments: &[
+            Argument::Value(
+                "SCHEMA",
+                "The file of an office text with the tables and the rules, which is JSON",
+            ),
+            LAYERS,
+            ROUND,
+            Argument::Flag(
+                "accept",
+                "Accept what is broken then, so that it is known in the office",
+            ),
+        ],
+    },
+    Subcommand {
+        name: "design",
+        about: "Makes a design that has the rows of layers, and prints the office with it",
+        prints: DESIGN_PRINTS,
+        arguments: &[
+            DATABASE,
+            Argument::Value("NAME", "The name of the new design"),
+            LAYERS,
+            Argument::Flag("script", "Print the script that makes the design"),
+            Argument::ValueOption(
+                "keys",
+                "N",
+                "The least key for a row without one [default: 1]",
+            ),
+            ROUND,
+        ],
+    },
+    Subcommand {
+        name: "errors",
+        about: "Lists what is broken in LIVE, with the rows, their places and the rules",
+        prints: ERRORS_PRINTS,
+        arguments: &[
+            DATABASE,
+            Argument::Flag("geojson", "Print the errors as GeoJSON, a point for each"),
+            SYSTEM,
+        ],
+    },
+    Subcommand {
+        name: "accept",
+        about: "Prints the office in which what is broken is known, so that designs can be planned over it",
+        prints: ACCEPT_PRINTS,
+        arguments: &[DATABASE],
+    },
+    Subcommand {
+        name: "mended",
+        about: "Lists what was known to be broken and isn't any more",
+        prints: MENDED_PRINTS,
+        arguments: &[DATABASE],
+    },
+];
+
+/// Returns the command line with the subcommands about plans.
+fn plan_command<'a>(alloc: Global) -> Result<Command<'a>, AllocError>
+    ensures { IfOk result (λ c. app_of c ≡ drawing) }
+{
+    command_of(alloc, DESK)
+}
+
+/// Returns the whole command line. It is described by two tables: what a proof of one takes grows with the square of its subcommands.
 pub fn whole_command<'a>(alloc: Global) -> Result<Command<'a>, AllocError>
     ensures { IfOk result (λ c. app_of c ≡ program) }
 {
-    command_of(alloc, DESK)
+    let command = plan_command(alloc)?;
+    with_subcommands(alloc, command, OVER_NETWORKS)
 }

@@ -2,7 +2,7 @@
 
 ghost use Rattle.std.specs.Prelude.{◌≡◌, ◌++◌, IfOk, option_map};
 ghost use Rattle.clap.specs.Words.{found_of, rows_of};
-ghost use Rattle.clr_desk_command_line.specs.Asks.{as_script_or_office, design_ask, first_key_of, key_in, office_ask};
+ghost use Rattle.clr_desk_command_line.specs.Asks.{as_script_or_office, design_ask, first_key_of, key_in, office_ask, office_of};
 
 use crate::asks::{DesignAsk, GeographicAsk};
 use crate::named_layers::layers;
@@ -44,6 +44,17 @@ fn append_files(mut files: Vec<Words>, mut others: Vec<Words>) -> Result<Vec<Wor
     Ok(files)
 }
 
+/// Returns the office that has the rows of layers, with its errors accepted or not.
+fn office_of(is_accepted: bool, tables: Names, is_rounded: bool) -> GeographicAsk
+    ensures { result ≡ office_of is_accepted tables is_rounded }
+{
+    if is_accepted {
+        GeographicAsk::AcceptedOffice(tables, is_rounded)
+    } else {
+        GeographicAsk::Office(tables, is_rounded)
+    }
+}
+
 /// Returns what `office` asks for, and its files, or nothing where a layer can't be read.
 pub(crate) fn office(
     alloc: Global,
@@ -54,7 +65,8 @@ pub(crate) fn office(
     let Some((tables, files)) = layers(alloc, matches)? else {
         return Ok(None);
     };
-    let ask = GeographicAsk::Office(Names::new(tables), is_set(matches, "round"));
+    let is_rounded = is_set(matches, "round");
+    let ask = office_of(is_set(matches, "accept"), Names::new(tables), is_rounded);
     let mut all = Vec::new(alloc);
     all.push(given_or(alloc, matches, "SCHEMA", "")?)?;
     Ok(Some((ask, append_files(all, files)?)))

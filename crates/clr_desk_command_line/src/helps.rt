@@ -114,7 +114,8 @@ pub(crate) const OFFICE_PRINTS: &str =
     "It prints the office in which LIVE has the rows of the layers in place of those of their tables, and nothing else,
 with status 0. A layer is CSV, as `clr_desk layer` prints it, with shapes as WKT in metres; a row whose KEY is empty
 gets the least key that is free. Where a layer can't be read or a rule doesn't hold it prints nothing, and on standard
-error the line that says so, with status 2 or 1.
+error the line that says so, with status 2 or 1. With --accept no rule is in the way: what is broken is known in the
+office, as `clr_desk accept` has it, and standard error says how many needs these are of each rule.
 
 Example:
   clr_desk office schema.json main=main.csv valve=valve.csv > office.json";
@@ -128,3 +129,25 @@ the line that says so, with status 2 or 1.
 
 Example:
   clr_desk design office.json Bypass main=main.csv valve=valve.csv > with_bypass.json";
+
+pub(crate) const ERRORS_PRINTS: &str =
+    "It prints each need that is broken in LIVE: whether it is known, the rule, the rows, and the place; with --geojson
+as features with a point for each, for a geographic information system. Other commands may refuse such an office as
+`unheld`; this one takes it. The status is 0 where each error is known, and 1 where one isn't.
+
+Example:
+  clr_desk errors office.json --geojson --crs EPSG:25832 > errors.geojson";
+
+pub(crate) const ACCEPT_PRINTS: &str =
+    "It prints the same office with just those needs as known that are broken in LIVE or in a workspace that is kept,
+and nothing else, with status 0. From then on these errors may stay or be mended, and none comes in.
+
+Example:
+  clr_desk accept broken.json > office.json";
+
+pub(crate) const MENDED_PRINTS: &str =
+    "It prints how many of the known needs are broken no more, and then each of them. `clr_desk accept` strikes them off,
+and so does whatever else prints the office. The status is 0.
+
+Example:
+  clr_desk mended office.json";

@@ -6,21 +6,24 @@ ghost use Rattle.clr_command_line.specs.Asks.{IsMemory};
 ghost use Rattle.clr_desk_command_line.specs.Asks.{
   ask_of,
   ask_by_name,
+  asked_of_office,
+  errors_of,
   members_ask,
   geographic_asked,
   is_readable,
   members_asked,
   merge_ask,
   or_members_asked,
+  or_others_asked,
   why_of,
 };
 ghost use Rattle.clr_desk_command_line.specs.Program.{program};
 
-use crate::asks::{DeskAsk, TextKind};
+use crate::asks::{DeskAsk, GeographicAsk, TextKind};
 use crate::command::whole_command;
 use crate::complaints::complaint;
 use crate::layer_reading::geographic_ask;
-use crate::values::root;
+use crate::values::{given_value, is_set, root};
 use clap::ArgMatches;
 use clap::error::ErrorKind;
 use clr_command_line::{AskFault, database, database_with, names};
@@ -98,6 +101,21 @@ fn merge(alloc: Global, matches: &ArgMatches) -> Result<AskAndFiles, AllocError>
     Ok((ask, database_with(alloc, matches, "CERT")?))
 }
 
+/// Returns what `errors` asks for, and its file: features, or lines.
+fn errors(alloc: Global, matches: &ArgMatches) -> Result<AskAndFiles, AllocError>
+    ensures { IfOk result (λ r. errors_of (rows_of (found_of matches.now)) ≡ (r.0, r.1.items)) }
+{
+    if is_set(matches, "geojson") {
+        let system = given_value(alloc, matches, "crs")?;
+        Ok((
+            DeskAsk::Geographic(GeographicAsk::ErrorFeatures(system)),
+            database(alloc, matches)?,
+        ))
+    } else {
+        Ok((DeskAsk::Errors, database(alloc, matches)?))
+    }
+}
+
 /// Returns what a subcommand over layers or members asks for, and its files, or nothing where no such subcommand has the name, or where its
 /// layers or its first key can't be read.
 fn over_layers_or_members(
@@ -114,6 +132,34 @@ fn over_layers_or_members(
     }
 }
 
+/// Returns what is asked of an office text alone, if a subcommand of this name asks it.
+#[tactic(auto, unfolding(crate::specs::Asks::asked_of_office))]
+fn asked_of_office(name: &str) -> Option<DeskAsk>
+    ensures { result ≡ asked_of_office name.now }
+{
+    match name {
+        "format" => Some(DeskAsk::Format),
+        "accept" => Some(DeskAsk::Accept),
+        "mended" => Some(DeskAsk::Mended),
+        _ => None,
+    }
+}
+
+/// Returns what a subcommand over an office text alone, over layers or over members asks for, and its files, or nothing where no such subcommand
+/// has the name, or where its layers or its first key can't be read.
+fn over_office_or_others(
+    alloc: Global,
+    name: &str,
+    matches: &ArgMatches,
+) -> Result<Option<AskAndFiles>, AllocError>
+    ensures { IfOk result (λ r. or_others_asked (asked_of_office name.now) name.now (rows_of (found_of matches.now)) ≡ option_map (λ p. (p.0, p.1.items)) r) }
+{
+    match asked_of_office(name) {
+        Some(ask) => Ok(Some((ask, database(alloc, matches)?))),
+        None => over_layers_or_members(alloc, name, matches),
+    }
+}
+
 /// Returns what a subcommand asks for, and its files, or nothing where no subcommand has the name, or where its layers or its first key can't
 /// be read.
 #[tactic(auto, unfolding(crate::specs::Asks::ask_by_name))]
@@ -127,9 +173,9 @@ fn ask_of_subcommand(
     match name {
         "check" => Ok(Some((DeskAsk::Check, database_with(alloc, matches, "CERT")?))),
         "merge" => Ok(Some(merge(alloc, matches)?)),
-        "format" => Ok(Some((DeskAsk::Format, database(alloc, matches)?))),
+        "errors" => Ok(Some(errors(alloc, matches)?)),
         "why" => Ok(Some(why(alloc, matches)?)),
-        _ => over_layers_or_members(alloc, name, matches),
+        _ => over_office_or_others(alloc, name, matches),
     }
 }
 
@@ -143,9 +189,10 @@ fn refusal(alloc: Global, matches: &ArgMatches) -> Result<AskFault, AllocError> 
 
 /// Returns what the words of a command line ask for, with the program's name first, and the names of the files that it is asked of: that
 /// of the office text, and then that of the script or the certificate or those of the layers where there are some. The subcommands are
-/// `check DB CERT`, `merge DB CERT NAME..`, `format DB`, `why DB [--script FILE] [--certificate FILE]`, `certificate`, `keep`, `clashes`, `words`, `map`
+/// `check DB CERT`, `merge DB CERT NAME..`, `format DB`, `accept DB`, `mended DB`, `errors DB [--geojson] [--crs SYSTEM]`, `why DB [--script FILE]
+/// [--certificate FILE]`, `certificate`, `keep`, `clashes`, `words`, `map`
 /// and `report`, each with `DB [--under ROOT] NAME..`, `geojson DB [--under ROOT] [--crs SYSTEM] NAME..`, `layer DB TABLE [--in
-/// WORKSPACE]`, `office SCHEMA TABLE=FILE.. [--round]` and `design DB NAME TABLE=FILE.. [--script] [--keys N] [--round]`. There are none
+/// WORKSPACE]`, `office SCHEMA TABLE=FILE.. [--round] [--accept]` and `design DB NAME TABLE=FILE.. [--script] [--keys N] [--round]`. There are none
 /// or more names, and one or more layers. The root, and the workspace of a layer, is LIVE where none is given; N is 1.
 ///
 /// Fails with `Refused` where the words name no subcommand or another count of values than it has,

@@ -1,3 +1,4 @@
 pub mod LayerLemmas
 pub mod LayersAgain
+mod RelaidLemmas
 pub mod ScriptLemmas

@@ -21,6 +21,7 @@ use Rattle.clr_designs.specs.Designs.{AreDone, design_refusal, with_design, with
 use Rattle.clr_office_texts.specs.Drafts.{draft_in, opened_in}
 use Rattle.clr_office_reports.specs.Outcomes.{dump_text}
 use Rattle.clr_desk_prints.specs.Printing.{PrintoutOrFault, printout_of}
+use Rattle.clr_desk_errors.specs.Accepting.{IsAcceptedPrint}
 use Rattle.clr_desk_layers.specs.LayerFaultLines.{fault_line}
 
 -- the text of an office, ended by `\n`, which is read as the same office, and in which each broken need is known
@@ -86,3 +87,11 @@ IsDesignScriptPrint name options layers = IsPrintOfLayers options layers (IsPrin
 -- the office whose LIVE has their rows
 abbrev pub IsOfficePrint : LayerOptions → List GivenLayer → Office → PrintoutOrFault → Type 0
 IsOfficePrint options layers = IsPrintOfLayers options layers IsPrintOfLive
+
+-- what is to be printed of LIVE's content, whatever it breaks: the text of the office with its errors accepted, and how many they are
+abbrev pub IsPrintOfAccepted : Office → Content → PrintoutOrFault → Type 0
+IsPrintOfAccepted o content = IsAcceptedPrint (with_live o content)
+
+-- the same office with its errors accepted
+abbrev pub IsAcceptedOfficePrint : LayerOptions → List GivenLayer → Office → PrintoutOrFault → Type 0
+IsAcceptedOfficePrint options layers = IsPrintOfLayers options layers IsPrintOfAccepted

@@ -1,15 +1,18 @@
 //! What is printed of an opened office and layers.
 
-ghost use Rattle.std.specs.Prelude.{◌≡◌, IfOk};
+ghost use Rattle.std.specs.Prelude.{◌≡◌, Ok, IfOk};
 ghost use Rattle.clr_rows.specs.Schemas.{FitsSchema};
+ghost use Rattle.clr_office_texts.specs.Drafts.{draft_in};
 ghost use Rattle.clr_desk_prints.specs.Printing.{printed};
-ghost use Rattle.clr_desk_layers.specs.Designs.{IsDesignPrint, IsDesignScriptPrint, IsOfficePrint};
+ghost use Rattle.clr_desk_layers.specs.Designs.{IsAcceptedOfficePrint, IsDesignPrint, IsDesignScriptPrint, IsOfficePrint, IsPrintOfAccepted};
 ghost use Rattle.clr_desk_layers.specs.Designs.{IsPrintOfDesign, IsPrintOfLive, IsPrintOfScript, faulty_layer_printout, refusal_print};
 
 use crate::layer_fault_lines::fault_line;
+use crate::relaid_drafts::draft_with_live;
 use clr_designs::{make_design, replace_live, write_design_script};
+use clr_desk_errors::accepted_print;
 use clr_desk_prints::{Ending, Print};
-use clr_engine::Office;
+use clr_engine::{Draft, Office};
 use clr_layer_changes::{FaultyLayer, GivenLayer, LayerOptions, edits_between, wanted_content};
 use clr_lines::reply_line;
 use clr_office_reports::dump_text;
@@ -85,6 +88,23 @@ fn print_of_live(alloc: Global, office: &mut Office, content: &Sheet) -> Result<
     }
 }
 
+/// Puts a content in place of LIVE's, whatever it breaks, and returns the text of the office with its errors accepted, and how many they are.
+/// The draft is that of the given text.
+fn print_of_accepted(
+    alloc: Global,
+    text: &[u8],
+    draft: &Draft,
+    content: &Sheet,
+) -> Result<Print, AllocError>
+    requires read { draft_in text.now ≡ Ok draft.now }
+    requires fits { FitsSchema draft.now.schema content.now }
+    ensures { IfOk result (λ p. IsPrintOfAccepted draft.now content.now (printed p)) }
+{
+    let relaid = draft_with_live(alloc, text, draft, content)?;
+    let print = accepted_print(alloc, relaid)?;
+    Ok(print)
+}
+
 /// Returns what is printed of the design that has the rows of layers.
 pub(crate) fn design_print(
     alloc: Global,
@@ -128,6 +148,23 @@ pub(crate) fn office_print(
 {
     match wanted_content(alloc, office.schema(), office.live(), options, layers)? {
         Ok(content) => print_of_live(alloc, office, &content),
+        Err(faulty) => print_of_fault(alloc, layers, &faulty),
+    }
+}
+
+/// Returns what is printed of the office whose LIVE has the rows of layers, with its errors accepted. The draft is that of the given text.
+pub(crate) fn accepted_office_print(
+    alloc: Global,
+    text: &[u8],
+    draft: &Draft,
+    options: LayerOptions,
+    layers: &[GivenLayer],
+) -> Result<Print, AllocError>
+    requires { draft_in text.now ≡ Ok draft.now }
+    ensures { IfOk result (λ p. IsAcceptedOfficePrint options layers.now draft.now (printed p)) }
+{
+    match wanted_content(alloc, draft.schema(), draft.live(), options, layers)? {
+        Ok(content) => print_of_accepted(alloc, text, draft, &content),
         Err(faulty) => print_of_fault(alloc, layers, &faulty),
     }
 }

@@ -1,13 +1,14 @@
 //! Offices and designs that are made of layers, for the office of a text.
 
-ghost use Rattle.clr_office_texts.specs.Drafts.{opened_in};
+ghost use Rattle.clr_office_texts.specs.Drafts.{draft_in, opened_in};
 ghost use Rattle.clr_desk_prints.specs.Printing.{IsMadePrintout, IsPrintoutIn};
-ghost use Rattle.clr_desk_layers.specs.Designs.{IsDesignPrint, IsDesignScriptPrint, IsOfficePrint};
+ghost use Rattle.clr_desk_layers.specs.Designs.{IsAcceptedOfficePrint, IsDesignPrint, IsDesignScriptPrint, IsOfficePrint};
+ghost use Rattle.clr_desk_errors.specs.Accepting.{IsPrintoutOfDraft};
 
-use crate::design_prints::{design_print, office_print, script_print};
+use crate::design_prints::{accepted_office_print, design_print, office_print, script_print};
 use clr_desk_prints::{Print, RunFault, notes_of};
 use clr_layer_changes::{GivenLayer, LayerOptions};
-use clr_office_reports::open_office;
+use clr_office_reports::{draft_of, open_office};
 use std::alloc::Global;
 
 /// Returns an office text: that of the given office with one more workspace of this name, a child of LIVE, which sees LIVE's content with the rows of the
@@ -61,4 +62,20 @@ pub fn answer_office(
         Ok(mut office) => Ok(office_print(alloc, &mut office, options, layers)?),
         Err(answer) => notes_of(alloc, answer),
     }
+}
+
+/// Returns an office text: that of the given office, where LIVE has the rows of the layers in place of those of their tables, with just those
+/// needs as known that are broken then; and as notes how many needs these are, in all and of each rule that has some. What is broken in the
+/// given office doesn't count. Where a layer has a fault there is no text, and its line is the only note, with status 2. Fails with `BadOffice`
+/// where the text is no office, and with `OutOfMemory` for want of memory, which may come in place of any other answer.
+pub fn answer_accepted_office(
+    alloc: Global,
+    office: &[u8],
+    options: LayerOptions,
+    layers: &[GivenLayer],
+) -> Result<Print, RunFault>
+    ensures { IsMadePrintout (IsPrintoutOfDraft (IsAcceptedOfficePrint options layers.now) (draft_in office.now)) result }
+{
+    let read = draft_of(alloc, office)?;
+    Ok(accepted_office_print(alloc, office, &read.draft, options, layers)?)
 }

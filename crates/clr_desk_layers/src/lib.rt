@@ -3,7 +3,7 @@
 //! - `answer_layer`: the layer of a table's rows in LIVE or in a workspace of the office of a text (`IsLayerPrint`).
 //! - `answer_design`: the office of a text with one more workspace, which has the rows of layers (`IsDesignPrint`); `answer_design_script`: the
 //!   script that makes this design (`IsDesignScriptPrint`); `answer_office`: the office of a text with the rows of layers in LIVE
-//!   (`IsOfficePrint`).
+//!   (`IsOfficePrint`), and `answer_accepted_office` the same with its errors accepted (`IsAcceptedOfficePrint`).
 //! - `printed_layers_change_nothing`: the law that layers which `answer_layer` gives of LIVE, each of another table, change nothing when they are
 //!   given back to these three.
 #![tactic(auto)]
@@ -14,8 +14,9 @@ mod laws;
 mod layer_fault_lines;
 mod layer_refusals;
 mod layers;
+mod relaid_drafts;
 
 pub use clr_layer_changes::{GivenLayer, LayerOptions};
-pub use designs::{answer_design, answer_design_script, answer_office};
+pub use designs::{answer_accepted_office, answer_design, answer_design_script, answer_office};
 pub use laws::printed_layers_change_nothing;
 pub use layers::answer_layer;

@@ -1,1 +1,1 @@
-pub mod Codes
+mod MapLemmas

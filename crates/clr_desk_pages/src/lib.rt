@@ -9,7 +9,6 @@ mod features;
 mod maps;
 mod plans;
 mod reports;
-mod systems;
 
 pub use features::answer_geojson;
 pub use maps::answer_map;

@@ -1,4 +1,5 @@
 pub mod ChildLemmas
+mod Codes
 pub mod Made
 pub mod OneHint
 pub mod OpeningLemmas

@@ -2,3 +2,4 @@ pub mod Calls
 pub mod Members
 pub mod NameHints
 pub mod Printing
+pub mod Systems

@@ -6,6 +6,8 @@
 //! - `answer_over_office`, `answer_over_members`: what a call prints of the office of a text, and of the members that names ask for. Behind its notes are
 //!   hints at names that no workspace has, each at the workspace whose name is most like it, if one is like enough, and no others (`IsHinted`).
 //! - `members_asked`: the members that names ask for, which are all children of the root if there is no name (`members_or_children`).
+//! - `system_of` [`named`, `no_other`]: the number of a system of coordinates that a text names; `print_of_no_system` says that one names none.
+//!   `IsInSystem`: what is printed in a system, if one is given.
 //! - `plan_members`: the plan of members, with what it promises (`IsPlanned`).
 #![tactic(auto)]
 
@@ -13,9 +15,11 @@ mod children;
 mod openings;
 mod plans;
 mod prints;
+mod systems;
 
 pub use children::members_asked;
 pub use clr_office::{RunFault, hint_lines};
 pub use openings::{answer_over_members, answer_over_office};
 pub use plans::plan_members;
 pub use prints::{Ending, Print, notes_of};
+pub use systems::{print_of_no_system, system_of};

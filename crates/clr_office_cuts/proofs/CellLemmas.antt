@@ -17,10 +17,10 @@ use Rattle.clr_workspaces.specs.Operations.{own_changes}
 use Rattle.clr_workspaces.specs.Workspaces.{Workspace}
 use Rattle.clr_steps.specs.Names.{is_live}
 use Rattle.clr_steps.specs.Offices.{Office, content_of, find_name, is_kept, stands, workspace}
-use Rattle.clr_steps.specs.Quiet.{MergeSet, is_root}
+use Rattle.clr_steps.specs.Quiet.{MergeSet, is_member, is_root}
 use Rattle.clr_clearance.specs.MergeSets.{setting_by_position}
 use Rattle.clr_cuts.specs.Cuts.{IsCut}
-use Rattle.clr_office_cuts.specs.OfficeCuts.{AreRowsAt, IsOfficeCut, IsOfficeOfCells, IsWorkspaceCut, IsWorkspaceCutIfAny, root_rows}
+use Rattle.clr_office_cuts.specs.OfficeCuts.{AreRowsAt, IsOfficeCut, IsOfficeOfCells, IsSameMember, IsWorkspaceCut, IsWorkspaceCutIfAny, root_rows}
 
 -- contents -----------------------------------------------------------------------------------------
 
@@ -154,16 +154,22 @@ module _ (cells : CellId → Bool) (whole cut : Office) where
         ∙ same_conflicts (content_of cut w.parent) (content_of whole w.parent) (own_changes w)
         (λ q change e. kept_row cells (content_of whole w.parent) (content_of cut w.parent) (above w refl) q (change_kept cells w v it q change e))
 
+  pub same_member : (merge_set : MergeSet) → IsOfficeOfCells cells whole cut merge_set → (name : Name) → is_member merge_set name ≡ true
+      → IsSameMember whole cut merge_set name
+  same_member merge_set of_cells name is =
+      let matched = same_workspace name (of_cells.members name is) in
+      record {
+        stands = same_stands name (of_cells.members name is);
+        child = ap (λ b. not (is_root merge_set name) && b) (child_alike merge_set name (workspace whole name) (workspace cut name) matched);
+        changes = changes_alike merge_set name (workspace whole name) (workspace cut name) matched;
+        conflicts = conflicts_alike merge_set name (workspace whole name) (workspace cut name) matched (λ u e. of_cells.above name u is e);
+      }
+
   pub cells_cut : (merge_set : MergeSet) → IsOfficeOfCells cells whole cut merge_set → IsCut (setting_by_position whole merge_set) (root_rows cut merge_set)
       → IsOfficeCut whole cut merge_set
   cells_cut merge_set of_cells rows = record {
     book = of_cells.book;
     kept = same_kept merge_set.root (same_workspace merge_set.root of_cells.root);
-    members = λ name is. (let matched = same_workspace name (of_cells.members name is) in record {
-      stands = same_stands name (of_cells.members name is);
-      child = ap (λ b. not (is_root merge_set name) && b) (child_alike merge_set name (workspace whole name) (workspace cut name) matched);
-      changes = changes_alike merge_set name (workspace whole name) (workspace cut name) matched;
-      conflicts = conflicts_alike merge_set name (workspace whole name) (workspace cut name) matched (λ u e. of_cells.above name u is e);
-    });
+    members = same_member merge_set of_cells;
     rows = rows;
   }

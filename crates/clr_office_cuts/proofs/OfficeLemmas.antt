@@ -54,7 +54,7 @@ module _ {X : Type 0} where
   same_tail : (f g : Name → X) (n : Name) (ns : List Name) → AreSameAt f g (n ∷ ns) → AreSameAt f g ns
   same_tail f g n ns h name is = h name (or_right (same_name n name) (has ns name) is)
 
-  same_map : (f g : Name → X) (names : List Name) → AreSameAt f g names → map f names ≡ map g names
+  pub same_map : (f g : Name → X) (names : List Name) → AreSameAt f g names → map f names ≡ map g names
   same_map f g [] h = refl
   same_map f g (n ∷ ns) h = λ i. same_head f g n ns h i ∷ same_map f g ns (same_tail f g n ns h) i
 

@@ -8,12 +8,13 @@
 //! - `cut_offices_promise_for_the_whole`: so a clear verdict over the cut gives the headline of the whole, of which
 //!   nothing is asked, and a blocked plan's order is refused there.
 //! - `offices_of_cells_are_cut_out`: an office that has the rows of some cells alone, wherever its members look, is cut out of
-//!   the whole where its root's rows are a cut.
+//!   the whole where its root's rows are a cut. `passes_cut_offices_out` [`none`, `three`]: so it is by
+//!   passes over the rows of the whole's root, which ask for nothing but the office and those rows.
 #![tactic(auto)]
 
 mod laws;
 
 pub use laws::{
     cut_offices_answer_for_the_whole, cut_offices_promise_for_the_whole,
-    offices_of_cells_are_cut_out,
+    offices_of_cells_are_cut_out, passes_cut_offices_out,
 };

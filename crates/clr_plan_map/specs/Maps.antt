@@ -1,7 +1,9 @@
 -- What the map of a plan tells.
 use Rattle.std.specs.Prelude.{◌≡◌, ℕ, List, [], ◌∷◌, ◌++◌, None, codes, length, pos}
+use Rattle.clr_rows.specs.Contents.{Changes}
 use Rattle.clr_steps.specs.Offices.{Office}
 use Rattle.clr_steps.specs.Quiet.{MergeSet}
+use Rattle.clr_clearance.specs.MergeSets.{change_sets}
 use Rattle.clr_merge_sets.specs.declared.plans.Plan.{Plan}
 use Rattle.clr_merge_sets.specs.declared.plans.Plan.TheVariants as plan
 use Rattle.clr_plan.specs.PlanLines.{plan_text}
@@ -71,15 +73,19 @@ TellsNames s p names = (d : Designs) × AreDesignsOf s p d × (names ≡ design_
 
 -- the page ------------------------------------------------------------------------------------------
 
--- the title is the word for the plan with the names of the designs; the description is the plan in a sentence or two, and then its lines; and the
--- word is shown over all else
-pub record IsMapPage (o : Office) (s : MergeSet) (p : Plan) (page : SvgPage) : Type 0 where
+-- of members that make these changes: the title is the word for the plan with the names of the designs; the description is the plan in a sentence or two,
+-- and then its lines; and the word is shown over all else
+pub record IsMapPage (o : Office) (s : MergeSet) (sets : List Changes) (p : Plan) (page : SvgPage) : Type 0 where
   pub names : List ℕ
   pub named : TellsNames s p names
   pub title : page.title.items ≡ plan_word p ++ codes ": " ++ names
-  pub description : page.description.items ≡ plan_sentence o s p ++ codes "\n" ++ plan_text o.schema s.members s.root p
+  pub description : page.description.items ≡ plan_sentence o s sets p ++ codes "\n" ++ plan_text o.schema s.members s.root p
   pub shown : ShowsOver p page.layers.items
 
 -- the text of such a page
+abbrev pub IsMapOfChanges : Office → MergeSet → List Changes → Plan → List ℕ → Type 0
+IsMapOfChanges o s sets p text = (page : SvgPage) × IsMapPage o s sets p page × (text ≡ page_text page)
+
+-- the map of a plan of members
 abbrev pub IsMap : Office → MergeSet → Plan → List ℕ → Type 0
-IsMap o s p text = (page : SvgPage) × IsMapPage o s p page × (text ≡ page_text page)
+IsMap o s p text = IsMapOfChanges o s (change_sets o s) p text

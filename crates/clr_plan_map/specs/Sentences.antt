@@ -2,7 +2,9 @@
 use Rattle.std.specs.Prelude.{ℕ, ◌==◌, List, [], ◌∷◌, ◌++◌, Option, Some, None, codes, length, if◌then◌else◌}
 use Rattle.std.specs.Fmt.{decimal}
 use Rattle.clr_rows.specs.declared.tables.TableDef.{TableDef}
+use Rattle.clr_rows.specs.Contents.{Changes}
 use Rattle.clr_rules.specs.declared.rules.Rule.{Rule}
+use Rattle.clr_needs.specs.declared.needs.Need.{Need}
 use Rattle.clr_workspaces.specs.Marks.{Name}
 use Rattle.clr_steps.specs.Offices.{Office}
 use Rattle.clr_steps.specs.Quiet.{MergeSet}
@@ -13,6 +15,7 @@ use Rattle.clr_merge_sets.specs.declared.plans.Plan.TheVariants as plan
 use Rattle.clr_phrases.specs.Rules.{rule_sentence}
 use Rattle.clr_plan_sentences.specs.Answers.{order_text, unfit_text}
 use Rattle.clr_plan_sentences.specs.Causes.{reason_text}
+use Rattle.clr_plan_sentences.specs.OldErrors.{old_text}
 use Rattle.clr_serving_rows.specs.NeedPlaces.{rule_in}
 
 -- lines as one line --------------------------------------------------------------------------------
@@ -30,6 +33,10 @@ byte_before b rest = if b == 10 then end_before rest else b ∷ []
 abbrev pub one_line : List ℕ → List ℕ
 one_line [] = []
 one_line (b ∷ rest) = byte_before b rest ++ one_line rest
+
+-- a text behind a line, on the same line, after a space; no text adds nothing
+abbrev pub behind_line : List ℕ → List ℕ
+behind_line text = end_before text ++ one_line text
 
 -- what is cleared ----------------------------------------------------------------------------------
 
@@ -59,23 +66,27 @@ in_order_text members order = codes "Merged in the order " ++ order_text members
 abbrev pub order_sentence : List Name → List ℕ → List ℕ
 order_sentence members order = if length order == 1 then alone_text members order else in_order_text members order
 
--- the rule of a number, if the book has one
-abbrev pub need_sentence : List TableDef → ℕ → Option Rule → List ℕ
-need_sentence tables number None = []
-need_sentence tables number (Some rule) = codes "Rule " ++ decimal number ++ codes ": " ++ rule_sentence tables rule
+-- a rule as a sentence, behind its number
+abbrev pub rule_line : List TableDef → ℕ → Rule → List ℕ
+rule_line tables number rule = codes "Rule " ++ decimal number ++ codes ": " ++ rule_sentence tables rule
 
--- why a merge is refused: the rule that nothing serves, or which row is changed twice
-abbrev pub cause_sentence : Office → MergeSet → Verdict → List ℕ
-cause_sentence o s (verdict.Uncovered need) = need_sentence o.schema need.rule (rule_in o need)
-cause_sentence o s (verdict.Conflict member q count) = one_line (reason_text o s (verdict.Conflict member q count))
-cause_sentence o s (verdict.SharedCell q first second) = one_line (reason_text o s (verdict.SharedCell q first second))
-cause_sentence o s _ = []
+-- the rule of a need, if the book has it; and behind it that the need is an old error, if it is one
+abbrev pub need_sentence : Office → MergeSet → List Changes → Need → Option Rule → List ℕ
+need_sentence o s sets need None = []
+need_sentence o s sets need (Some rule) = rule_line o.schema need.rule rule ++ behind_line (old_text o s sets need)
+
+-- why a merge of members that make these changes is refused: the rule that nothing serves, or which row is changed twice
+abbrev pub cause_sentence : Office → MergeSet → List Changes → Verdict → List ℕ
+cause_sentence o s sets (verdict.Uncovered need) = need_sentence o s sets need (rule_in o need)
+cause_sentence o s sets (verdict.Conflict member q count) = one_line (reason_text o s (verdict.Conflict member q count))
+cause_sentence o s sets (verdict.SharedCell q first second) = one_line (reason_text o s (verdict.SharedCell q first second))
+cause_sentence o s sets _ = []
 
 -- the whole ----------------------------------------------------------------------------------------
 
--- that members can be merged; or in which order a merge is refused, and why; or which name has to be mended
-abbrev pub plan_sentence : Office → MergeSet → Plan → List ℕ
-plan_sentence o s (plan.Cleared c) = cleared_sentence (length s.members) (length c.entries)
-plan_sentence o s (plan.Blocked order v) = order_sentence s.members order.items ++ cause_sentence o s v
-plan_sentence o s (plan.Unfit v) = one_line (unfit_text s v)
-plan_sentence o s plan.OutOfMemory = codes "No memory was found."
+-- of a plan of members that make these changes: that they can be merged; or in which order a merge is refused, and why; or which name has to be mended
+abbrev pub plan_sentence : Office → MergeSet → List Changes → Plan → List ℕ
+plan_sentence o s sets (plan.Cleared c) = cleared_sentence (length s.members) (length c.entries)
+plan_sentence o s sets (plan.Blocked order v) = order_sentence s.members order.items ++ cause_sentence o s sets v
+plan_sentence o s sets (plan.Unfit v) = one_line (unfit_text s v)
+plan_sentence o s sets plan.OutOfMemory = codes "No memory was found."

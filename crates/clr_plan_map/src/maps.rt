@@ -4,7 +4,7 @@ ghost use Rattle.std.specs.Prelude.{◌≡◌, ◌++◌, codes, string_bytes, If
 ghost use Rattle.clr_merge_sets.specs.MemberChanges.{set_of};
 ghost use Rattle.clr_plan.specs.PlanLines.{plan_text};
 ghost use Rattle.clr_map_frames.specs.Headings.{design_names_text};
-ghost use Rattle.clr_plan_map.specs.Maps.{IsMap, ShowsOver, TellsNames, plan_word};
+ghost use Rattle.clr_plan_map.specs.Maps.{IsMapOfChanges, ShowsOver, TellsNames, plan_word};
 ghost use Rattle.clr_plan_map.specs.Sentences.{plan_sentence};
 
 use crate::labels::add_labels;
@@ -115,7 +115,7 @@ fn drawn_layers(
 fn words_of(setting: Setting<'_>, field: Field<'_>, plan: &Plan) -> Result<MapWords, AllocError>
     ensures names { IfOk result (λ words. string_bytes words.names ≡ design_names_text field.entry.designs.now) }
     ensures sentence { IfOk result (λ words. string_bytes words.sentence
-        ≡ plan_sentence setting.entry.office.now (set_of setting.entry.members.now) plan.now) }
+        ≡ plan_sentence setting.entry.office.now (set_of setting.entry.members.now) setting.entry.members.now.changes.items plan.now) }
 {
     Ok(MapWords {
         names: names_text(field)?,
@@ -127,7 +127,7 @@ fn words_of(setting: Setting<'_>, field: Field<'_>, plan: &Plan) -> Result<MapWo
 fn drawn_plan(setting: Setting<'_>, plan: &Plan) -> Result<Drawn, AllocError>
     ensures names { IfOk result (λ drawn. TellsNames (set_of setting.entry.members.now) plan.now (string_bytes drawn.words.names)) }
     ensures sentence { IfOk result (λ drawn. string_bytes drawn.words.sentence
-        ≡ plan_sentence setting.entry.office.now (set_of setting.entry.members.now) plan.now) }
+        ≡ plan_sentence setting.entry.office.now (set_of setting.entry.members.now) setting.entry.members.now.changes.items plan.now) }
 {
     let Setting {
         alloc,
@@ -201,7 +201,7 @@ pub fn plan_map(
     members: &MemberChanges<'_>,
     plan: &Plan,
 ) -> Result<Vec<u8>, AllocError>
-    ensures map { IfOk result (λ text. IsMap office.now (set_of members.now) plan.now text.items) }
+    ensures map { IfOk result (λ text. IsMapOfChanges office.now (set_of members.now) members.now.changes.items plan.now text.items) }
 {
     let setting = Setting {
         alloc,

@@ -3,17 +3,20 @@
 ghost use Rattle.std.specs.Prelude.{◌≡◌, ◌++◌, length, string_bytes, IfOk, OnOk};
 ghost use Rattle.clr_merge_sets.specs.MemberChanges.{set_of};
 ghost use Rattle.clr_serving_rows.specs.NeedPlaces.{rule_in};
-ghost use Rattle.clr_plan_sentences.specs.Answers.{answer_text, order_text};
+ghost use Rattle.clr_plan_sentences.specs.Answers.{answer_text};
 ghost use Rattle.clr_plan_sentences.specs.Causes.{reason_text};
-ghost use Rattle.clr_plan_map.specs.Sentences.{alone_text, cause_sentence, cleared_sentence, end_before, in_order_text, looked_text, mergeable_text};
-ghost use Rattle.clr_plan_map.specs.Sentences.{need_sentence, one_line, order_sentence, plan_sentence, several_text};
+ghost use Rattle.clr_plan_map.specs.Sentences.{alone_text, behind_line, cause_sentence, cleared_sentence, end_before, in_order_text};
+ghost use Rattle.clr_plan_map.specs.Sentences.{looked_text, mergeable_text, need_sentence, one_line, order_sentence, plan_sentence};
+ghost use Rattle.clr_plan_map.specs.Sentences.{rule_line, several_text};
 
 use clr_clearance::Verdict;
 use clr_member_changes::MemberChanges;
 use clr_needs::Need;
 use clr_phrases::rule_sentence;
 use clr_plan::Plan;
-use clr_plan_sentences::{Setting, answer_words};
+use clr_plan_sentences::{Setting, add_order_text, answer_words};
+use clr_rows::Schema;
+use clr_rules::Rule;
 use clr_serving_rows::rule_of;
 use std::alloc::{AllocError, Global};
 
@@ -40,6 +43,15 @@ fn one_line(alloc: Global, text: &str) -> Result<String, AllocError>
     }
     line.push_str(rest)?;
     Ok(line)
+}
+
+/// Adds a text of several lines behind a line, on the same line, after a space; nothing where there is no text.
+fn add_behind(line: &mut String, alloc: Global, text: &str) -> Result<(), AllocError>
+    ensures { OnOk result (string_bytes line.new ≡ string_bytes line.old ++ behind_line text.now) }
+{
+    let more = one_line(alloc, text)?;
+    add_space_before(line, text)?;
+    line.push_str(more.as_str())
 }
 
 /// Adds how many needs were looked at.
@@ -86,25 +98,6 @@ fn add_cleared(text: &mut String, count: usize, needs: usize) -> Result<(), Allo
     add_looked(text, needs)
 }
 
-/// Adds members one after another, by their positions.
-fn add_members(
-    text: &mut String,
-    members: &MemberChanges<'_>,
-    order: &[usize],
-) -> Result<(), AllocError>
-    ensures { OnOk result (string_bytes text.new ≡ string_bytes text.old ++ order_text (set_of members.now).members order.now) }
-{
-    let [first, others @ ..] = order else {
-        return Ok(());
-    };
-    text.push_str(members.name(*first))?;
-    for other in others {
-        text.push_str(", then ")?;
-        text.push_str(members.name(*other))?;
-    }
-    Ok(())
-}
-
 /// Adds that the merge of one member is refused.
 fn add_alone(
     text: &mut String,
@@ -114,7 +107,7 @@ fn add_alone(
     ensures { OnOk result (string_bytes text.new ≡ string_bytes text.old ++ alone_text (set_of members.now).members order.now) }
 {
     text.push_str("Already ")?;
-    add_members(text, members, order)?;
+    add_order_text(text, members, order)?;
     text.push_str(" alone, merged now, is refused. ")?;
     Ok(())
 }
@@ -128,7 +121,7 @@ fn add_in_order(
     ensures { OnOk result (string_bytes text.new ≡ string_bytes text.old ++ in_order_text (set_of members.now).members order.now) }
 {
     text.push_str("Merged in the order ")?;
-    add_members(text, members, order)?;
+    add_order_text(text, members, order)?;
     text.push_str(", one merge is refused. ")?;
     Ok(())
 }
@@ -148,20 +141,29 @@ fn add_order(
     }
 }
 
-/// Returns the rule of a need.
+/// Returns a rule as a sentence, behind its number.
+fn rule_line(alloc: Global, schema: &Schema, number: u16, rule: &Rule) -> Result<String, AllocError>
+    ensures { IfOk result (λ text. string_bytes text ≡ rule_line schema.now number rule.now) }
+{
+    let sentence = rule_sentence(alloc, schema, rule)?;
+    let mut text = String::from_str(alloc, "Rule ")?;
+    write!(text, "{number}")?;
+    text.push_str(": ")?;
+    text.push_str(sentence.as_str())?;
+    Ok(text)
+}
+
+/// Returns the rule of a need, and behind it that the need is an old error, if it is one.
 fn need_sentence(setting: Setting<'_>, need: &Need) -> Result<String, AllocError>
-    ensures { IfOk result (λ text. string_bytes text
-        ≡ need_sentence setting.entry.office.now.schema need.now.rule (rule_in setting.entry.office.now need.now)) }
+    ensures { IfOk result (λ text. string_bytes text ≡ need_sentence setting.entry.office.now (set_of setting.entry.members.now)
+        setting.entry.members.now.changes.items need.now (rule_in setting.entry.office.now need.now)) }
 {
     let Some(rule) = rule_of(setting.office, need) else {
         return Ok(String::new(setting.alloc));
     };
-    let sentence = rule_sentence(setting.alloc, setting.office.schema(), rule)?;
-    let number = need.rule;
-    let mut text = String::from_str(setting.alloc, "Rule ")?;
-    write!(text, "{number}")?;
-    text.push_str(": ")?;
-    text.push_str(sentence.as_str())?;
+    let old = setting.old_words(need)?;
+    let mut text = rule_line(setting.alloc, setting.office.schema(), need.rule, rule)?;
+    add_behind(&mut text, setting.alloc, old.as_str())?;
     Ok(text)
 }
 
@@ -176,7 +178,8 @@ fn reason_line(setting: Setting<'_>, cause: &Verdict) -> Result<String, AllocErr
 
 /// Returns why a merge is refused.
 fn cause_sentence(setting: Setting<'_>, cause: &Verdict) -> Result<String, AllocError>
-    ensures { IfOk result (λ text. string_bytes text ≡ cause_sentence setting.entry.office.now (set_of setting.entry.members.now) cause.now) }
+    ensures { IfOk result (λ text. string_bytes text ≡ cause_sentence setting.entry.office.now (set_of setting.entry.members.now)
+        setting.entry.members.now.changes.items cause.now) }
 {
     match cause {
         Verdict::Uncovered(need) => need_sentence(setting, need),
@@ -192,7 +195,7 @@ fn blocked_sentence(
     cause: &Verdict,
 ) -> Result<String, AllocError>
     ensures { IfOk result (λ text. string_bytes text ≡ order_sentence (set_of setting.entry.members.now).members order.now
-        ++ cause_sentence setting.entry.office.now (set_of setting.entry.members.now) cause.now) }
+        ++ cause_sentence setting.entry.office.now (set_of setting.entry.members.now) setting.entry.members.now.changes.items cause.now) }
 {
     let why = cause_sentence(setting, cause)?;
     let mut text = String::new(setting.alloc);
@@ -220,7 +223,8 @@ fn unfit_sentence(setting: Setting<'_>, plan: &Plan) -> Result<String, AllocErro
 
 /// Returns a plan in a sentence or two, on one line.
 pub(crate) fn plan_sentence(setting: Setting<'_>, plan: &Plan) -> Result<String, AllocError>
-    ensures { IfOk result (λ text. string_bytes text ≡ plan_sentence setting.entry.office.now (set_of setting.entry.members.now) plan.now) }
+    ensures { IfOk result (λ text. string_bytes text ≡ plan_sentence setting.entry.office.now (set_of setting.entry.members.now)
+        setting.entry.members.now.changes.items plan.now) }
 {
     match plan {
         Plan::Cleared(certificate) => {

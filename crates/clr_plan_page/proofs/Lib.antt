@@ -1,3 +1,4 @@
 mod DesignLemmas
+mod ErrorLemmas
 mod ReasonLemmas
 mod SectionLemmas

@@ -19,6 +19,7 @@ use Rattle.clr_work_orders.specs.declared.trials.Trial.{Trial}
 use Rattle.clr_work_orders.specs.Trials.{AreTrialsOf}
 use Rattle.clr_plan_map.specs.Maps.{IsMap, plan_word}
 use Rattle.clr_plan_page.specs.Designs.{AreDesigns}
+use Rattle.clr_plan_page.specs.OldErrors.{old_errors_shown}
 use Rattle.clr_plan_page.specs.Reasons.{IsWhy}
 use Rattle.clr_plan_page.specs.Shown.{Shown, Heading, Lines, Paragraph, Picture, Verdict, section_shown}
 use Rattle.clr_plan_page.specs.declared.feet.TheConstants.{PLAN, PLANUNDER}
@@ -76,11 +77,12 @@ foot_shown tables members root p =
 
 -- the page -------------------------------------------------------------------------------------
 
--- why a plan says what it says, with these trials, and then the designs with their clashes; no verdict and no picture is among these
+-- why a plan says what it says, with these trials, then the designs with their clashes, and then the old errors of the root, if it has some; no verdict
+-- and no picture is among these
 pub record AreBetween (o : Office) (s : MergeSet) (p : Plan) (trials : List Trial) (sections : List (List Shown)) : Type 0 where
   pub why : List Shown
   pub designs : List Shown
-  pub whole : sections ≡ why ∷ designs ∷ []
+  pub whole : sections ≡ why ∷ designs ∷ old_errors_shown o s.root
   pub reasons : IsWhy o s p trials why
   pub told : AreDesigns o s designs
 

@@ -15,6 +15,7 @@ use crate::designs::add_designs;
 use crate::feet::foot_of;
 use crate::heads::{about, head_of};
 use crate::needs::add_needs;
+use crate::old_errors::old_errors_of;
 use crate::remedies::add_remedies;
 use crate::sections::Builder;
 use clr_clearance::Verdict;
@@ -110,9 +111,11 @@ fn sections_between(
     };
     let why = why_of(setting, plan, trials)?;
     let designs = designs_of(setting, plan)?;
+    let mut errors = old_errors_of(setting)?;
     let mut sections = Vec::new(alloc);
     sections.push(why)?;
     sections.push(designs)?;
+    sections.append(&mut errors)?;
     Ok(sections)
 }
 
@@ -144,9 +147,10 @@ fn page_of(
 
 /// Returns the report of a plan of members whose changes were read of this office, as the text of a page of hypertext in one file, which loads nothing. It
 /// begins with the word for what the plan says and with the map. Then it says why, with the rows of the cause and what was tried to help, or what serves
-/// each need; what each design changes; and the smallest sets of designs that can't be merged together. It ends with the command of `clr_office` that
-/// prints the lines of the plan, with DB for the office's file, and with these lines. Each text of the office is escaped. Lengths and places are in metres
-/// with three decimals. Of a design or a certificate the first 400 rows are shown. The office is left as it was, unless memory runs out.
+/// each need; what each design changes; the smallest sets of designs that can't be merged together; and, if the root breaks needs already, how many of
+/// each rule. It ends with the command of `clr_office` that prints the lines of the plan, with DB for the office's file, and with these lines. Each text of
+/// the office is escaped. Lengths and places are in metres with three decimals. Of a design or a certificate the first 400 rows are shown. The office is
+/// left as it was, unless memory runs out.
 pub fn plan_report(
     alloc: Global,
     office: &mut Office,

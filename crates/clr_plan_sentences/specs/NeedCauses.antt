@@ -24,6 +24,7 @@ use Rattle.clr_phrases.specs.Rules.{fields_text, rule_sentence, rule_title, side
 use Rattle.clr_plan_sentences.specs.declared.told_rows.CauseWords.{CauseWords}
 use Rattle.clr_serving_rows.specs.declared.servers.ServerChange.{ServerChange}
 use Rattle.clr_plan_sentences.specs.Labels.{cell_label}
+use Rattle.clr_plan_sentences.specs.OldErrors.{old_text}
 use Rattle.clr_serving_rows.specs.NeedPlaces.{IsPlaceIn}
 use Rattle.clr_serving_rows.specs.Servers.{server_changes}
 use Rattle.clr_plan_sentences.specs.ToldRows.{row_of_second, row_of_version}
@@ -127,7 +128,7 @@ no_cause = record { reason = []; rows = []; place = [] }
 -- a need that nothing serves under a rule: of rows that meet so, and changes of rows that would serve
 abbrev pub told_cause : Office → MergeSet → List Changes → Need → Rule → Meeting → Option Row → Option Row → List ServerChange → CauseWords
 told_cause o s sets need rule place first second changes = record {
-  reason = rule_reason o.schema need.rule rule;
+  reason = rule_reason o.schema need.rule rule ++ old_text o s sets need;
   rows = row_of_version o s sets need.first first ∷ row_of_second o s sets need.second second;
   place = meeting_text rule place ++ serving_text o s need place first changes rule;
 }

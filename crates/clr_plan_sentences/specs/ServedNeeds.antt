@@ -1,18 +1,15 @@
 -- A need in words, and what serves it until when.
 use Rattle.std.specs.Prelude.{ℕ, List, [], ◌++◌, Option, Some, None, codes}
-use Rattle.clr_rows.specs.declared.cells.CellId.{CellId}
 use Rattle.clr_rows.specs.declared.tables.TableDef.{TableDef}
 use Rattle.clr_rows.specs.Contents.{Changes}
 use Rattle.clr_rules.specs.declared.rules.Rule.{Rule}
 use Rattle.clr_needs.specs.declared.needs.VersionId.{VersionId}
-use Rattle.clr_needs.specs.Members.{after_of, positions}
-use Rattle.clr_needs.specs.Settings.{first_changer}
 use Rattle.clr_cert.specs.declared.certificates.Entry.{Entry}
 use Rattle.clr_workspaces.specs.Marks.{Name}
 use Rattle.clr_steps.specs.Offices.{Office}
-use Rattle.clr_member_changes.specs.Names.{member_name}
 use Rattle.clr_phrases.specs.Rules.{rule_title}
 use Rattle.clr_plan_sentences.specs.declared.served_needs.NeedWords.{NeedWords}
+use Rattle.clr_plan_sentences.specs.Changers.{changer_name}
 use Rattle.clr_plan_sentences.specs.Labels.{cell_label}
 use Rattle.clr_plan_sentences.specs.NeedCauses.{numbered_text}
 use Rattle.clr_serving_rows.specs.NeedPlaces.{rule_in}
@@ -26,14 +23,6 @@ title_text (Some rule) = rule_title rule
 abbrev pub second_subject_text : List TableDef → Option VersionId → List ℕ
 second_subject_text tables None = []
 second_subject_text tables (Some v) = codes " and " ++ cell_label tables v.cell
-
-abbrev pub name_of_any : List Name → Option ℕ → Name
-name_of_any members None = []
-name_of_any members (Some at) = member_name members at
-
--- the name of the first member that changes a cell
-abbrev pub changer_name : List Name → List Changes → CellId → Name
-changer_name members sets q = name_of_any members (first_changer (after_of sets) (positions sets) q)
 
 -- the row that serves once the member that brings it is merged, if there is one
 abbrev pub later_text : List TableDef → List Name → List Changes → Option VersionId → List ℕ

@@ -12,8 +12,8 @@ use clr_merge_sets::Plan;
 use clr_phrases::add_names;
 use std::alloc::AllocError;
 
-/// Adds members one after another, by their positions.
-fn add_members(
+/// Adds members one after another, by their positions, as `Renewal, then Extension`. Of a position that no member has, it adds an empty name.
+pub fn add_order_text(
     text: &mut String,
     members: &MemberChanges<'_>,
     order: &[usize],
@@ -51,7 +51,7 @@ fn add_order(
     ensures { OnOk result (string_bytes text.new ≡ string_bytes text.old ++ order_sentence (set_of members.now).members order.now) }
 {
     text.push_str("Merge ")?;
-    add_members(text, members, order)?;
+    add_order_text(text, members, order)?;
     text.push_str(refused_words(order.len()))
 }
 

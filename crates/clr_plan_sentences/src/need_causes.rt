@@ -4,6 +4,7 @@ ghost use Rattle.std.specs.Prelude.{◌≡◌, ◌++◌, ◌∷◌, IfOk, OnOk, 
 ghost use Rattle.std.specs.Option.{option_and_then, option_copied};
 ghost use Rattle.clr_steps.specs.Quiet.{MergeSet};
 ghost use Rattle.clr_plan_sentences.specs.NeedCauses.{IsNeedCause, meeting_text, numbered_text, place_front, rule_reason, serving_text, told_cause};
+ghost use Rattle.clr_plan_sentences.specs.OldErrors.{old_text};
 ghost use Rattle.clr_serving_rows.specs.NeedPlaces.{rule_in};
 ghost use Rattle.clr_plan_sentences.specs.ToldRows.{row_of_second, row_of_version};
 ghost use Rattle.clr_merge_sets.specs.MemberChanges.{AreMembers, row_in, set_of};
@@ -129,6 +130,17 @@ impl Setting<'_> {
         Ok(text)
     }
 
+    /// Returns the rule that nothing serves, and behind it what is said of an old error.
+    fn reason_words(&self, need: &Need, rule: &Rule) -> Result<String, AllocError>
+        ensures { IfOk result (λ text. string_bytes text ≡ rule_reason self.now.office.now.schema need.now.rule rule.now
+            ++ old_text self.now.office.now (set_of self.now.members.now) self.now.members.now.changes.items need.now) }
+    {
+        let mut reason = rule_reason(self.alloc, self.office.schema(), need.rule, rule)?;
+        let old = self.old_words(need)?;
+        reason.push_str(old.as_str())?;
+        Ok(reason)
+    }
+
     /// Returns a need that nothing serves under a rule, of these rows, which meet so, and these changes of rows that would serve.
     fn told_cause(
         &self,
@@ -142,7 +154,7 @@ impl Setting<'_> {
         ensures { IfOk result (λ cause. cause ≡ told_cause self.now.office.now (set_of self.now.members.now)
             self.now.members.now.changes.items need.now rule.now place (option_copied first.entry) (option_copied second.entry) changes.now) }
     {
-        let reason = rule_reason(self.alloc, self.office.schema(), need.rule, rule)?;
+        let reason = self.reason_words(need, rule)?;
         let rows = self.need_rows(need, first, second)?;
         let words = self.place_words(need, rule, place, first, changes)?;
         Ok(CauseWords {

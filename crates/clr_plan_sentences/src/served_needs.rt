@@ -4,7 +4,8 @@ ghost use Rattle.std.specs.Prelude.{◌≡◌, ◌++◌, IfOk, OnOk, string_byte
 ghost use Rattle.std.specs.Option.{option_copied};
 ghost use Rattle.clr_plan_sentences.specs.NeedCauses.{numbered_text};
 ghost use Rattle.clr_serving_rows.specs.NeedPlaces.{rule_in};
-ghost use Rattle.clr_plan_sentences.specs.ServedNeeds.{changer_name, later_text, second_subject_text, title_text, told_need};
+ghost use Rattle.clr_plan_sentences.specs.Changers.{changer_name};
+ghost use Rattle.clr_plan_sentences.specs.ServedNeeds.{later_text, second_subject_text, title_text, told_need};
 ghost use Rattle.clr_plan_sentences.specs.Labels.{cell_label};
 ghost use Rattle.clr_merge_sets.specs.MemberChanges.{set_of};
 
@@ -56,7 +57,7 @@ fn add_second_subject(
 }
 
 /// Returns the name of the first member that changes a cell, or an empty one where none does.
-fn changer_name<'a>(members: &'a MemberChanges<'_>, cell: CellId) -> &'a str
+pub(crate) fn changer_name<'a>(members: &'a MemberChanges<'_>, cell: CellId) -> &'a str
     ensures { result.now ≡ changer_name (set_of members.entry.now).members members.entry.now.changes.items cell }
 {
     match members.changer_of(cell) {

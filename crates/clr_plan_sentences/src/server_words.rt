@@ -105,7 +105,7 @@ fn add_front(text: &mut String, second: Option<VersionId>, leaves: bool) -> Resu
 }
 
 /// Returns texts as they are handed to a list in a sentence.
-fn texts_of<'a>(alloc: Global, words: &'a [Words]) -> Result<Vec<&'a str>, AllocError>
+pub(crate) fn texts_of<'a>(alloc: Global, words: &'a [Words]) -> Result<Vec<&'a str>, AllocError>
     ensures { IfOk result (λ texts. map (λ text. text.now) texts.items ≡ words.now) }
 {
     let mut texts = Vec::new(alloc);

@@ -2,7 +2,8 @@ use Rattle.std.proofs.Common.{◌≡◌, ◌∙◌, Some, None, ap, sym}
 use Rattle.std.specs.Option.{option_copied}
 use Rattle.clr_office_texts.specs.Drafts.{opened_in}
 use Rattle.clr_desk_prints.specs.Printing.{IsPrintoutIn}
-use Rattle.clr_desk_pages.specs.Features.{AreHintedFeatures, IsFeaturesAnswer, in_system, no_system_print, of_no_system, system_name, without_system}
+use Rattle.clr_desk_prints.specs.Systems.{in_system, no_system_print, of_no_system, system_name, without_system}
+use Rattle.clr_desk_pages.specs.Features.{AreHintedFeatures, IsFeaturesAnswer}
 use Rattle.clr_desk_prints.proofs.Made.{made_as}
 use Rattle.clr_desk_pages.proofs.features.answer_geojson.Goals as goal
 

@@ -1,8 +1,8 @@
 use Rattle.std.proofs.Common.{List, ℕ, map, subst₂}
 use Rattle.clr_merge_sets.specs.MergeSetNames.{merge_set}
-use Rattle.clr_plan_map.specs.Maps.{IsMap}
 use Rattle.clr_desk_prints.specs.Printing.{IsFoundPlan}
 use Rattle.clr_merge_sets.proofs.ReadLemmas.{of_value}
+use Rattle.clr_desk_pages.proofs.MapLemmas.{map_of_read}
 use Rattle.clr_desk_pages.proofs.maps.print_of_set.Goals as goal
 
 pub found_plan-requires : goal.found_plan-requires
@@ -17,7 +17,7 @@ returns c =
       c.in_ok-text.text.items,
       subst₂ (λ (members : List (List ℕ)) (root : List ℕ). IsFoundPlan c.args.office.now (merge_set root members) c.in_ok-plan.plan) read.names
           read.members.root c.in_ok-plan.ensures,
-      subst₂ (λ (members : List (List ℕ)) (root : List ℕ). IsMap c.args.office.now (merge_set root members) c.in_ok-plan.plan c.in_ok-text.text.items)
-          read.names read.members.root c.in_ok-text.ensures.map,
+      map_of_read c.args.office.now c.args.root.now (map (λ name. name.now) c.args.members.now) c.in_ok-changes.changes c.in_ok-plan.plan
+          c.in_ok-text.text.items read.members read.names c.in_ok-text.ensures.map,
       c.print_of_plan_text.ensures,
     )

@@ -6,6 +6,6 @@ use Rattle.clr_plan_map.proofs.sentences.add_in_order.Goals as goal
 
 pub returns : goal.returns
 returns c =
-    rw (c.in_ok-push_str-2.ensures.bytes, c.in_ok-add_members.ensures, c.in_ok-push_str.ensures.bytes)
+    rw (c.in_ok-push_str-2.ensures.bytes, c.in_ok-add_order_text.ensures, c.in_ok-push_str.ensures.bytes)
     (three_behind (string_bytes c.args.text.now) (codes "Merged in the order ") (order_text (set_of c.args.members.now).members c.args.order.now)
     (codes ", one merge is refused. "))

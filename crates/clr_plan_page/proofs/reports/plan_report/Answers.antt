@@ -1,8 +1,10 @@
 use Rattle.std.proofs.Common.{◌∙◌, List, ap, map, subst, sym}
 use Rattle.clr_rows.specs.declared.tables.TableDef.{TableDef}
+use Rattle.clr_rows.specs.Contents.{Changes}
 use Rattle.clr_steps.specs.Offices.{Office}
 use Rattle.clr_merge_sets.specs.MemberChanges.{AreMembers, set_of}
 use Rattle.clr_work_orders.specs.declared.trials.Trial.{Trial}
+use Rattle.clr_plan_map.specs.Maps.{IsMapOfChanges}
 use Rattle.clr_plan_page.specs.Reports.{AreBetween, IsReportPage}
 use Rattle.clr_plan_page.specs.Shown.{section_shown}
 use Rattle.clr_plan_page.proofs.reports.plan_report.Goals as goal
@@ -27,7 +29,7 @@ returns-clause-report c =
       trials = trials;
       between = between;
       page = page;
-      map = c.in_ok-picture.ensures.map;
+      map = subst (λ (sets : List Changes). IsMapOfChanges c.args.office.now s sets p picture) c.requires.changes c.in_ok-picture.ensures.map;
       tried = c.in_ok-trials.ensures.tried c.requires;
       told = subst (λ (o : Office). AreBetween o s p trials between) c.in_ok-trials.ensures.back told;
       shown = subst (λ (tables : List TableDef). IsReportPage tables s p picture between page) tables c.in_ok-page.ensures;

@@ -1,4 +1,4 @@
-use Rattle.std.proofs.Common.{◌≡◌, codes, string_bytes}
+use Rattle.std.proofs.Common.{codes, string_bytes}
 use Rattle.clr_merge_sets.specs.MemberChanges.{set_of}
 use Rattle.clr_member_changes.specs.Names.{member_name}
 use Rattle.clr_plan_sentences.proofs.PieceLemmas.{four_behind, three_behind}

@@ -1,4 +1,4 @@
-use Rattle.std.proofs.Common.{◌≡◌, map, string_bytes, take}
+use Rattle.std.proofs.Common.{◌≡◌, string_bytes, take}
 use Rattle.std.specs.List.{flat_map}
 use Rattle.clr_plan_sentences.specs.Sentences.{entry_line}
 use Rattle.clr_merge_sets.specs.MemberChanges.{set_of}

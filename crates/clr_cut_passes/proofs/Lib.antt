@@ -1,0 +1,4 @@
+pub mod CleanLemmas
+pub mod CountLemmas
+pub mod HadLemmas
+pub mod OfficeLemmas

@@ -1,0 +1,5 @@
+pub mod Accepting
+pub mod ErrorFeatures
+pub mod ErrorLines
+pub mod ListedErrors
+pub mod Mended

@@ -1,0 +1,15 @@
+use Rattle.clr_desk_layers.specs.Designs.{IsPrintOfAccepted}
+use Rattle.clr_desk_layers.proofs.LayerLemmas.{content_is_printed, fault_is_printed}
+use Rattle.clr_desk_layers.proofs.design_prints.accepted_office_print.Goals as goal
+
+pub returns-in-Ok : goal.returns-in-Ok
+returns-in-Ok c =
+    content_is_printed c.args.draft.now c.args.options c.args.layers.now IsPrintOfAccepted c.schema.result.now c.live.result.now
+    c.in_ok-content.field-0 c.schema.ensures.value c.live.ensures.value c.in_ok-content.ensures.content c.print_of_accepted.result
+    c.in-Ok.content c.in-Ok.is c.print_of_accepted.ensures
+
+pub returns-in-Err : goal.returns-in-Err
+returns-in-Err c =
+    fault_is_printed c.args.draft.now c.args.options c.args.layers.now IsPrintOfAccepted c.schema.result.now c.live.result.now
+    c.in_ok-content.field-0 c.schema.ensures.value c.live.ensures.value c.in_ok-content.ensures.content c.print_of_fault.result
+    c.in-Err.faulty c.in-Err.is c.print_of_fault.ensures

@@ -1,0 +1,9 @@
+pub mod BitLemmas
+pub mod Circles
+pub mod Following
+pub mod Helps
+pub mod MemberSets
+pub mod Positions
+pub mod Rests
+pub mod Tables
+pub mod Walks

@@ -1,0 +1,4 @@
+pub mod Laws
+pub mod OpenNeeds
+pub mod Orders
+pub mod Searching
