@@ -12,7 +12,8 @@
 //!   of members that can't be merged in every order, each with its cause, and the members in none
 //!   (`IsClashesPrint`); of `why` status 2 exactly where
 //!   the text has a fault, and then lines that begin with it and have the line, the column and the path of
-//!   the item that has it, and 1 exactly where an office can be read and a rule doesn't hold (`IsWhyPrint`);
+//!   the item that has it, 1 exactly where an office can be read and a need is broken in it that isn't known, and else how many old errors it has,
+//!   by rule (`IsWhyPrint`);
 //!   of `words` a work order that ends with the lines of the plan, with the plan's status
 //!   (`IsOrderPrint`); of `map` a page of vector graphics whose title begins with the word for what the plan says, which it shows, and whose
 //!   description ends with the lines of the plan, with the plan's status (`IsMapPrint`); of `report` a page of hypertext that

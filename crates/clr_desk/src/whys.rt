@@ -1,5 +1,5 @@
 //! Whether a text can be used, and where its fault is.
-ghost use Rattle.std.specs.Prelude.{◌≡◌, IfOk};
+ghost use Rattle.std.specs.Prelude.{◌≡◌, ◌++◌, codes, IfOk};
 ghost use Rattle.clr_desk_prints.specs.Printing.{IsMadePrintout, printed};
 ghost use Rattle.clr_desk.specs.Whys.{IsWhy, IsWhyPrint, why_print};
 
@@ -9,12 +9,22 @@ use clr_office::RunFault;
 use clr_text_diagnosis::{Why, why_certificate, why_office, why_script};
 use std::alloc::{AllocError, Global};
 
+/// Returns that there is no fault, and more lines.
+fn no_fault_and(alloc: Global, lines: &[u8]) -> Result<Vec<u8>, AllocError>
+    ensures { IfOk result (λ text. text.items ≡ codes "no fault\n" ++ lines.now) }
+{
+    let mut text = Vec::from_slice(alloc, b"no fault\n")?;
+    text.extend_from_slice(lines)?;
+    Ok(text)
+}
+
 /// Returns what is printed of what is found in a text.
 fn print_of_why(alloc: Global, why: Why) -> Result<Print, AllocError>
     ensures { IfOk result (λ p. printed p ≡ why_print why) }
 {
     let (text, ending) = match why {
         Why::NoFault => (Vec::from_slice(alloc, b"no fault\n")?, Ending::Done),
+        Why::OldErrors(lines) => (no_fault_and(alloc, lines.as_slice())?, Ending::Done),
         Why::Unheld(lines) => (lines, Ending::Refused),
         Why::Faulty(lines) => (lines, Ending::Unread),
     };

@@ -62,7 +62,8 @@ pub(crate) const WHY_PRINTS: &str =
     "It prints the fault of the office text, or of the script or certificate that is given, as `clr_office`
 names it; its line, column and path; the line of the text with a mark; and what is wrong there. Where
 both a script and a certificate are given, it looks at the script. The status is 0 where there is no
-fault, 1 where a rule of the office doesn't hold, and 2 where there is a fault.
+fault, 1 where a need is broken in the office that isn't known, and 2 where there is a fault. Of an
+office in which all that is broken is known, it says how many old errors there are of each rule.
 
 Example:
   clr_desk why office.json --script night.csv";

@@ -1,5 +1,5 @@
 -- Why a text can't be used.
-use Rattle.std.specs.Prelude.{◌≡◌, ◌⊎◌, ℕ, List, Some, None, Ok, Err, IsOk}
+use Rattle.std.specs.Prelude.{◌≡◌, ◌≢◌, ◌⊎◌, ℕ, List, [], Some, None, Ok, Err, IsOk}
 use Rattle.clr_rows.specs.declared.tables.TableDef.{TableDef}
 use Rattle.clr_rules.specs.declared.needs.Broken.{Broken}
 use Rattle.clr_cert.specs.Certificates.{certificate_in}
@@ -7,6 +7,7 @@ use Rattle.clr_cert.specs.declared.faults.CertFault.{CertFault}
 use Rattle.clr_scripts.specs.Scripts.{script_in_text}
 use Rattle.clr_scripts.specs.declared.faults.RecordFault.{RecordFault}
 use Rattle.clr_steps.specs.Offices.{Office}
+use Rattle.clr_engine.specs.BrokenNow.{AreBrokenNow}
 use Rattle.clr_engine.specs.Drafts.{unheld_in}
 use Rattle.clr_office_texts.specs.Drafts.{draft_in}
 use Rattle.clr_office_reading.specs.Offices.{known_in, office_in}
@@ -18,9 +19,9 @@ use Rattle.clr_explanations.specs.Remarks.{IsOfficeRemark}
 use Rattle.clr_explanations.specs.Standing.{IsStandingRemark}
 use Rattle.clr_record_explanations.specs.FaultWords.{certificate_fault_words, script_fault_words}
 use Rattle.clr_record_explanations.specs.RecordRemarks.{IsCertificateRemark, IsScriptRemark}
-use Rattle.clr_text_diagnosis.specs.Needs.{unheld_lines}
+use Rattle.clr_text_diagnosis.specs.Needs.{old_error_lines, unheld_lines}
 use Rattle.clr_text_diagnosis.specs.declared.whys.Why.{Why}
-use Rattle.clr_text_diagnosis.specs.declared.whys.Why.TheVariants.{NoFault, Unheld, Faulty}
+use Rattle.clr_text_diagnosis.specs.declared.whys.Why.TheVariants.{NoFault, OldErrors, Unheld, Faulty}
 
 -- faults -------------------------------------------------------------------------------------
 
@@ -65,15 +66,31 @@ pub record TellsUnheldRule (text lines : List ℕ) : Type 0 where
   pub unheld : unheld_in office (known_in text) ≡ Some (position, need)
   pub told : lines ≡ unheld_lines office position need
 
--- an office whose broken needs are known, one with a need that isn't, or no office
+-- just these needs are broken in the office of a text, and the text names each of them as known
+pub record KnowsBroken (text : List ℕ) (office : Office) (needs : List Broken) : Type 0 where
+  pub read : draft_in text ≡ Ok office
+  pub known : unheld_in office (known_in text) ≡ None
+  pub broken : AreBrokenNow office needs
+
+-- some needs are broken in the office of a text, and the text names each of them as known
+pub record TellsOldErrors (text lines : List ℕ) : Type 0 where
+  pub office : Office
+  pub needs : List Broken
+  pub known : KnowsBroken text office needs
+  pub some : needs ≢ []
+  pub told : lines ≡ old_error_lines office needs
+
+-- an office in which nothing is broken, one whose broken needs are all known, one with a need that isn't, or no office
 abbrev pub IsOfficeWhy : List ℕ → Why → Type 0
-IsOfficeWhy text NoFault = (o : Office) × (draft_in text ≡ Ok o) × (unheld_in o (known_in text) ≡ None)
+IsOfficeWhy text NoFault = (o : Office) × KnowsBroken text o []
+IsOfficeWhy text (OldErrors lines) = TellsOldErrors text lines.items
 IsOfficeWhy text (Unheld lines) = TellsUnheldRule text lines.items
 IsOfficeWhy text (Faulty lines) = AreOfficeLines text lines.items
 
 -- what is found in a text over an office: that it can be read; or the lines of its fault or of that of the office
 abbrev pub IsWhyOver : (List TableDef → Type 0) → (List TableDef → List ℕ → Type 0) → List ℕ → Why → Type 0
 IsWhyOver CanBeRead AreLines office NoFault = (o : Office) × (draft_in office ≡ Ok o) × CanBeRead o.schema
+IsWhyOver CanBeRead AreLines office (OldErrors lines) = ⊥
 IsWhyOver CanBeRead AreLines office (Unheld lines) = ⊥
 IsWhyOver CanBeRead AreLines office (Faulty lines) =
     AreOfficeLines office lines.items ⊎ ((o : Office) × (draft_in office ≡ Ok o) × AreLines o.schema lines.items)

@@ -1,10 +1,11 @@
 //! Why an office text can't be used.
-ghost use Rattle.std.specs.Prelude.{◌≡◌, IfErr, IfNone, IfOk, IfSome, IsOk, Ok};
+ghost use Rattle.std.specs.Prelude.{◌≡◌, IfErr, IfNone, IfOk, IfSome, IsOk, None, Ok};
+ghost use Rattle.clr_engine.specs.Drafts.{unheld_in};
 ghost use Rattle.clr_office_texts.specs.Drafts.{draft_in};
 ghost use Rattle.clr_office_reading.specs.Offices.{known_in, office_in};
 ghost use Rattle.clr_text_diagnosis.specs.Whys.{AreOfficeLines, IsOfficeWhy, IsRemarkedOfficeFault};
 
-use crate::needs::unheld_lines;
+use crate::needs::{old_error_lines, unheld_lines};
 use crate::whys::Why;
 use clr_engine::{Broken, Draft};
 use clr_explanations::{OfficeFault, explain_office, explain_standing, office_fault_words};
@@ -76,24 +77,38 @@ pub(crate) fn office_lines(
     Ok(lines)
 }
 
+/// Returns what is found in a draft whose text names each of its broken needs as known: that there are none, or how many they are.
+fn why_known(alloc: Global, draft: &Draft, text: &[u8]) -> Result<Why, AllocError>
+    requires read { draft_in text.now ≡ Ok draft.now }
+    requires known { unheld_in draft.now (known_in text.now) ≡ None }
+    ensures { IfOk result (IsOfficeWhy text.now) }
+{
+    let _text = text;
+    let needs = draft.broken_needs()?;
+    if needs.is_empty() {
+        return Ok(Why::NoFault);
+    }
+    let lines = old_error_lines(alloc, draft, needs.as_slice())?;
+    Ok(Why::OldErrors(lines))
+}
+
 /// Returns what is found in a draft whose text names some needs as known.
 fn why_draft(alloc: Global, draft: Draft, known: &[Broken], text: &[u8]) -> Result<Why, AllocError>
     requires read { draft_in text.now ≡ Ok draft }
     requires names { known.now ≡ known_in text.now }
     ensures { IfOk result (IsOfficeWhy text.now) }
 {
-    let _text = text;
     match draft.unheld(known)? {
         Some((position, need)) => {
             let lines = unheld_lines(alloc, &draft, position, &need)?;
             Ok(Why::Unheld(lines))
         }
-        None => Ok(Why::NoFault),
+        None => why_known(alloc, &draft, text),
     }
 }
 
-/// Returns what is found in an office text: that it is an office whose broken needs are known, the lines of a need that is broken
-/// and isn't known, or those of its fault.
+/// Returns what is found in an office text: that it is an office in which nothing is broken, the lines that count its broken needs
+/// where all are known, those of a need that is broken and isn't known, or those of its fault.
 pub fn why_office(alloc: Global, text: &[u8]) -> Result<Why, AllocError>
     ensures why { IfOk result (IsOfficeWhy text.now) }
 {

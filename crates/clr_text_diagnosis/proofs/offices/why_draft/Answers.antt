@@ -3,10 +3,10 @@ use Rattle.clr_rules.specs.declared.needs.Broken.{Broken}
 use Rattle.clr_engine.specs.Drafts.{unheld_in}
 use Rattle.clr_text_diagnosis.proofs.offices.why_draft.Goals as goal
 
-pub returns : goal.returns
-returns c =
+pub why_known-requires-clause-known : goal.why_known-requires-clause-known
+why_known-requires-clause-known c =
     let named = ap (λ (known : List Broken). unheld_in c.args.draft known) (sym c.requires.names) in
-    (c.args.draft, c.requires.read, named ∙ sym c.in_ok-position.ensures ∙ c.in-None.is)
+    named ∙ sym c.in_ok-position.ensures ∙ c.in-None.is
 
 pub returns-in-Some : goal.returns-in-Some
 returns-in-Some c =
