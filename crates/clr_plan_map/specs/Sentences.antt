@@ -13,7 +13,7 @@ use Rattle.clr_clearance.specs.declared.verdicts.Verdict.TheVariants as verdict
 use Rattle.clr_merge_sets.specs.declared.plans.Plan.{Plan}
 use Rattle.clr_merge_sets.specs.declared.plans.Plan.TheVariants as plan
 use Rattle.clr_phrases.specs.Rules.{rule_sentence}
-use Rattle.clr_plan_sentences.specs.Answers.{order_text, unfit_text}
+use Rattle.clr_plan_answers.specs.Answers.{order_text, unfit_text}
 use Rattle.clr_plan_sentences.specs.Causes.{reason_text}
 use Rattle.clr_plan_sentences.specs.OldErrors.{old_text}
 use Rattle.clr_serving_rows.specs.NeedPlaces.{rule_in}

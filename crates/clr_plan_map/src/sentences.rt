@@ -3,7 +3,7 @@
 ghost use Rattle.std.specs.Prelude.{◌≡◌, ◌++◌, length, string_bytes, IfOk, OnOk};
 ghost use Rattle.clr_merge_sets.specs.MemberChanges.{set_of};
 ghost use Rattle.clr_serving_rows.specs.NeedPlaces.{rule_in};
-ghost use Rattle.clr_plan_sentences.specs.Answers.{answer_text};
+ghost use Rattle.clr_plan_answers.specs.Answers.{answer_text};
 ghost use Rattle.clr_plan_sentences.specs.Causes.{reason_text};
 ghost use Rattle.clr_plan_map.specs.Sentences.{alone_text, behind_line, cause_sentence, cleared_sentence, end_before, in_order_text};
 ghost use Rattle.clr_plan_map.specs.Sentences.{looked_text, mergeable_text, need_sentence, one_line, order_sentence, plan_sentence};
@@ -14,7 +14,8 @@ use clr_member_changes::MemberChanges;
 use clr_needs::Need;
 use clr_phrases::rule_sentence;
 use clr_plan::Plan;
-use clr_plan_sentences::{Setting, add_order_text, answer_words};
+use clr_plan_answers::{add_order_text, answer_words};
+use clr_plan_sentences::Setting;
 use clr_rows::Schema;
 use clr_rules::Rule;
 use clr_serving_rows::rule_of;
@@ -217,7 +218,7 @@ fn cleared_sentence(setting: Setting<'_>, needs: usize) -> Result<String, AllocE
 fn unfit_sentence(setting: Setting<'_>, plan: &Plan) -> Result<String, AllocError>
     ensures { IfOk result (λ text. string_bytes text ≡ one_line (answer_text (set_of setting.entry.members.now) plan.now)) }
 {
-    let words = answer_words(setting, plan)?;
+    let words = answer_words(setting.alloc, setting.members, plan)?;
     one_line(setting.alloc, words.as_str())
 }
 

@@ -13,7 +13,7 @@ use Rattle.clr_clearance.specs.MergeSets.{change_sets}
 use Rattle.clr_merge_clashes.specs.MergeClashes.{IsFaultOfNames}
 use Rattle.clr_merge_sets.specs.declared.plans.Plan.{Plan}
 use Rattle.clr_merge_sets.specs.declared.plans.Plan.TheVariants as plan
-use Rattle.clr_plan_sentences.specs.Answers.{answer_text}
+use Rattle.clr_plan_answers.specs.Answers.{answer_text}
 use Rattle.clr_plan_sentences.specs.Causes.{IsCause}
 use Rattle.clr_plan_sentences.specs.declared.told_rows.CauseWords.{CauseWords}
 use Rattle.clr_work_orders.specs.declared.trials.Trial.{Trial}

@@ -6,7 +6,7 @@ use Rattle.clr_steps.specs.Quiet.{MergeSet}
 use Rattle.clr_clearance.specs.MergeSets.{change_sets}
 use Rattle.clr_merge_sets.specs.declared.plans.Plan.{Plan}
 use Rattle.clr_merge_sets.specs.declared.plans.Plan.TheVariants as plan
-use Rattle.clr_plan_sentences.specs.Answers.{answer_text}
+use Rattle.clr_plan_answers.specs.Answers.{answer_text}
 use Rattle.clr_work_orders.specs.declared.trials.Trial.{Trial}
 use Rattle.clr_plan_page.specs.Causes.{AreBlocked}
 use Rattle.clr_plan_page.specs.Needs.{needs_shown}

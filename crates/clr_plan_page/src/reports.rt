@@ -23,9 +23,10 @@ use clr_engine::Office;
 use clr_html::{HtmlPage, Section, write_page};
 use clr_member_changes::MemberChanges;
 use clr_plan::Plan;
+use clr_plan_answers::answer_words;
 use clr_plan_causes::leaders_of;
 use clr_plan_map::{plan_map, plan_title};
-use clr_plan_sentences::{Setting, answer_words};
+use clr_plan_sentences::Setting;
 use clr_rows::Schema;
 use clr_work_orders::{Trial, try_remedies};
 use std::alloc::{AllocError, Global};
@@ -75,7 +76,7 @@ fn why_of(setting: Setting<'_>, plan: &Plan, trials: &[Trial]) -> Result<Section
 {
     let mut section = Builder::new(setting.alloc);
     section.add_heading("Why")?;
-    let answer = answer_words(setting, plan)?;
+    let answer = answer_words(setting.alloc, setting.members, plan)?;
     section.add_paragraph(answer.as_str())?;
     add_reasons(&mut section, setting, plan, trials)?;
     Ok(section.into_section())

@@ -1,4 +1,3 @@
-pub mod Answers
 pub mod Causes
 pub mod Changers
 pub mod Labels

@@ -16,7 +16,7 @@ use Rattle.clr_member_changes.specs.declared.counts.Counts.{Counts}
 use Rattle.clr_plan_sentences.specs.declared.served_needs.NeedWords.{NeedWords}
 use Rattle.clr_plan_sentences.specs.declared.told_rows.CauseWords.{CauseWords}
 use Rattle.clr_plan_sentences.specs.declared.told_rows.RowWords.{RowWords}
-use Rattle.clr_plan_sentences.specs.Answers.{answer_text}
+use Rattle.clr_plan_answers.specs.Answers.{answer_text}
 use Rattle.clr_plan_sentences.specs.Causes.{IsCause}
 use Rattle.clr_member_changes.specs.Counts.{counts_of}
 use Rattle.clr_plan_sentences.specs.ServedNeeds.{told_need}

@@ -4,8 +4,6 @@
 //! Each text is exactly the one that a definition prescribes, memory aside:
 //!
 //! - `plan_sentences`: all sentences of what `plan` answers, each a line.
-//! - `answer_words`: whether members can be merged, and in which order a merge is refused; or which name has to be mended. `add_order_text`: members in
-//!   an order.
 //! - `Setting::cause_words`: the cause of a no; each row that it tells is the version that the cause names, and stands where that stands.
 //! - `Setting::old_words`: that a need is an old error, broken in the root too, with who changes which row of it. `Setting::old_errors`: the needs that
 //!   the root breaks.
@@ -15,7 +13,6 @@
 //! - `Setting` tells what an office and members are about.
 #![tactic(auto)]
 
-mod answers;
 mod cause_sentences;
 mod labels;
 mod need_causes;
@@ -25,9 +22,7 @@ mod served_needs;
 mod server_words;
 mod settings;
 mod told_rows;
-mod unfit;
 
-pub use answers::{add_order_text, answer_words};
 pub use labels::add_label;
 pub use sentences::{MOST_NEEDS, plan_sentences};
 pub use served_needs::NeedWords;

@@ -8,7 +8,6 @@ ghost use Rattle.clr_plan_sentences.specs.Sentences.{member_line, members_text, 
 ghost use Rattle.clr_plan_sentences.specs.Sentences.{row_lines, some_needs_text, told_details, verdict_text};
 ghost use Rattle.clr_merge_sets.specs.MemberChanges.{AreMembers, set_of};
 
-use crate::answers::answer_words;
 use crate::served_needs::NeedWords;
 use crate::settings::Setting;
 use crate::told_rows::{CauseWords, RowWords};
@@ -250,7 +249,7 @@ pub fn plan_sentences(setting: Setting<'_>, plan: &Plan) -> Result<String, Alloc
     ensures { IfOk result (λ text. AreMembers setting.entry.office.now (set_of setting.entry.members.now) setting.entry.members.now
         → IsSentences setting.entry.office.now (set_of setting.entry.members.now) plan.now (string_bytes text)) }
 {
-    let answer = answer_words(setting, plan)?;
+    let answer = answer_words(setting.alloc, setting.members, plan)?;
     let details = setting.details(plan)?;
     let mut text = String::from_str(setting.alloc, verdict_words(plan))?;
     text.push_str(answer.as_str())?;

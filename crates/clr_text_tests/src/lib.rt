@@ -1,5 +1,5 @@
-//! Tests of the texts that are read: edits, scripts, office texts, layers and command lines, and of where their faults are, by public
-//! calls.
+//! Tests of texts of records and of words that are read: edits, scripts, layers and command lines, of where the faults of records are, and of
+//! lines of replies, by public calls.
 #![tactic(auto)]
 
 #[cfg(test)]
@@ -8,10 +8,6 @@ mod command_lines;
 mod layers;
 #[cfg(test)]
 mod networks;
-#[cfg(test)]
-mod office_faults;
-#[cfg(test)]
-mod office_texts;
 #[cfg(test)]
 mod questions;
 #[cfg(test)]

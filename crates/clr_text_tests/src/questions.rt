@@ -1,17 +1,15 @@
 //! Cases as lines: a question, which begins with a word, ` => `, and the answer.
 
-use crate::{layers, office_faults, office_texts, record_faults, scripts};
+use crate::{layers, record_faults, scripts};
 use std::alloc::Global;
 use std::process::Abort;
 
 /// Returns what is answered to a word and what stands behind it.
 fn answer(alloc: Global, word: &'static str, rest: &'static str) -> Option<String> {
     match word {
-        "edits" | "script" | "route" => scripts::answer(alloc, word, rest),
         "scriptfault" | "certificatefault" => record_faults::answer(alloc, word, rest),
         "layer" | "rounded" => layers::answer(alloc, word == "rounded", rest),
-        "edited" => office_faults::spots::answer(alloc, rest),
-        _ => office_texts::answer(alloc, word, rest),
+        _ => scripts::answer(alloc, word, rest),
     }
 }
 

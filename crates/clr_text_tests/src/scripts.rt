@@ -5,7 +5,8 @@ use crate::questions::{check, is_answer};
 use crate::script_cases::{
     COMMANDS, COUNTS, EDIT_FAULTS, EDITS, REPORTS, SCRIPT_FAULTS, SCRIPTS, TURNS,
 };
-use crate::texts::{coordinates, edits_text, steps_text, unfold};
+use crate::texts::{edits_text, steps_text, unfold};
+use clr_row_test_kit::coordinates;
 use clr_rows::{Names, Words};
 use clr_scripts::{RecordFault, read_edits, read_script};
 use std::alloc::Global;

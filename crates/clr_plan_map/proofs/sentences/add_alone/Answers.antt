@@ -1,7 +1,7 @@
 use Rattle.std.proofs.Common.{codes, string_bytes}
 use Rattle.clr_merge_sets.specs.MemberChanges.{set_of}
-use Rattle.clr_plan_sentences.specs.Answers.{order_text}
-use Rattle.clr_plan_sentences.proofs.PieceLemmas.{three_behind}
+use Rattle.clr_plan_answers.specs.Answers.{order_text}
+use Rattle.clr_plan_answers.proofs.PieceLemmas.{three_behind}
 use Rattle.clr_plan_map.proofs.sentences.add_alone.Goals as goal
 
 pub returns : goal.returns

@@ -1,6 +1,6 @@
 use Rattle.std.proofs.Common.{codes, string_bytes}
 use Rattle.std.specs.Fmt.{decimal}
-use Rattle.clr_plan_sentences.proofs.PieceLemmas.{three_behind}
+use Rattle.clr_plan_answers.proofs.PieceLemmas.{three_behind}
 use Rattle.clr_plan_sentences.proofs.cause_sentences.add_counted.Goals as goal
 
 pub returns : goal.returns

@@ -1,7 +1,7 @@
 use Rattle.std.proofs.Common.{◌∙◌, ◌++◌, ℕ, List, ap, string_bytes, subst}
 use Rattle.clr_rows.specs.Contents.{Changes}
 use Rattle.clr_merge_sets.specs.MemberChanges.{set_of}
-use Rattle.clr_plan_sentences.specs.Answers.{answer_text}
+use Rattle.clr_plan_answers.specs.Answers.{answer_text}
 use Rattle.clr_plan_sentences.specs.Sentences.{AreDetails, verdict_text}
 use Rattle.clr_plan_sentences.proofs.sentences.plan_sentences.Goals as goal
 

@@ -2,7 +2,7 @@ use Rattle.std.proofs.Common.{codes, string_bytes}
 use Rattle.clr_merge_sets.specs.MemberChanges.{set_of}
 use Rattle.clr_plan_sentences.specs.Changers.{changer_name}
 use Rattle.clr_plan_sentences.specs.Labels.{cell_label}
-use Rattle.clr_plan_sentences.proofs.PieceLemmas.{four_behind}
+use Rattle.clr_plan_answers.proofs.PieceLemmas.{four_behind}
 use Rattle.clr_plan_sentences.proofs.served_needs.add_later.Goals as goal
 
 pub returns-in_ok-add_label-in-Some : goal.returns-in_ok-add_label-in-Some

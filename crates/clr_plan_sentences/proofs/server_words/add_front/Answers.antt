@@ -1,6 +1,6 @@
 use Rattle.std.proofs.Common.{codes, string_bytes}
 use Rattle.clr_plan_sentences.specs.NeedCauses.{rows_word}
-use Rattle.clr_plan_sentences.proofs.PieceLemmas.{three_behind}
+use Rattle.clr_plan_answers.proofs.PieceLemmas.{three_behind}
 use Rattle.clr_plan_sentences.proofs.server_words.add_front.Goals as goal
 
 pub returns-in_ok-push_str-3 : goal.returns-in_ok-push_str-3

@@ -1,6 +1,6 @@
 use Rattle.std.proofs.Common.{codes, string_bytes}
 use Rattle.clr_phrases.specs.Rules.{side_text}
-use Rattle.clr_plan_sentences.proofs.PieceLemmas.{five_behind}
+use Rattle.clr_plan_answers.proofs.PieceLemmas.{five_behind}
 use Rattle.clr_plan_sentences.proofs.server_words.add_no_server.Goals as goal
 
 pub returns-in-Whole : goal.returns-in-Whole

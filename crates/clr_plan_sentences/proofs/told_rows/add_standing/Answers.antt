@@ -1,7 +1,7 @@
 use Rattle.std.proofs.Common.{codes, string_bytes}
 use Rattle.clr_merge_sets.specs.MemberChanges.{set_of}
 use Rattle.clr_member_changes.specs.Names.{member_name}
-use Rattle.clr_plan_sentences.proofs.PieceLemmas.{five_behind}
+use Rattle.clr_plan_answers.proofs.PieceLemmas.{five_behind}
 use Rattle.clr_plan_sentences.proofs.told_rows.add_standing.Goals as goal
 
 pub returns-in_ok-push_str-in-TakenOver-5 : goal.returns-in_ok-push_str-in-TakenOver-5

@@ -1,6 +1,6 @@
 use Rattle.std.proofs.Common.{codes, string_bytes}
 use Rattle.clr_phrases.specs.Rules.{fields_text}
-use Rattle.clr_plan_sentences.proofs.PieceLemmas.{three_behind}
+use Rattle.clr_plan_answers.proofs.PieceLemmas.{three_behind}
 use Rattle.clr_plan_sentences.proofs.settings.Setting.add_common.Goals as goal
 
 pub returns : goal.returns

@@ -2,8 +2,8 @@
 
 use crate::office_texts::cases::{CELLS, FLAGS, PATHS, RULES, TEXTS, WORKSPACES};
 use crate::questions::check;
-use crate::texts::coordinates;
 use clr_office_reading::{TextFault, read_office};
+use clr_row_test_kit::coordinates;
 use std::alloc::Global;
 
 /// An office text up to the first cell of LIVE: one table, of nodes with a kind and a size.

@@ -1,16 +1,15 @@
 //! What a plan answers, in sentences.
 
 ghost use Rattle.std.specs.Prelude.{◌≡◌, ◌++◌, IfOk, OnOk, string_bytes};
-ghost use Rattle.clr_plan_sentences.specs.Answers.{answer_text, blocked_text, cleared_text, lasting_text};
-ghost use Rattle.clr_plan_sentences.specs.Answers.{mergeable_text, order_sentence, order_text, refused_text};
+ghost use Rattle.clr_plan_answers.specs.Answers.{answer_text, blocked_text, cleared_text, lasting_text};
+ghost use Rattle.clr_plan_answers.specs.Answers.{mergeable_text, order_sentence, order_text, refused_text};
 ghost use Rattle.clr_merge_sets.specs.MemberChanges.{set_of};
 
-use crate::settings::Setting;
 use crate::unfit::add_unfit;
 use clr_member_changes::MemberChanges;
 use clr_merge_sets::Plan;
 use clr_phrases::add_names;
-use std::alloc::AllocError;
+use std::alloc::{AllocError, Global};
 
 /// Adds members one after another, by their positions, as `Renewal, then Extension`. Of a position that no member has, it adds an empty name.
 pub fn add_order_text(
@@ -104,14 +103,18 @@ fn add_cleared(text: &mut String, members: &MemberChanges<'_>) -> Result<(), All
 
 /// Returns what a plan answers, in sentences, each a line: whether the members can be merged, and in which order a merge is
 /// refused; or which name has to be mended first. Nothing is told of a plan that found no memory.
-pub fn answer_words(setting: Setting<'_>, plan: &Plan) -> Result<String, AllocError>
-    ensures { IfOk result (λ text. string_bytes text ≡ answer_text (set_of setting.entry.members.now) plan.now) }
+pub fn answer_words(
+    alloc: Global,
+    members: &MemberChanges<'_>,
+    plan: &Plan,
+) -> Result<String, AllocError>
+    ensures { IfOk result (λ text. string_bytes text ≡ answer_text (set_of members.now) plan.now) }
 {
-    let mut text = String::new(setting.alloc);
+    let mut text = String::new(alloc);
     match plan {
-        Plan::Cleared(_) => add_cleared(&mut text, setting.members)?,
-        Plan::Blocked { order, .. } => add_blocked(&mut text, setting.members, order.as_slice())?,
-        Plan::Unfit(verdict) => add_unfit(&mut text, setting.members, verdict)?,
+        Plan::Cleared(_) => add_cleared(&mut text, members)?,
+        Plan::Blocked { order, .. } => add_blocked(&mut text, members, order.as_slice())?,
+        Plan::Unfit(verdict) => add_unfit(&mut text, members, verdict)?,
         Plan::OutOfMemory => {}
     }
     Ok(text)

@@ -2,8 +2,8 @@
 
 use crate::office_texts::answers::with_path;
 use crate::questions::check;
-use crate::texts::sheet_text;
 use clr_office_reading::read_office;
+use clr_row_test_kit::sheet_text;
 use std::alloc::Global;
 
 /// Nodes, mains and hydrants, with a node and two mains that cross there.

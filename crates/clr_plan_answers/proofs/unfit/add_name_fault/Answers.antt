@@ -1,8 +1,8 @@
 use Rattle.std.proofs.Common.{codes, string_bytes}
 use Rattle.clr_merge_sets.specs.MemberChanges.{set_of}
 use Rattle.clr_member_changes.specs.Names.{member_name}
-use Rattle.clr_plan_sentences.proofs.PieceLemmas.{four_behind, three_behind}
-use Rattle.clr_plan_sentences.proofs.unfit.add_name_fault.Goals as goal
+use Rattle.clr_plan_answers.proofs.PieceLemmas.{four_behind, three_behind}
+use Rattle.clr_plan_answers.proofs.unfit.add_name_fault.Goals as goal
 
 pub returns-in_ok-push_str-in-NoWorkspace-3 : goal.returns-in_ok-push_str-in-NoWorkspace-3
 returns-in_ok-push_str-in-NoWorkspace-3 c =

@@ -1,8 +1,8 @@
 use Rattle.std.proofs.Common.{codes, string_bytes}
 use Rattle.clr_merge_sets.specs.MemberChanges.{set_of}
 use Rattle.clr_phrases.specs.Lists.{names_text}
-use Rattle.clr_plan_sentences.proofs.PieceLemmas.{four_behind}
-use Rattle.clr_plan_sentences.proofs.answers.add_mergeable.Goals as goal
+use Rattle.clr_plan_answers.proofs.PieceLemmas.{four_behind}
+use Rattle.clr_plan_answers.proofs.answers.add_mergeable.Goals as goal
 
 pub returns : goal.returns
 returns c =

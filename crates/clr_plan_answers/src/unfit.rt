@@ -1,7 +1,7 @@
 //! Names that can't be looked at, in words.
 
 ghost use Rattle.std.specs.Prelude.{◌≡◌, ◌++◌, OnOk, string_bytes};
-ghost use Rattle.clr_plan_sentences.specs.Answers.{name_fault_text, unfit_text};
+ghost use Rattle.clr_plan_answers.specs.Answers.{name_fault_text, unfit_text};
 ghost use Rattle.clr_merge_sets.specs.MemberChanges.{set_of};
 
 use clr_clearance::Verdict;

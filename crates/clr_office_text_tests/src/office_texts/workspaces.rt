@@ -1,9 +1,9 @@
 //! Workspaces of office texts.
 
 use crate::questions::check;
-use crate::texts::{add_part, change_text};
 use clr_deltas::{Differences, StoredMark};
 use clr_office_reading::{StoredPart, read_office};
+use clr_row_test_kit::{add_part, change_text};
 use clr_rows::{CellId, Row};
 use std::alloc::Global;
 

@@ -1,9 +1,9 @@
 use Rattle.std.proofs.Common.{codes, string_bytes}
 use Rattle.clr_merge_sets.specs.MemberChanges.{set_of}
 use Rattle.clr_phrases.specs.Lists.{names_text}
-use Rattle.clr_plan_sentences.specs.Answers.{order_sentence}
-use Rattle.clr_plan_sentences.proofs.PieceLemmas.{five_behind}
-use Rattle.clr_plan_sentences.proofs.answers.add_blocked.Goals as goal
+use Rattle.clr_plan_answers.specs.Answers.{order_sentence}
+use Rattle.clr_plan_answers.proofs.PieceLemmas.{five_behind}
+use Rattle.clr_plan_answers.proofs.answers.add_blocked.Goals as goal
 
 pub returns : goal.returns
 returns c =
