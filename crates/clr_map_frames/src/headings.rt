@@ -170,7 +170,8 @@ fn say(
 ) -> Result<(), AllocError>
     ensures { OnOk result (said sketch.new.elements.items ≡ said sketch.old.elements.items ++ words.now ∷ []) }
 {
-    sketch.add_words(words, at, size, colour, Anchor::Start, Weight::Plain)
+    sketch.add_words(words, at, size, colour, Anchor::Start, Weight::Plain)?;
+    Ok(())
 }
 
 /// Writes a line of the sentence, this far from the top.
@@ -190,7 +191,8 @@ fn add_two_lines(sketch: &mut Sketch, sentence: &str, room: Pixels) -> Result<()
     let rest = add_words_that_fit(&mut first, sentence, room)?;
     let second = text_that_fits(alloc, rest, SENTENCE_SIZE, room)?;
     say_line(sketch, first.as_str(), FIRST_LINE)?;
-    say_line(sketch, second.as_str(), SECOND_LINE)
+    say_line(sketch, second.as_str(), SECOND_LINE)?;
+    Ok(())
 }
 
 /// Writes a sentence on one line where there is room for it, and else on two.
@@ -198,7 +200,8 @@ fn add_sentence(sketch: &mut Sketch, sentence: &str, room: Pixels) -> Result<(),
     ensures { OnOk result (SaysSentence sentence.now sketch.old.elements.items sketch.new.elements.items) }
 {
     if words_width(sentence, SENTENCE_SIZE) <= room {
-        say_line(sketch, sentence, ONLY_LINE)
+        say_line(sketch, sentence, ONLY_LINE)?;
+        Ok(())
     } else {
         add_two_lines(sketch, sentence, room)
     }
@@ -215,7 +218,8 @@ fn add_names(sketch: &mut Sketch, word: &str, names: &str, right: Pixels) -> Res
     };
     let size = Pixels::whole(17);
     let names = text_that_fits(sketch.allocator(), names, size, right - start)?;
-    say(sketch, names.as_str(), at, size, SOFT)
+    say(sketch, names.as_str(), at, size, SOFT)?;
+    Ok(())
 }
 
 /// Writes the names of the designs, as far as there is room for them, and below them the sentence, on one line or on two.
@@ -229,5 +233,6 @@ pub fn add_heading(
 {
     let right = PAGE_WIDTH - Pixels::whole(28);
     add_names(sketch, word, names, right)?;
-    add_sentence(sketch, sentence, right - LEFT)
+    add_sentence(sketch, sentence, right - LEFT)?;
+    Ok(())
 }

@@ -85,7 +85,8 @@ fn add_rows(sketch: &mut Sketch, scene: &MapScene<'_>, view: &Viewport) -> Resul
         add_shape(&mut steps, view, &row.shape)?;
     }
     let steps = coarse_steps(alloc, steps.as_slice())?;
-    sketch.add_path(steps, Ink::of_line(PLAIN, Pixels::of_tenths(6)))
+    sketch.add_path(steps, Ink::of_line(PLAIN, Pixels::of_tenths(6)))?;
+    Ok(())
 }
 
 fn lesser_length(a: Pixels, b: Pixels) -> Pixels
@@ -122,7 +123,8 @@ fn add_part(
 ) -> Result<(), AllocError>
     ensures { OnOk result (DrawsWithin view.now.frame sketch.old.elements.items sketch.new.elements.items) }
 {
-    sketch.add_area(part_within(view.frame, area), radius, ink)
+    sketch.add_area(part_within(view.frame, area), radius, ink)?;
+    Ok(())
 }
 
 /// Returns an area that is at least this wide and high.
@@ -210,7 +212,8 @@ fn add_caption(sketch: &mut Sketch, view: &Viewport) -> Result<(), AllocError>
         SOFT,
         Anchor::Start,
         Weight::Plain,
-    )
+    )?;
+    Ok(())
 }
 
 /// Draws the small plan in its box.
@@ -222,7 +225,8 @@ fn add_plan(sketch: &mut Sketch, scene: &MapScene<'_>, view: &Viewport) -> Resul
     add_rows(sketch, scene, view)?;
     add_designs(sketch, scene, view)?;
     add_window(sketch, scene, view)?;
-    add_caption(sketch, view)
+    add_caption(sketch, view)?;
+    Ok(())
 }
 
 /// Draws a small plan of everything below this height, where it helps and there is room. Each of its frames is within its box.
@@ -235,5 +239,6 @@ pub fn add_inset(sketch: &mut Sketch, scene: &MapScene<'_>, down: Pixels) -> Res
     let Some(area) = area_below(scene, down) else {
         return Ok(());
     };
-    add_plan(sketch, scene, &view_in(scene, area))
+    add_plan(sketch, scene, &view_in(scene, area))?;
+    Ok(())
 }
