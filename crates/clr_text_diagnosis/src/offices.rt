@@ -1,5 +1,6 @@
 //! Why an office text can't be used.
 ghost use Rattle.std.specs.Prelude.{◌≡◌, IfErr, IfNone, IfOk, IfSome, IsOk, None, Ok};
+ghost use Rattle.clr_engine.specs.BrokenNow.{AreBrokenNow};
 ghost use Rattle.clr_engine.specs.Drafts.{unheld_in};
 ghost use Rattle.clr_office_texts.specs.Drafts.{draft_in};
 ghost use Rattle.clr_office_reading.specs.Offices.{known_in, office_in};
@@ -77,14 +78,27 @@ pub(crate) fn office_lines(
     Ok(lines)
 }
 
+/// Returns the needs that are broken in a draft in which each of these is known. Where none is known, none is broken, so none is looked for.
+fn old_errors(alloc: Global, draft: &Draft, known: &[Broken]) -> Result<Vec<Broken>, AllocError>
+    requires { unheld_in draft.now known.now ≡ None }
+    ensures { IfOk result (λ needs. AreBrokenNow draft.now needs.items) }
+{
+    if known.is_empty() {
+        return Ok(Vec::new(alloc));
+    }
+    let needs = draft.broken_needs()?;
+    Ok(needs)
+}
+
 /// Returns what is found in a draft whose text names each of its broken needs as known: that there are none, or how many they are.
-fn why_known(alloc: Global, draft: &Draft, text: &[u8]) -> Result<Why, AllocError>
+fn why_known(alloc: Global, draft: &Draft, known: &[Broken], text: &[u8]) -> Result<Why, AllocError>
     requires read { draft_in text.now ≡ Ok draft.now }
-    requires known { unheld_in draft.now (known_in text.now) ≡ None }
+    requires names { known.now ≡ known_in text.now }
+    requires known { unheld_in draft.now known.now ≡ None }
     ensures { IfOk result (IsOfficeWhy text.now) }
 {
     let _text = text;
-    let needs = draft.broken_needs()?;
+    let needs = old_errors(alloc, draft, known)?;
     if needs.is_empty() {
         return Ok(Why::NoFault);
     }
@@ -103,7 +117,7 @@ fn why_draft(alloc: Global, draft: Draft, known: &[Broken], text: &[u8]) -> Resu
             let lines = unheld_lines(alloc, &draft, position, &need)?;
             Ok(Why::Unheld(lines))
         }
-        None => why_known(alloc, &draft, text),
+        None => why_known(alloc, &draft, known, text),
     }
 }
 

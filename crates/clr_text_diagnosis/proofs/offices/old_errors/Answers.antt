@@ -1,0 +1,6 @@
+use Rattle.std.proofs.Common.{◌∙◌, sym}
+use Rattle.clr_text_diagnosis.proofs.FoundLemmas.{none_known}
+use Rattle.clr_text_diagnosis.proofs.offices.old_errors.Goals as goal
+
+pub returns-then-is_empty : goal.returns-then-is_empty
+returns-then-is_empty c = none_known c.args.draft.now c.args.known.now (sym c.is_empty.ensures ∙ c.if-is_empty.true) c.requires
