@@ -10,7 +10,7 @@ out=$top/bin/out
 
 # The programs by the names of their launchers, and the crate of each.
 programs=(clr_office clr_desk)
-declare -A crate_of=([clr_office]=clr_office_program [clr_desk]=clr_desk_program)
+declare -A crate_of=([clr_office]=clr_office_program [clr_desk]=clr_desk)
 
 declare -A uses=()
 while IFS= read -r line; do

@@ -6,7 +6,7 @@ use Rattle.clr_member_changes.specs.declared.member_changes.MemberChanges.{Membe
 use Rattle.clr_merge_sets.specs.MemberChanges.{AreMembers, set_of}
 use Rattle.clr_merge_sets.specs.MergeSetNames.{merge_set}
 use Rattle.clr_merge_sets.specs.declared.plans.Plan.{Plan}
-use Rattle.clr_plan_map.specs.Maps.{IsMap, IsMapOfChanges}
+use Rattle.clr_plan_page.specs.Maps.{IsMap, IsMapOfChanges}
 use Rattle.clr_merge_sets.proofs.ReadLemmas.{of_value}
 
 -- the map of the changes that were read is that of the members

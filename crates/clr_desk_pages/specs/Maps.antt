@@ -4,7 +4,7 @@ use Rattle.clr_workspaces.specs.Marks.{Name}
 use Rattle.clr_steps.specs.Offices.{Office}
 use Rattle.clr_steps.specs.Quiet.{MergeSet}
 use Rattle.clr_merge_sets.specs.declared.plans.Plan.{Plan}
-use Rattle.clr_plan_map.specs.Maps.{IsMap}
+use Rattle.clr_plan_page.specs.Maps.{IsMap}
 use Rattle.clr_desk_prints.specs.Members.{set_asked}
 use Rattle.clr_desk_prints.specs.Printing.{IsFoundPlan, PrintoutOrFault, plan_text_print}
 

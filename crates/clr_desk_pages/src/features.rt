@@ -8,10 +8,9 @@ ghost use Rattle.clr_desk_pages.specs.Features.{AreFeaturesOfSet, AreHintedFeatu
 ghost use Rattle.clr_desk_prints.specs.Printing.{IsMadePrintout, IsPrintoutIn, printed};
 
 use crate::plans::{found_plan, print_of_plan_text};
-use clr_desk_prints::{Print, answer_over_members, print_of_no_system, system_of};
+use clr_desk_prints::{Print, RunFault, Words, answer_over_members, print_of_no_system, system_of};
 use clr_engine::Office;
 use clr_merge_sets::read_member_changes;
-use clr_office::{RunFault, Words};
 use clr_plan_features::plan_features;
 use std::alloc::{AllocError, Global};
 

@@ -7,11 +7,10 @@ ghost use Rattle.clr_desk_prints.specs.NameHints.{IsHinted};
 ghost use Rattle.clr_desk_prints.specs.Printing.{IsMadePrintout, IsPrintoutIn, printed};
 
 use crate::plans::{found_plan, print_of_plan_text};
-use clr_desk_prints::{Print, answer_over_members};
+use clr_desk_prints::{Print, RunFault, Words, answer_over_members};
 use clr_engine::Office;
 use clr_merge_sets::read_member_changes;
-use clr_office::{RunFault, Words};
-use clr_plan_map::plan_map;
+use clr_plan_page::plan_map;
 use std::alloc::{AllocError, Global};
 
 /// Returns what is printed of the map of the plan of members.

@@ -1,14 +1,13 @@
 //! Plans of members that found memory, and prints of texts that are made of them.
 ghost use Rattle.std.specs.Prelude.{◌≡◌, IfOk};
 ghost use Rattle.clr_merge_sets.specs.MemberChanges.{AreMembers, set_of};
-ghost use Rattle.clr_office.specs.Outcomes.{IsPlanned};
+ghost use Rattle.clr_desk_prints.specs.Outcomes.{IsPlanned};
 ghost use Rattle.clr_desk_prints.specs.Printing.{IsFoundPlan, plan_text_print, printed};
 
 use clr_desk_prints::Print;
 use clr_engine::Office;
 use clr_member_changes::MemberChanges;
-use clr_office::Plan;
-use clr_plan::plan_changes;
+use clr_plan::{Plan, plan_changes};
 use std::alloc::{AllocError, Global};
 
 /// Returns the plan of members whose changes were read, with what it promises.

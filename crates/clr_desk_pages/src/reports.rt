@@ -7,10 +7,9 @@ ghost use Rattle.clr_desk_prints.specs.NameHints.{IsHinted};
 ghost use Rattle.clr_desk_prints.specs.Printing.{IsMadePrintout, IsPrintoutIn, printed};
 
 use crate::plans::{found_plan, print_of_plan_text};
-use clr_desk_prints::{Print, answer_over_members};
+use clr_desk_prints::{Print, RunFault, Words, answer_over_members};
 use clr_engine::Office;
 use clr_merge_sets::read_member_changes;
-use clr_office::{RunFault, Words};
 use clr_plan_page::plan_report;
 use std::alloc::{AllocError, Global};
 

@@ -1,3 +1,4 @@
+pub use Rattle.clr_office.specs.Outcomes
 pub mod Calls
 pub mod Members
 pub mod NameHints

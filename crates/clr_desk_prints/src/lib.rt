@@ -18,7 +18,7 @@ mod prints;
 mod systems;
 
 pub use children::members_asked;
-pub use clr_office::{RunFault, hint_lines};
+pub use clr_office::{RunFault, Words, hint_lines};
 pub use openings::{answer_over_members, answer_over_office};
 pub use plans::plan_members;
 pub use prints::{Ending, Print, notes_of};

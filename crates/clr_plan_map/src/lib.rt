@@ -19,5 +19,6 @@ mod sentences;
 mod titles;
 mod witness_labels;
 
+pub use clr_plan_causes::leaders_of;
 pub use maps::plan_map;
 pub use titles::{plan_title, plan_word};

@@ -1,3 +1,4 @@
+pub use Rattle.clr_plan_map.specs.Maps
 pub mod Causes
 pub mod Clashes
 pub mod Designs

@@ -21,5 +21,6 @@ mod remedies;
 mod reports;
 mod sections;
 
+pub use clr_plan_map::plan_map;
 pub use feet::commands_of_reports;
 pub use reports::plan_report;

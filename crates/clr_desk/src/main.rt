@@ -1,0 +1,147 @@
+//! The desk of those who plan: with words it does what a subcommand asks of files, and prints the
+//! answer on standard output and its notes on standard error.
+//!
+//! The program is safe; what it does with words, files, streams and statuses no contract says. Each answer is made by a call that has one, as a text,
+//! notes and a status:
+//!
+//! - `answer` [`answers`]: if the sinks show their bytes and there is a status, the bytes on both and
+//!   the status are what `IsDeskAnswerTo` says, and each fault is answered only where the texts have it,
+//!   want of memory aside. So: of `certificate` the records of a certificate by which the members are
+//!   safe, and nothing else, or the lines of the plan as notes; of `check` the line of the verdict, with status 0 only where it is clear and the
+//!   certificate names a design; of `merge` the text of the office that a
+//!   run leaves as `perform_cleared` promises it, and the replies and the stop as notes; of `format` the
+//!   text of the same office with each object of a list on a line of its own, which is read as that office; of `keep` the certificate
+//!   of the members taken, each of which is cleared with those taken before it, and as notes who they
+//!   are and, of each other, the plan that isn't cleared (`IsChoicePrint`); of `clashes` the smallest sets
+//!   of members that can't be merged in every order, each with its cause, and the members in none
+//!   (`IsClashesPrint`); of `why` status 2 exactly where
+//!   the text has a fault, and then lines that begin with it and have the line, the column and the path of
+//!   the item that has it, 1 exactly where an office can be read and a need is broken in it that isn't known, and else how many old errors it has,
+//!   by rule (`IsWhyPrint`);
+//!   of `words` a work order that ends with the lines of the plan, with the plan's status
+//!   (`IsOrderPrint`); of `map` a page of vector graphics whose title begins with the word for what the plan says, which it shows, and whose
+//!   description ends with the lines of the plan, with the plan's status (`IsMapPrint`); of `report` a page of hypertext that
+//!   begins with that word and that picture, and ends with the command of `clr_office` and the lines of the plan (`IsReportPrint`); of
+//!   `geojson` the features of a plan, with the plan's status, and of `layer` the layer of a table; of `office` the text of the office whose LIVE
+//!   has the rows of layers, and of `design` that of the office with one more design that has them, or the script that makes it, or why there is
+//!   none (`IsGeographicAnswer`); of `accept` the text of the same office with just its broken needs as known, of `mended` the known needs that
+//!   aren't broken any more, and of `errors` the broken needs of LIVE, whether known or not, with status 0 only where all are known.
+//! - `fault_place` [`place`]: the file, the line and the column of the fault of the office text or the certificate, and nothing of any other.
+//! - `take_layers` [`layers`, `office`]: each table that is asked for with the text in its place.
+//! - `texts_have_one_answer` [`answer`]: memory aside, what is asked has one answer alone, but for what the definitions of clashes, of faults,
+//!   and of sentences, pictures, pages, features, layers and errors leave open.
+//! - [`silent`]: with status 3 nothing went to the sink of the text.
+//! - [`keeps`]: with any fault but WriteFailed nothing was written. After a failed write it isn't known
+//!   how much was; where the sink of the notes failed, nothing went to that of the text (`IsTorn`).
+#![tactic(auto)]
+
+mod answers;
+mod certificates;
+mod checks;
+mod choices;
+mod clash_lines;
+mod clash_members;
+mod clashes;
+mod fault_places;
+mod formats;
+mod geographic;
+mod given_layers;
+mod laws;
+mod line_ends;
+mod merges;
+mod names_lines;
+mod orders;
+mod whys;
+
+use crate::answers::answer;
+use crate::fault_places::fault_place;
+use crate::given_layers::take_layers;
+use clr_desk_command_line::{AskFault, DeskAsk, ask_of};
+use clr_office::{Port, RunFault, Sink, Words};
+use clr_process_io::{
+    BAD_WORDS, end_run, file_name, print_fault, print_parser_message, put_input_remark, read_files,
+    text_at, texts_of_words, words,
+};
+use clr_streams::Screen;
+use std::io::ErrorKind;
+use std::process::ExitCode;
+
+/// Prints a fault's line on standard error, and behind it where the fault is, if a text has it; and gives
+/// its exit status. Where no memory is found for the place, that is what is printed.
+fn refuse_texts(
+    rt: &HostRuntime,
+    fault: RunFault,
+    files: &[Words],
+    office: &[u8],
+    second: &[u8],
+) -> u8 {
+    let Ok(place) = fault_place(rt.alloc(), fault, files, office, second) else {
+        return print_fault(rt, RunFault::OutOfMemory);
+    };
+    let status = print_fault(rt, fault);
+    let _ = Screen::new(rt.alloc(), Port::new(rt.stderr()), true).put(place.as_slice());
+    status
+}
+
+/// Prints the line of a fault of a file on standard error, and behind it which file that is; and gives its exit status.
+fn refuse_file(rt: &HostRuntime, name: &str, fault: RunFault) -> u8 {
+    let status = print_fault(rt, fault);
+    let _ = put_input_remark(rt.alloc(), &mut Port::new(rt.stderr()), name, fault);
+    status
+}
+
+/// Answers what the words ask of files, and gives the exit status.
+fn answer_files(rt: &HostRuntime, ask: &DeskAsk, files: &[Words]) -> Result<u8, RunFault> {
+    let mut texts = match read_files(rt, files) {
+        Ok(texts) => texts,
+        Err(refused) => return Ok(refuse_file(rt, file_name(files, refused.file), refused.fault)),
+    };
+    let layers = take_layers(rt.alloc(), ask, &mut texts)?;
+    let (office, second) = (text_at(&texts, 0), text_at(&texts, 1));
+    let is_read = matches!(ask, DeskAsk::WorkOrder(..) | DeskAsk::Why(_));
+    let mut writer = Screen::new(rt.alloc(), Port::new(rt.stdout()), is_read);
+    let mut notes = Screen::new(rt.alloc(), Port::new(rt.stderr()), true);
+    let layers = layers.as_slice();
+    let ended = answer(
+        rt.alloc(),
+        ask,
+        office,
+        second,
+        layers,
+        &mut writer,
+        &mut notes,
+    );
+    match ended {
+        Ok(_) | Err(RunFault::WriteFailed) => {
+            let is_closed = writer.below().is_closed() || notes.below().is_closed();
+            Ok(end_run(rt, ended, is_closed))
+        }
+        Err(fault) => Ok(refuse_texts(rt, fault, files, office, second)),
+    }
+}
+
+/// Does what the words ask for, and gives the exit status.
+fn run_words(rt: &HostRuntime, words: &[String]) -> Result<u8, RunFault> {
+    let texts = texts_of_words(rt, words)?;
+    match ask_of(rt.alloc(), texts.as_slice()) {
+        Ok((ask, files)) => answer_files(rt, &ask, files.as_slice()),
+        Err(AskFault::Refused(error)) => Ok(print_parser_message(rt, &error)),
+        Err(AskFault::OutOfMemory) => Err(RunFault::OutOfMemory),
+    }
+}
+
+fn main(rt: HostRuntime) -> ExitCode {
+    let ended = match words(&rt) {
+        Ok(words) => run_words(&rt, words.as_slice()),
+        Err(ErrorKind::OutOfMemory) => Err(RunFault::OutOfMemory),
+        Err(_) => {
+            let _ = eprintln!(&rt; "error: a word isn't UTF-8");
+            Ok(BAD_WORDS)
+        }
+    };
+    let status = match ended {
+        Ok(status) => status,
+        Err(fault) => print_fault(&rt, fault),
+    };
+    ExitCode::from(status)
+}
