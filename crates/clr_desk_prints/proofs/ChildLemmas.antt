@@ -8,7 +8,7 @@ use Rattle.clr_workspaces.specs.Workspaces.{Workspace}
 use Rattle.clr_steps.specs.Offices.{Office}
 use Rattle.clr_steps.specs.Readings.{name_at}
 use Rattle.clr_clearance.specs.MergeSets.{is_child}
-use Rattle.clr_merge_sets.specs.MergeSetNames.{merge_set}
+use Rattle.clr_office.specs.MergeSetNames.{merge_set}
 use Rattle.clr_desk_prints.specs.Members.{child_in, children_of_root}
 
 module _ (o : Office) (root : Name) where

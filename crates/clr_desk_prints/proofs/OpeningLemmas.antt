@@ -2,7 +2,7 @@
 use Rattle.std.proofs.Common.{◌≡◌, ◌∷◌, ℕ, IfOk, List, Bor, MutBor, Result, Ok, Err, map, refl, subst, sym}
 use Rattle.clr_workspaces.specs.Marks.{Name}
 use Rattle.clr_steps.specs.Offices.{Office}
-use Rattle.clr_office_texts.specs.Drafts.{Opened}
+use Rattle.clr_office.specs.Drafts.{Opened}
 use Rattle.clr_process_io.specs.declared.faults.RunFault.{RunFault}
 use Rattle.clr_desk_prints.specs.Calls.{PrintsAsked, PrintsOf, PrintsOffice}
 use Rattle.clr_desk_prints.specs.Members.{members_or_children}

@@ -2,16 +2,16 @@
 use Rattle.std.proofs.Common.{◌≡◌, Bool, true, false, [], Result, Ok, Err, ap, refl, subst, sym}
 use Rattle.clr_steps.specs.Offices.{Office}
 use Rattle.clr_cert.specs.declared.certificates.Certificate.{Certificate}
-use Rattle.clr_check.specs.Cases.{Case, IsCaseFault}
-use Rattle.clr_check.specs.declared.cases.CaseFault.{CaseFault}
-use Rattle.clr_check.specs.declared.cases.CaseFault.TheVariants as no_case
-use Rattle.clr_office_texts.specs.Drafts.{Opened}
+use Rattle.clr_office.specs.Cases.{Case, IsCaseFault}
+use Rattle.clr_office.specs.CaseFault.{CaseFault}
+use Rattle.clr_office.specs.CaseFault.TheVariants as no_case
+use Rattle.clr_office.specs.Drafts.{Opened}
 use Rattle.clr_office.specs.Clearances.{fault_print}
-use Rattle.clr_office_reports.specs.Printing.{IsNoPrint}
-use Rattle.clr_office_reports.specs.Printing.{IsOutput as AreLinesMade, IsPrintIn as IsLinesIn, IsTextFault as IsLinesFault, Printed as Lines}
+use Rattle.clr_office.specs.Printing.{IsNoPrint}
+use Rattle.clr_office.specs.Printing.{IsOutput as AreLinesMade, IsPrintIn as IsLinesIn, IsTextFault as IsLinesFault, Printed as Lines}
 use Rattle.clr_process_io.specs.declared.faults.RunFault.{RunFault}
 use Rattle.clr_process_io.specs.declared.faults.RunFault.TheVariants as run_fault
-use Rattle.clr_office_reports.specs.declared.outputs.Output.{Output}
+use Rattle.clr_office.specs.Output.{Output}
 use Rattle.clr_desk_prints.specs.Printing.{AreLinesAsNotes, IsMadePrintout, IsPrintoutFault, IsPrintoutIn, IsPrintoutOfCase, PrintoutOrFault, as_notes}
 use Rattle.clr_desk_prints.specs.Printing.{of_fault}
 use Rattle.clr_desk_prints.specs.Printing.{of_why, unless_lost}

@@ -4,7 +4,7 @@ use Rattle.clr_workspaces.specs.Marks.{Name}
 use Rattle.clr_steps.specs.Offices.{Office}
 use Rattle.clr_steps.specs.Quiet.{MergeSet}
 use Rattle.clr_clearance.specs.MergeSets.{is_child}
-use Rattle.clr_merge_sets.specs.MergeSetNames.{merge_set}
+use Rattle.clr_office.specs.MergeSetNames.{merge_set}
 
 -- the children of a root, in order of creation
 abbrev pub children_of_root : Office → Name → List Name

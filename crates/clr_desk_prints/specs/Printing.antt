@@ -3,18 +3,18 @@ use Rattle.std.specs.Prelude.{◌≡◌, ℕ, Bool, true, false, List, [], None,
 use Rattle.clr_steps.specs.Offices.{Office}
 use Rattle.clr_steps.specs.Quiet.{MergeSet}
 use Rattle.clr_cert.specs.declared.certificates.Certificate.{Certificate}
-use Rattle.clr_check.specs.Cases.{Case}
-use Rattle.clr_check.specs.declared.cases.CaseFault.{CaseFault}
-use Rattle.clr_merge_sets.specs.declared.plans.Plan.{Plan}
-use Rattle.clr_merge_sets.specs.Plans.{is_cleared, is_out_of_memory}
-use Rattle.clr_office_texts.specs.Drafts.{Opened}
+use Rattle.clr_office.specs.Cases.{Case}
+use Rattle.clr_office.specs.CaseFault.{CaseFault}
+use Rattle.clr_office.specs.Plan.{Plan}
+use Rattle.clr_office.specs.Plans.{is_cleared, is_out_of_memory}
+use Rattle.clr_office.specs.Drafts.{Opened}
 use Rattle.clr_office.specs.Clearances.{fault_print}
 use Rattle.clr_office.specs.Outcomes.{IsPlanned}
-use Rattle.clr_office_reports.specs.Printing.{IsNoPrint, status_of}
-use Rattle.clr_office_reports.specs.Printing.{IsPrintIn as IsLinesIn, Printed as Lines}
+use Rattle.clr_office.specs.Printing.{IsNoPrint, status_of}
+use Rattle.clr_office.specs.Printing.{IsPrintIn as IsLinesIn, Printed as Lines}
 use Rattle.clr_process_io.specs.declared.faults.RunFault.{RunFault}
 use Rattle.clr_process_io.specs.declared.faults.RunFault.TheVariants as run_fault
-use Rattle.clr_office_reports.specs.declared.outputs.Output.{Output}
+use Rattle.clr_office.specs.Output.{Output}
 use Rattle.clr_desk_prints.specs.declared.prints.Ending.{Ending}
 use Rattle.clr_desk_prints.specs.declared.prints.Ending.TheVariants as ending
 use Rattle.clr_desk_prints.specs.declared.prints.Print.{Print}

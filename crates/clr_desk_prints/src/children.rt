@@ -3,9 +3,7 @@ ghost use Rattle.std.specs.Prelude.{◌≡◌, ◌++◌, IfOk, OnOk};
 ghost use Rattle.clr_steps.specs.Readings.{name_at};
 ghost use Rattle.clr_desk_prints.specs.Members.{child_in, children_of_root, members_or_children};
 
-use clr_engine::Office;
-use clr_merge_sets::is_child;
-use clr_office::{Names, Words};
+use clr_office::{Names, Office, Words, is_child};
 use std::alloc::{AllocError, Global};
 
 /// Adds the name of the workspace at a position, LIVE having position 0, where it is a child of the root.

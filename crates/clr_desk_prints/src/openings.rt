@@ -1,6 +1,6 @@
 //! Answers over the office of a text: what a call prints of it, and hints at names behind its notes.
 ghost use Rattle.std.specs.Prelude.{◌∷◌, IfOk};
-ghost use Rattle.clr_office_texts.specs.Drafts.{opened_in};
+ghost use Rattle.clr_office.specs.Drafts.{opened_in};
 ghost use Rattle.clr_desk_prints.specs.Calls.{PrintsAsked, PrintsOf, PrintsOffice};
 ghost use Rattle.clr_desk_prints.specs.Members.{members_or_children};
 ghost use Rattle.clr_desk_prints.specs.NameHints.{IsHinted};
@@ -8,8 +8,7 @@ ghost use Rattle.clr_desk_prints.specs.Printing.{IsMadePrintout, IsPrintoutIn, p
 
 use crate::children::members_asked;
 use crate::prints::{Print, notes_of};
-use clr_engine::Office;
-use clr_office::{RunFault, Words, hint_lines, open_office, texts_of_names};
+use clr_office::{Office, RunFault, Words, hint_lines, open_office, texts_of_names};
 use std::alloc::{AllocError, Global};
 
 /// Returns what a call prints of an office, and behind its notes hints at those of a root and names that no workspace has.

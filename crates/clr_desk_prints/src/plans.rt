@@ -1,11 +1,9 @@
 //! Plans of members.
 ghost use Rattle.std.specs.Prelude.{map};
-ghost use Rattle.clr_merge_sets.specs.MergeSetNames.{merge_set};
+ghost use Rattle.clr_office.specs.MergeSetNames.{merge_set};
 ghost use Rattle.clr_office.specs.Outcomes.{IsPlanned};
 
-use clr_engine::Office;
-use clr_office::Plan;
-use clr_plan::plan;
+use clr_office::{Office, Plan, plan};
 use std::alloc::Global;
 
 /// Returns the plan of members of a root, with what it promises.

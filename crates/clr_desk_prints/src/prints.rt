@@ -1,6 +1,6 @@
 //! What is printed, and how it ends.
 ghost use Rattle.std.specs.Prelude.{◌≡◌, [], false, IfOk};
-ghost use Rattle.clr_office_reports.specs.Printing.{status_of};
+ghost use Rattle.clr_office.specs.Printing.{status_of};
 ghost use Rattle.clr_desk_prints.specs.NameHints.{with_lines};
 ghost use Rattle.clr_desk_prints.specs.Printing.{AreLinesAsNotes, is_lost_ending, printed, printout_of, status_by, unless_lost};
 

@@ -1,6 +1,6 @@
 use Rattle.std.proofs.Common.{◌≡◌, [], filter, map, take}
 use Rattle.clr_clearance.specs.MergeSets.{is_child}
-use Rattle.clr_merge_sets.specs.MergeSetNames.{merge_set}
+use Rattle.clr_office.specs.MergeSetNames.{merge_set}
 use Rattle.clr_desk_prints.proofs.children.children_of.Given as goal
 
 -- the children so far

@@ -1,5 +1,5 @@
 use Rattle.std.proofs.Common.{◌∷◌, rules}
-use Rattle.clr_office_texts.specs.Drafts.{opened_in}
+use Rattle.clr_office.specs.Drafts.{opened_in}
 use Rattle.clr_desk_prints.specs.Calls.{PrintsAsked}
 use Rattle.clr_desk_prints.proofs.OpeningLemmas.{office_answered}
 use Rattle.clr_desk_prints.proofs.openings.answer_over_members.Goals as goal

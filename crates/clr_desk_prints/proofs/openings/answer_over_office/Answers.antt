@@ -1,4 +1,4 @@
-use Rattle.clr_office_texts.specs.Drafts.{opened_in}
+use Rattle.clr_office.specs.Drafts.{opened_in}
 use Rattle.clr_desk_prints.specs.Printing.{of_office}
 use Rattle.clr_desk_prints.proofs.PrintLemmas.{office_fault}
 use Rattle.clr_desk_prints.proofs.openings.answer_over_office.Goals as goal
