@@ -1,2 +1,0 @@
-pub mod HeadingLemmas
-pub mod InsetLemmas

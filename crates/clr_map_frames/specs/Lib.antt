@@ -1,4 +1,2 @@
 pub mod Frames
-pub mod HeadingLines
 pub mod Headings
-pub mod Insets
