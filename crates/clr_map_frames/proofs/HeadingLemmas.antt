@@ -1,21 +1,11 @@
 -- What a sketch says, line by line.
-use Rattle.std.proofs.Common.{◌≡◌, ◌∙◌, ◌++◌, ◌∷◌, ℕ, List, [], ap, append_assoc, refl}
-use Rattle.std.proofs.lemmas.List.Concat.{flat_map-append}
-use Rattle.clr_svg.specs.declared.colours.Colour.{Colour}
-use Rattle.clr_svg.specs.declared.elements.Anchor.{Anchor}
+use Rattle.std.proofs.Common.{◌≡◌, ◌∙◌, ◌++◌, ◌∷◌, ℕ, List, [], ap, append_assoc, codes, inr, refl, sym}
 use Rattle.clr_svg.specs.declared.elements.Element.{Element}
-use Rattle.clr_svg.specs.declared.elements.Element.TheVariants.{Words}
-use Rattle.clr_svg.specs.declared.elements.PagePoint.{PagePoint}
-use Rattle.clr_svg.specs.declared.elements.Weight.{Weight}
-use Rattle.clr_svg.specs.declared.pixels.Pixels.{Pixels}
-use Rattle.clr_drawing.specs.Sketches.{DrawsWords, IsWords}
-use Rattle.clr_map_frames.specs.HeadingLines.{AreLinesOf, IsShown, SaysHeading, SaysNames, SaysSentence, one, said, two, words_of}
+use Rattle.clr_map_frames.specs.HeadingLines.{AreLinesOf, IsShown, SaysHeading, SaysNames, SaysSentence, one, said, two}
 
--- words that are drawn are said behind those that were said
-pub says_more : (words : List ℕ) (at : PagePoint) (size : Pixels) (colour : Colour) (anchor : Anchor) (weight : Weight) (old new : List Element)
-    → DrawsWords (IsWords words at size colour anchor weight) old new → said new ≡ said old ++ words ∷ []
-says_more words at size colour anchor weight old new (label, is, drawn) =
-    ap said drawn ∙ flat_map-append words_of old (Words label ∷ []) ∙ ap (λ (w : List ℕ). said old ++ w ∷ []) is.says
+-- a text that is cut behind some of its bytes
+pub cut_shown : (text cut rest shown : List ℕ) → cut ++ rest ≡ text → shown ≡ cut ++ codes " .." → IsShown text shown
+cut_shown text cut rest shown whole is = inr (cut, rest, sym whole, is)
 
 -- a sentence on one line
 pub on_one : (sentence : List ℕ) (old new : List Element) → said new ≡ said old ++ sentence ∷ [] → SaysSentence sentence old new

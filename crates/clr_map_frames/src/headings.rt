@@ -182,6 +182,14 @@ fn say_line(sketch: &mut Sketch, words: &str, down: Pixels) -> Result<(), AllocE
     say(sketch, words, at, SENTENCE_SIZE, INK)
 }
 
+/// Writes a sentence on one line.
+fn add_one_line(sketch: &mut Sketch, sentence: &str) -> Result<(), AllocError>
+    ensures { OnOk result (SaysSentence sentence.now sketch.old.elements.items sketch.new.elements.items) }
+{
+    say_line(sketch, sentence, ONLY_LINE)?;
+    Ok(())
+}
+
 /// Writes a sentence on two lines; the second is cut where there is no room for it.
 fn add_two_lines(sketch: &mut Sketch, sentence: &str, room: Pixels) -> Result<(), AllocError>
     ensures { OnOk result (SaysSentence sentence.now sketch.old.elements.items sketch.new.elements.items) }
@@ -200,8 +208,7 @@ fn add_sentence(sketch: &mut Sketch, sentence: &str, room: Pixels) -> Result<(),
     ensures { OnOk result (SaysSentence sentence.now sketch.old.elements.items sketch.new.elements.items) }
 {
     if words_width(sentence, SENTENCE_SIZE) <= room {
-        say_line(sketch, sentence, ONLY_LINE)?;
-        Ok(())
+        add_one_line(sketch, sentence)
     } else {
         add_two_lines(sketch, sentence, room)
     }
