@@ -1,7 +1,7 @@
 -- What a sketch says, line by line.
 use Rattle.std.proofs.Common.{◌≡◌, ◌∙◌, ◌++◌, ◌∷◌, ℕ, List, [], ap, append_assoc, codes, inr, refl, sym}
 use Rattle.clr_svg.specs.declared.elements.Element.{Element}
-use Rattle.clr_map_frames.specs.HeadingLines.{AreLinesOf, IsShown, SaysHeading, SaysNames, SaysSentence, one, said, two}
+use Rattle.clr_map_frames.specs.HeadingLines.{IsShown, SaysHeading, SaysNames, SaysSentence, one, said, two}
 
 -- a text that is cut behind some of its bytes
 pub cut_shown : (text cut rest shown : List ℕ) → cut ++ rest ≡ text → shown ≡ cut ++ codes " .." → IsShown text shown

@@ -1,20 +1,15 @@
 -- What is drawn within a box, step by step.
-use Rattle.std.proofs.Common.{◌≡◌, ◌∙◌, ◌++◌, ◌∷◌, Bool, List, [], All, ap, append_assoc, append-nil, arith, cond, false, refl, sym, true}
-use Rattle.std.proofs.lemmas.List.Elements.{All-append, All-cons, All-nil}
-use Rattle.clr_svg.specs.declared.colours.Colour.{Colour}
-use Rattle.clr_svg.specs.declared.elements.Anchor.{Anchor}
-use Rattle.clr_svg.specs.declared.elements.Element.{Element}
-use Rattle.clr_svg.specs.declared.elements.Element.TheVariants.{Path, Circle, Rectangle, Words}
-use Rattle.clr_svg.specs.declared.elements.Label.{Label}
-use Rattle.clr_svg.specs.declared.elements.PathCommand.{PathCommand}
-use Rattle.clr_svg.specs.declared.inks.Ink.{Ink}
-use Rattle.clr_svg.specs.declared.pixels.Pixels.{Pixels}
-use Rattle.clr_viewports.specs.declared.areas.Area.{Area}
+use Rattle.std.proofs.Common.{◌≡◌, ◌∙◌, ◌++◌, ◌∷◌, Bool, List, [], ap, append_assoc, arith, cond, false, refl, true}
 use Rattle.std.specs.Prelude.{ℤ, ◌&&◌, int_le, int_lt}
 use Rattle.std.specs.Int.{int_max, int_min}
 use Rattle.std.proofs.lemmas.Int.{ints}
+use Rattle.std.proofs.lemmas.List.Elements.{All-append, All-cons, All-nil}
+use Rattle.clr_svg.specs.declared.elements.Element.{Element}
+use Rattle.clr_svg.specs.declared.inks.Ink.{Ink}
+use Rattle.clr_svg.specs.declared.pixels.Pixels.{Pixels}
+use Rattle.clr_viewports.specs.declared.areas.Area.{Area}
 use Rattle.clr_viewports.specs.Areas.{greater_length, holds, lesser_length}
-use Rattle.clr_drawing.specs.Sketches.{DrawsPath, DrawsWords, IsPath, rectangle_of}
+use Rattle.clr_drawing.specs.Sketches.{rectangle_of}
 use Rattle.clr_map_frames.specs.Insets.{DrawsWithin, StandsIn}
 
 at_most_greater : (a b : ℤ) → int_le a (int_max a b) ≡ true
@@ -45,11 +40,14 @@ part_holds box a = λ i.
     && lesser_at_most box.bottom.tenths a.bottom.tenths i
 
 module _ (box : Area) where
-  pub no_more : (old new : List Element) → new ≡ old → DrawsWithin box old new
-  no_more old new is = record { more = []; drawn = is ∙ sym (append-nil old); within = All-nil (StandsIn box) }
-
-  pub one_more : (old new : List Element) (e : Element) → StandsIn box e → new ≡ old ++ e ∷ [] → DrawsWithin box old new
-  one_more old new e stands is = record { more = e ∷ []; drawn = is; within = All-cons (StandsIn box) e [] stands (All-nil (StandsIn box)) }
+  -- an area that is within the box
+  pub area_more : (old new : List Element) (a : Area) (radius : Pixels) (ink : Ink) → holds box a ≡ true → new ≡ old ++ rectangle_of a radius ink ∷ []
+      → DrawsWithin box old new
+  area_more old new a radius ink within is = record {
+    more = rectangle_of a radius ink ∷ [];
+    drawn = is;
+    within = All-cons (StandsIn box) (rectangle_of a radius ink) [] (a, within, refl, refl, refl) (All-nil (StandsIn box));
+  }
 
   pub and_then : (old middle new : List Element) → DrawsWithin box old middle → DrawsWithin box middle new → DrawsWithin box old new
   and_then old middle new a b = record {
@@ -57,22 +55,3 @@ module _ (box : Area) where
     drawn = b.drawn ∙ ap (λ (elements : List Element). elements ++ b.more) a.drawn ∙ append_assoc old a.more b.more;
     within = All-append (StandsIn box) a.more b.more a.within b.within;
   }
-
-  -- an area that is within the box
-  pub area_more : (old new : List Element) (a : Area) (radius : Pixels) (ink : Ink) → holds box a ≡ true → new ≡ old ++ rectangle_of a radius ink ∷ []
-      → DrawsWithin box old new
-  area_more old new a radius ink within is = one_more old new (rectangle_of a radius ink) (a, within, refl, refl, refl) is
-
-  path_stands : (steps : List PathCommand) (ink : Ink) (e : Element) → IsPath steps ink e → StandsIn box e
-  path_stands steps ink (Path taken i) is = tt
-  path_stands steps ink (Circle m r i) is = absurd is
-  path_stands steps ink (Rectangle c w h r i) is = absurd is
-  path_stands steps ink (Words l) is = absurd is
-
-  -- a path, if it has steps
-  pub path_more : (steps : List PathCommand) (ink : Ink) (old new : List Element) → DrawsPath steps ink old new → DrawsWithin box old new
-  path_more [] ink old new is = no_more old new is
-  path_more (s ∷ steps) ink old new (e, path, is) = one_more old new e (path_stands (s ∷ steps) ink e path) is
-
-  pub words_more : (P : Label → Type 0) (old new : List Element) → DrawsWords P old new → DrawsWithin box old new
-  words_more P old new (label, says, is) = one_more old new (Words label) tt is

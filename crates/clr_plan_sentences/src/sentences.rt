@@ -16,6 +16,7 @@ use clr_change::ChangeSet;
 use clr_clearance::Verdict;
 use clr_member_changes::{Counts, MemberChanges, count_rows};
 use clr_merge_sets::Plan;
+use clr_plan_answers::answer_words;
 use std::alloc::AllocError;
 
 /// How many needs of a certificate are told one by one.

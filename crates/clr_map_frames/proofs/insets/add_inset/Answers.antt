@@ -1,6 +1,6 @@
-use Rattle.std.proofs.Common.{refl, rules, subst}
+use Rattle.std.proofs.Common.{rules, subst}
 use Rattle.clr_viewports.specs.declared.areas.Area.{Area}
-use Rattle.clr_map_frames.specs.Insets.{DrawsWithin, IsBeside, nothing, plan}
+use Rattle.clr_map_frames.specs.Insets.{DrawsWithin, IsBeside, plan}
 use Rattle.clr_map_frames.proofs.insets.add_inset.Goals as goal
 
 pub returns : goal.returns
