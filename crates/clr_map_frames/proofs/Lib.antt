@@ -1,0 +1,2 @@
+pub mod HeadingLemmas
+pub mod InsetLemmas

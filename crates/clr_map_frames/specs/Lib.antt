@@ -1,2 +1,4 @@
 pub mod Frames
+pub mod HeadingLines
 pub mod Headings
+pub mod Insets

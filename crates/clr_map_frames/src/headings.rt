@@ -1,15 +1,27 @@
 //! What stands above the map: the names of the designs, and the plan in a sentence.
 
-ghost use Rattle.std.specs.Prelude.{◌≡◌, ◌++◌, IfOk, OnOk, decimal, string_bytes};
+ghost use Rattle.std.specs.Prelude.{◌≡◌, ◌++◌, ◌∷◌, [], IfOk, OnOk, decimal, string_bytes};
 ghost use Rattle.clr_map_frames.specs.Headings.{behind_commas, design_names, design_names_text, few_names, listed, names_of_leaders, some_names};
+ghost use Rattle.clr_map_frames.specs.HeadingLines.{IsShown, SaysHeading, SaysNames, SaysSentence, said};
 
 use clr_drawing::{INK, SOFT, Sketch, words_width};
 use clr_map_scenes::{Designs, Field, LEFT, PAGE_WIDTH};
-use clr_svg::{Anchor, PagePoint, Pixels, Weight};
+use clr_svg::{Anchor, Colour, PagePoint, Pixels, Weight};
 use std::alloc::{AllocError, Global};
 
 /// The size of the letters of the word for what a plan says.
 pub const VERDICT_SIZE: Pixels = Pixels { tenths: 260 };
+
+/// The size of the letters of the sentence.
+const SENTENCE_SIZE: Pixels = Pixels { tenths: 155 };
+
+/// How far from the top the sentence stands if it has one line.
+const ONLY_LINE: Pixels = Pixels { tenths: 780 };
+
+/// How far from the top the first and the second line stand if it has two.
+const FIRST_LINE: Pixels = Pixels { tenths: 690 };
+
+const SECOND_LINE: Pixels = Pixels { tenths: 900 };
 
 /// How many designs are named one by one.
 const FEW: usize = 6;
@@ -105,13 +117,15 @@ pub fn names_text(field: Field<'_>) -> Result<String, AllocError>
     few_names(field.alloc, field.designs)
 }
 
-/// Returns a text, cut behind as many characters as there is room for.
+/// Returns a text, or where there is no room for it, so many of its first characters as there is room for, with `..` behind them.
 fn text_that_fits(
     alloc: Global,
     text: &str,
     size: Pixels,
     room: Pixels,
-) -> Result<String, AllocError> {
+) -> Result<String, AllocError>
+    ensures { IfOk result (λ shown. IsShown text.now (string_bytes shown)) }
+{
     if words_width(text, size) <= room {
         return String::from_str(alloc, text);
     }
@@ -126,41 +140,106 @@ fn text_that_fits(
     Ok(cut)
 }
 
-/// Writes the names and the sentence.
-pub fn add_heading(
+/// Adds so many whole words of a text to a line as there is room for, each with the blank behind it, and returns the rest of the text.
+fn add_words_that_fit<'a>(
+    line: &mut String,
+    text: &'a str,
+    room: Pixels,
+) -> Result<&'a str, AllocError>
+    ensures { IfOk result (λ rest. string_bytes line.new ++ rest.now ≡ string_bytes line.old ++ text.now) }
+{
+    let mut rest = text;
+    while let Some((word, behind)) = rest.split_once(' ') {
+        if words_width(line.as_str(), SENTENCE_SIZE) + words_width(word, SENTENCE_SIZE) > room {
+            break;
+        }
+        line.push_str(word)?;
+        line.push_str(" ")?;
+        rest = behind;
+    }
+    Ok(rest)
+}
+
+/// Writes words on a line that begins at a spot.
+fn say(
     sketch: &mut Sketch,
-    word: &str,
-    names: &str,
-    sentence: &str,
-) -> Result<(), AllocError> {
+    words: &str,
+    at: PagePoint,
+    size: Pixels,
+    colour: Colour,
+) -> Result<(), AllocError>
+    ensures { OnOk result (said sketch.new.elements.items ≡ said sketch.old.elements.items ++ words.now ∷ []) }
+{
+    sketch.add_words(words, at, size, colour, Anchor::Start, Weight::Plain)?;
+    Ok(())
+}
+
+/// Writes a line of the sentence, this far from the top.
+fn say_line(sketch: &mut Sketch, words: &str, down: Pixels) -> Result<(), AllocError>
+    ensures { OnOk result (said sketch.new.elements.items ≡ said sketch.old.elements.items ++ words.now ∷ []) }
+{
+    let at = PagePoint { x: LEFT, y: down };
+    say(sketch, words, at, SENTENCE_SIZE, INK)
+}
+
+/// Writes a sentence on one line.
+fn add_one_line(sketch: &mut Sketch, sentence: &str) -> Result<(), AllocError>
+    ensures { OnOk result (SaysSentence sentence.now sketch.old.elements.items sketch.new.elements.items) }
+{
+    say_line(sketch, sentence, ONLY_LINE)?;
+    Ok(())
+}
+
+/// Writes a sentence on two lines; the second is cut where there is no room for it.
+fn add_two_lines(sketch: &mut Sketch, sentence: &str, room: Pixels) -> Result<(), AllocError>
+    ensures { OnOk result (SaysSentence sentence.now sketch.old.elements.items sketch.new.elements.items) }
+{
     let alloc = sketch.allocator();
-    let right = PAGE_WIDTH - Pixels::whole(28);
+    let mut first = String::new(alloc);
+    let rest = add_words_that_fit(&mut first, sentence, room)?;
+    let second = text_that_fits(alloc, rest, SENTENCE_SIZE, room)?;
+    say_line(sketch, first.as_str(), FIRST_LINE)?;
+    say_line(sketch, second.as_str(), SECOND_LINE)?;
+    Ok(())
+}
+
+/// Writes a sentence on one line where there is room for it, and else on two.
+fn add_sentence(sketch: &mut Sketch, sentence: &str, room: Pixels) -> Result<(), AllocError>
+    ensures { OnOk result (SaysSentence sentence.now sketch.old.elements.items sketch.new.elements.items) }
+{
+    if words_width(sentence, SENTENCE_SIZE) <= room {
+        add_one_line(sketch, sentence)
+    } else {
+        add_two_lines(sketch, sentence, room)
+    }
+}
+
+/// Writes the names behind the word, as far as there is room for them.
+fn add_names(sketch: &mut Sketch, word: &str, names: &str, right: Pixels) -> Result<(), AllocError>
+    ensures { OnOk result (SaysNames names.now sketch.old.elements.items sketch.new.elements.items) }
+{
     let start = LEFT + words_width(word, VERDICT_SIZE + Pixels::whole(4)) + Pixels::whole(26);
     let at = PagePoint {
         x: start,
         y: Pixels::whole(46),
     };
-    let names = text_that_fits(alloc, names, Pixels::whole(17), right - start)?;
-    sketch.add_words(
-        names.as_str(),
-        at,
-        Pixels::whole(17),
-        SOFT,
-        Anchor::Start,
-        Weight::Plain,
-    )?;
-    let size = Pixels::of_tenths(155);
-    let sentence = text_that_fits(alloc, sentence, size, right - LEFT)?;
-    let at = PagePoint {
-        x: LEFT,
-        y: Pixels::whole(78),
-    };
-    sketch.add_words(
-        sentence.as_str(),
-        at,
-        size,
-        INK,
-        Anchor::Start,
-        Weight::Plain,
-    )
+    let size = Pixels::whole(17);
+    let names = text_that_fits(sketch.allocator(), names, size, right - start)?;
+    say(sketch, names.as_str(), at, size, SOFT)?;
+    Ok(())
+}
+
+/// Writes the names of the designs, as far as there is room for them, and below them the sentence, on one line or on two.
+pub fn add_heading(
+    sketch: &mut Sketch,
+    word: &str,
+    names: &str,
+    sentence: &str,
+) -> Result<(), AllocError>
+    ensures says { OnOk result (SaysHeading names.now sentence.now sketch.old.elements.items sketch.new.elements.items) }
+{
+    let right = PAGE_WIDTH - Pixels::whole(28);
+    add_names(sketch, word, names, right)?;
+    add_sentence(sketch, sentence, right - LEFT)?;
+    Ok(())
 }

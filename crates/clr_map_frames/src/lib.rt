@@ -3,6 +3,8 @@
 //!
 //! - `names_text`: exactly which designs a heading names, in which order, and how many there are besides. `has_frames`: exactly whether what
 //!   designs change has frames.
+//! - `add_heading` [`says`]: the names and the sentence, the latter on one line or on two, and nothing of them left out but behind `..`.
+//!   `add_inset` [`drawn`]: nothing, or a box beside the map of which no frame juts out.
 //! - Each call is safe and ends, and no call fails while there is memory. All else of what it looks like is tested.
 #![tactic(auto)]
 
