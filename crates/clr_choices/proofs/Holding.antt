@@ -8,7 +8,7 @@ use Rattle.std.specs.Option.{option_map_or}
 use Rattle.std.specs.Ordering.{nat_cmp}
 use Rattle.std.specs.declared.cmp.Ordering.TheVariants.{Less}
 use Rattle.std.proofs.lemmas.Bool.{false≢true, true≢false}
-use Rattle.std.proofs.lemmas.List.{length-append, map-append, take_all, take_more}
+use Rattle.std.proofs.lemmas.List.{length-append, length-map, map-append, take_all, take_more}
 use Rattle.std.proofs.lemmas.List.Elements.{Contains-append_cases}
 use Rattle.std.proofs.lemmas.Option.{slice_get_read, slice_get_within, get_or_from_slice_get}
 use Rattle.clr_rules.proofs.AskLemmas.{less_number}
@@ -24,9 +24,11 @@ use Rattle.clr_merge_sets.proofs.ListLemmas.{filter_map_last}
 use Rattle.clr_clashes.specs.BrokenNeeds.{ArePlaces, IsFirstHeld}
 use Rattle.clr_clashes.specs.Clashes.{IsAllIn}
 use Rattle.clr_clashes.specs.Keeping.{is_all_in}
-use Rattle.clr_clashes.specs.ListedClashes.{ListedClash, listed_cmp}
+use Rattle.clr_clashes.specs.ListedClashes.{ListedClash, listed_clash_of, listed_cmp}
+use Rattle.clr_clashes.specs.declared.listing.Clash.{Clash}
+use Rattle.std.proofs.Math.ListN.{get_or-map}
 use Rattle.clr_clashes.proofs.Kept.{told_within, within_told}
-use Rattle.clr_choices.specs.Looked.{ArePositionsOf, is_member_at}
+use Rattle.clr_choices.specs.Looked.{ArePositionsOf, is_member_at, with_position}
 
 -- positions --------------------------------------------------------------------------------------------
 
@@ -34,6 +36,7 @@ use Rattle.clr_choices.specs.Looked.{ArePositionsOf, is_member_at}
 pub record AreFoundTo (names members : List Name) (at : ℕ) (positions : List ℕ) : Type 0 where
   pub ascending : IsStrictlySortedBy nat_cmp positions
   pub below : (x : ℕ) → Contains positions x → x < at
+  pub inside : (x : ℕ) → Contains positions x → x < length names
   pub few : length positions ≤ length members
   pub read : filter_map (slice_get names) positions ≡ take (length positions) members
 
@@ -41,7 +44,7 @@ module _ (names members : List Name) where
   pub none_found : (positions : List ℕ) → positions ≡ [] → AreFoundTo names members 0 positions
   unfolding IsStrictlySortedBy
   none_found positions none = subst (AreFoundTo names members 0) (sym none)
-      (record { ascending = tt; below = λ x h. absurd (among x [] h); few = omega arith; read = first members })
+      (record { ascending = tt; below = λ x h. absurd (among x [] h); inside = λ x h. absurd (among x [] h); few = omega arith; read = first members })
     where
       first : (list : List Name) → [] ≡ take 0 list
       first [] = refl
@@ -51,6 +54,7 @@ module _ (names members : List Name) where
   none_more at positions are = record {
     ascending = are.ascending;
     below = λ x h. (let less = are.below x h in omega (arith, less));
+    inside = are.inside;
     few = are.few;
     read = are.read;
   }
@@ -64,11 +68,16 @@ module _ (names members : List Name) where
 
   pub one_found : (at : ℕ) (name : Name) (old new : List ℕ) → at < length names → name ≡ get_or names at name → is_member_at members (length old) name ≡ true
       → new ≡ old ++ at ∷ [] → AreFoundTo names members at old → AreFoundTo names members (at + 1) new
+  unfolding IsStrictlySortedBy
   one_found at name old new less is told put are = subst (AreFoundTo names members (at + 1)) (sym put) (record {
     ascending = rises;
     below = λ x h. elim (Contains-append_cases old (at ∷ []) x h) [
       | inl earlier ↦ (let low = are.below x earlier in omega (arith, low))
       | inr last ↦ (let same = alone at x last in omega (arith, same))
+    ];
+    inside = λ x h. elim (Contains-append_cases old (at ∷ []) x h) [
+      | inl earlier ↦ are.inside x earlier
+      | inr last ↦ (let same = alone at x last in omega (arith, same, less))
     ];
     few = (let count = length-append old (at ∷ []) in omega (arith, count, within));
     read = filter_map_last (slice_get names) old at
@@ -84,18 +93,25 @@ module _ (names members : List Name) where
       within = slice_get_within members (length old) name there
 
       rises : IsStrictlySortedBy nat_cmp (old ++ at ∷ [])
-      unfolding IsStrictlySortedBy
       rises = rising_joined nat_cmp old (at ∷ []) are.ascending (tt, tt) apart
         where
           apart : (x y : ℕ) → Among x old → Among y (at ∷ []) → nat_cmp x y ≡ Less
           apart x y h (inl e) = subst (λ z. nat_cmp x z ≡ Less) e (less_number x at (are.below x (contained x old h)))
           apart x y h (inr j) = absurd j
 
-  pub all_found : (at : ℕ) (positions : List ℕ) → at ≤ length names → length members ≤ length positions → AreFoundTo names members at positions
+  pub found_more : (at : ℕ) (name : Name) (old new : List ℕ) → at < length names → name ≡ get_or names at name
+      → new ≡ with_position (is_member_at members (length old) name) old at → AreFoundTo names members at old → AreFoundTo names members (at + 1) new
+  found_more at name old new less is put are = by (is_member_at members (length old) name) refl put
+    where
+      by : (b : Bool) → is_member_at members (length old) name ≡ b → new ≡ with_position b old at → AreFoundTo names members (at + 1) new
+      by true told added = one_found at name old new less is told added are
+      by false told same = subst (AreFoundTo names members (at + 1)) (sym same) (none_more at old are)
+
+  pub all_found : (at : ℕ) (positions : List ℕ) → length members ≤ length positions → AreFoundTo names members at positions
       → ArePositionsOf names members positions
-  all_found at positions most past are = record {
+  all_found at positions past are = record {
     ascending = are.ascending;
-    below = λ x h. (let less = are.below x h in omega (arith, less, most));
+    below = are.inside;
     read = are.read ∙ take_all (length positions) members past;
   }
 
@@ -125,6 +141,27 @@ module _ (ks : List ListedClash) (positions : List ℕ) where
         | inr last ↦ true≢false (sym (within_told (get_or ks k d).members positions (subst (λ (x : ListedClash). IsAllIn x.members positions)
             (alone (get_or ks k d) j last) held)) ∙ told)
       ]
+
+-- the same of clashes as they are stored
+module _ (xs : List Clash) (positions : List ℕ) (k : ℕ) (x : Clash) (less : k < length xs) (is : x ≡ get_or xs k x) where
+  listed_less : k < length (map listed_clash_of xs)
+  listed_less = let count = length-map xs listed_clash_of in omega (arith, less, count)
+
+  listed_is : get_or (map listed_clash_of xs) k (listed_clash_of x) ≡ listed_clash_of x
+  listed_is = get_or-map listed_clash_of xs k x ∙ ap listed_clash_of (sym is)
+
+  pub held_at : (told : Bool) (members : List ℕ) → IsStrictlySortedBy listed_cmp (map listed_clash_of xs) → told ≡ is_all_in members positions
+      → members ≡ x.members.items → told ≡ true → NoneHeld (map listed_clash_of xs) positions k → IsFirstHeld (map listed_clash_of xs) positions (listed_clash_of x)
+  held_at told members ascending said same yes none =
+      subst (IsFirstHeld (map listed_clash_of xs) positions) listed_is
+      (first_is_held (map listed_clash_of xs) positions k (listed_clash_of x) listed_less ascending
+      (ap (λ (j : ListedClash). is_all_in j.members positions) listed_is ∙ ap (λ (ms : List ℕ). is_all_in ms positions) (sym same) ∙ sym said ∙ yes) none)
+
+  pub not_held_at : (told : Bool) (members : List ℕ) → told ≡ is_all_in members positions → members ≡ x.members.items → told ≡ false
+      → NoneHeld (map listed_clash_of xs) positions k → NoneHeld (map listed_clash_of xs) positions (k + 1)
+  not_held_at told members said same no none =
+      none_more_held (map listed_clash_of xs) positions k (listed_clash_of x) listed_less
+      (ap (λ (j : ListedClash). is_all_in j.members positions) listed_is ∙ ap (λ (ms : List ℕ). is_all_in ms positions) (sym same) ∙ sym said ∙ no) none
 
 -- places -----------------------------------------------------------------------------------------------
 

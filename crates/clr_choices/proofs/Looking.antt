@@ -1,7 +1,7 @@
 -- What is known of some of the names that were looked at.
 use Rattle.std.proofs.Common.{◌≡◌, ◌∙◌, ◌<◌, ℕ, zero, suc, true, false, List, [], ◌∷◌, inl, inr, Contains, Option, Some, None, Global, Vec}
 use Rattle.std.proofs.Common.{length, map, refl, sym, ap, ap₂, subst, arith}
-use Rattle.std.specs.Prelude.{option_map, slice_get}
+use Rattle.std.specs.Prelude.{option_map, slice_get, IfSome}
 use Rattle.std.specs.List.{cons_option, filter_map}
 use Rattle.std.specs.List.Sorted.{IsStrictlySortedBy}
 use Rattle.std.specs.Ordering.{nat_cmp}
@@ -32,7 +32,7 @@ use Rattle.clr_merge_sets.specs.declared.plans.Plan.TheVariants as plan
 use Rattle.clr_plan.specs.Plans.{IsPlan}
 use Rattle.clr_plan.proofs.PromiseLaws.{exact_law, lasting_law, promise_law}
 use Rattle.clr_choices.specs.Clearable.{IsPlanOf}
-use Rattle.clr_choices.specs.Looked.{AreLookedAt, ArePositionsOf}
+use Rattle.clr_choices.specs.Looked.{AreLookedAt, ArePositionsOf, IsBlockedAt}
 use Rattle.clr_choices.specs.Trials.{IsRefusal}
 use Rattle.clr_choices.proofs.ClearableLaws.{part_mergeable}
 
@@ -83,15 +83,12 @@ blocked_refusal o s order k is free apart least = record { planned = planned; un
     here : IsPlan o s (plan.Blocked order (verdict.Uncovered k.need))
     here = subst (λ (list : List ℕ). IsBlocked o s list (verdict.Uncovered k.need)) (sym is) blocked
 
-    abbrev p : Plan
-    p = plan.Blocked order (verdict.Uncovered k.need)
-
     planned : IsPlanOf o s (plan.Blocked order (verdict.Uncovered k.need))
     planned = record {
       plan = here;
-      promises = promise_law o s p here;
-      exact = exact_law o s p here;
-      lasts = lasting_law o s p here;
+      promises = promise_law o s (plan.Blocked order (verdict.Uncovered k.need)) here;
+      exact = exact_law o s (plan.Blocked order (verdict.Uncovered k.need)) here;
+      lasts = lasting_law o s (plan.Blocked order (verdict.Uncovered k.need)) here;
       readable = λ c e. absurd (cc);
     }
 
@@ -147,3 +144,18 @@ pub known : PartsBreakListedNeeds → (o : Office) (root : Name) (names members 
 known law o root names members ks positions are at k order first places =
     subst (λ (ms : List Name). IsRefusal o (merge_set root ms) (plan.Blocked order (verdict.Uncovered k.need))) at.read
     (part_refusal o root names ks are positions at.ascending at.below law k order first places)
+
+-- what is known of members by their positions among names that were looked at
+pub known_blocked : PartsBreakListedNeeds → (o : Office) (root : Name) (names members : List Name) (ks : List ListedClash) (positions : List ℕ)
+    → AreLookedAt o root names ks → ArePositionsOf names members positions → (p : Plan) → IsBlockedAt ks positions p → IsRefusal o (merge_set root members) p
+known_blocked law o root names members ks positions are at (plan.Blocked order cause) (k, first, places, is) =
+    subst (λ v. IsRefusal o (merge_set root members) (plan.Blocked order v)) (sym is) (known law o root names members ks positions are at k order first places)
+known_blocked law o root names members ks positions are at (plan.Unfit v) h = absurd h
+known_blocked law o root names members ks positions are at (plan.Cleared c) h = absurd h
+known_blocked law o root names members ks positions are at plan.OutOfMemory h = absurd h
+
+pub known_if_any : PartsBreakListedNeeds → (o : Office) (root : Name) (names members : List Name) (ks : List ListedClash) (positions : List ℕ)
+    → AreLookedAt o root names ks → ArePositionsOf names members positions → (p : Option Plan) → IfSome p (IsBlockedAt ks positions)
+    → IfSome p (IsRefusal o (merge_set root members))
+known_if_any law o root names members ks positions are at None h = tt
+known_if_any law o root names members ks positions are at (Some p) h = known_blocked law o root names members ks positions are at p h

@@ -1,5 +1,5 @@
 -- Names that are looked at together, and what is known of some of them by that.
-use Rattle.std.specs.Prelude.{◌≡◌, ◌<◌, ℕ, Bool, false, List, Option, None, Contains, length, map, slice_get}
+use Rattle.std.specs.Prelude.{◌≡◌, ◌∷◌, ◌++◌, ◌<◌, ℕ, Bool, false, List, [], Option, None, Contains, cond, length, map, slice_get}
 use Rattle.std.specs.List.{filter_map}
 use Rattle.std.specs.List.Sorted.{IsStrictlySortedBy}
 use Rattle.std.specs.Option.{option_map_or}
@@ -10,9 +10,12 @@ use Rattle.clr_steps.specs.Names.{same_name}
 use Rattle.clr_steps.specs.Offices.{Office}
 use Rattle.clr_clearance.specs.MergeSets.{change_sets, setting_by_position}
 use Rattle.clr_clearance.specs.Verdicts.{member_fault}
-use Rattle.clr_clashes.specs.BrokenNeeds.{AreBrokenNeeds}
 use Rattle.clr_clashes.specs.ListedClashes.{ListedClash, listed_clash_of}
 use Rattle.clr_merge_sets.specs.MergeSetNames.{merge_set}
+use Rattle.clr_clashes.specs.BrokenNeeds.{AreBrokenNeeds, ArePlaces, IsFirstHeld}
+use Rattle.clr_clearance.specs.declared.verdicts.Verdict.TheVariants as verdict
+use Rattle.clr_merge_sets.specs.declared.plans.Plan.{Plan}
+use Rattle.clr_merge_sets.specs.declared.plans.Plan.TheVariants as plan
 use Rattle.clr_choices.specs.declared.looked.Looked.{Looked}
 
 -- no test of the members fails, no cell is changed by two, and these are all needs that they break
@@ -33,3 +36,15 @@ pub record ArePositionsOf (names members : List Name) (positions : List ℕ) : T
 -- the name is the member at a place
 abbrev pub is_member_at : List Name → ℕ → Name → Bool
 is_member_at members at name = option_map_or (λ member. same_name member name) (slice_get members at) false
+
+-- a position behind some, where there is one
+abbrev pub with_position : Bool → List ℕ → ℕ → List ℕ
+with_position there positions at = cond there (positions ++ at ∷ []) positions
+
+-- the plan is blocked by the first of some needs of which positions hold all members that break it, in the order of their places
+abbrev pub IsBlockedAt : List ListedClash → List ℕ → Plan → Type 0
+IsBlockedAt ks positions (plan.Blocked order cause) =
+    (k : ListedClash) × IsFirstHeld ks positions k × ArePlaces positions k.members order.items × (cause ≡ verdict.Uncovered k.need)
+IsBlockedAt ks positions (plan.Unfit v) = ⊥
+IsBlockedAt ks positions (plan.Cleared c) = ⊥
+IsBlockedAt ks positions plan.OutOfMemory = ⊥

@@ -50,8 +50,8 @@ fn copies(alloc: Global, names: &[Words]) -> Result<Vec<Words>, AllocError>
     ensures { IfOk result (λ list. list.items ≡ names.now) }
 {
     let mut list = Vec::with_capacity(alloc, names.len())?;
-    for name in names {
-        list.push(name.copy()?)?;
+    for text in names {
+        list.push(text.copy()?)?;
     }
     Ok(list)
 }
@@ -137,7 +137,8 @@ fn look(
     }
 }
 
-/// Begins with names that are guessed to be taken of those that were looked at, where a plan clears them; and else with nobody, who is cleared by this certificate.
+/// Begins with names that are guessed to be taken of those that were looked at, where a plan clears them; and else with nobody, who is cleared by
+/// this certificate.
 fn begin_with_guessed(
     alloc: Global,
     office: &Office,
@@ -250,7 +251,7 @@ pub fn choose(
         looked,
     } = begin(alloc, office, root, names, nobody)?;
     for name in names {
-        go_on(alloc, office, root, looked.as_ref(), &mut progress, name)?;
+        go_on(alloc, office, root, &looked, &mut progress, name)?;
     }
     end(alloc, office, root, progress)
 }

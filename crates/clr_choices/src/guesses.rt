@@ -129,24 +129,29 @@ pub(crate) fn apart_again(
     parted(alloc, names, chosen.as_slice(), true)
 }
 
+/// Returns whether a position is that of a member which is taken.
+fn is_taken(taken: &[bool], at: usize) -> bool {
+    at < taken.len() && taken[at]
+}
+
 /// Returns whether the member at a position breaks one of the needs with those that are taken.
 fn is_in_the_way(looked: &Looked, taken: &[bool], at: usize) -> bool {
     looked.broken.iter().any(|clash| {
         clash
             .members
             .iter()
-            .all(|member| *member as usize == at || taken.get(*member as usize) == Some(&true))
+            .all(|member| *member as usize == at || is_taken(taken, *member as usize))
     })
 }
 
-/// Guesses which of the names that were looked at are taken: each that breaks no need with those before it.
+/// Guesses which of the names that were looked at are taken: each that breaks no need with those taken before it.
 pub(crate) fn guess(alloc: Global, looked: &Looked) -> Result<Vec<Words>, AllocError> {
     let mut taken = Vec::new(alloc);
     let mut list = Vec::new(alloc);
     for (at, name) in looked.names.iter().enumerate() {
-        let is_taken = !is_in_the_way(looked, taken.as_slice(), at);
-        taken.push(is_taken)?;
-        if is_taken {
+        let is_free = !is_in_the_way(looked, taken.as_slice(), at);
+        taken.push(is_free)?;
+        if is_free {
             list.push(name.copy()?)?;
         }
     }

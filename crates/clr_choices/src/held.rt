@@ -1,11 +1,11 @@
 //! Which of some broken needs members break by themselves, and by which of them.
-ghost use Rattle.std.specs.Prelude.{◌≡◌, ◌<◌, Contains, get_or, length, map, IfOk, IfSome};
+ghost use Rattle.std.specs.Prelude.{◌≡◌, ◌<◌, Contains, get_or, length, map, IfOk, IfSome, OnOk};
 ghost use Rattle.std.specs.List.Sorted.{IsStrictlySortedBy};
 ghost use Rattle.clr_clashes.specs.BrokenNeeds.{ArePlaces, IsFirstHeld};
 ghost use Rattle.clr_clashes.specs.Clashes.{IsAllIn};
 ghost use Rattle.clr_clashes.specs.Keeping.{is_all_in};
 ghost use Rattle.clr_clashes.specs.ListedClashes.{listed_clash_of, listed_cmp};
-ghost use Rattle.clr_choices.specs.Looked.{ArePositionsOf, is_member_at};
+ghost use Rattle.clr_choices.specs.Looked.{ArePositionsOf, is_member_at, with_position};
 
 use clr_clashes::Clash;
 use clr_rows::Words;
@@ -21,7 +21,24 @@ fn is_member_at(members: &[&str], at: usize, name: &Words) -> bool
     }
 }
 
+/// Adds the position of a name, where it is the member at the place that comes next.
+fn add_if_member(
+    members: &[&str],
+    name: &Words,
+    at: usize,
+    positions: &mut Vec<usize>,
+) -> Result<(), AllocError>
+    ensures { OnOk result (positions.new.items
+        ≡ with_position (is_member_at (map (λ member. member.now) members.now) (length positions.old.items) name.now) positions.old.items at) }
+{
+    if is_member_at(members, positions.len(), name) {
+        positions.push(at)?;
+    }
+    Ok(())
+}
+
 /// Returns the positions of members among names, where they stand there in this order.
+#[tactic(auto, using(crate::proofs::Holding::all_found))]
 pub(crate) fn positions_of(
     alloc: Global,
     names: &[Words],
@@ -31,9 +48,7 @@ pub(crate) fn positions_of(
 {
     let mut positions = Vec::new(alloc);
     for at in 0..names.len() {
-        if is_member_at(members, positions.len(), &names[at]) {
-            positions.push(at)?;
-        }
+        add_if_member(members, &names[at], at, &mut positions)?;
     }
     if positions.len() < members.len() {
         return Ok(None);

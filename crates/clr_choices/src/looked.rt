@@ -1,8 +1,9 @@
 //! Names that are looked at together, with all needs that they break. By these it is known of some of them which need they break first, without a plan.
 ghost use Rattle.std.specs.Prelude.{map, IfOk, IfSome};
 ghost use Rattle.clr_merge_sets.specs.MergeSetNames.{merge_set};
-ghost use Rattle.clr_clashes.specs.ListedClashes.{listed_clash_of};
-ghost use Rattle.clr_choices.specs.Looked.{AreLookedAt, IsLookedAt};
+ghost use Rattle.std.specs.List.Sorted.{IsStrictlySortedBy};
+ghost use Rattle.clr_clashes.specs.ListedClashes.{listed_clash_of, listed_cmp};
+ghost use Rattle.clr_choices.specs.Looked.{AreLookedAt, IsBlockedAt, IsLookedAt};
 ghost use Rattle.clr_choices.specs.Trials.{IsRefusal};
 
 use crate::held::{first_held, places_of, positions_of};
@@ -58,6 +59,24 @@ pub(crate) fn look_at(
     }
 }
 
+/// Returns the plan of the members at some positions, where they break one of some needs.
+fn blocked_at(
+    alloc: Global,
+    broken: &[Clash],
+    positions: &[usize],
+) -> Result<Option<Plan>, AllocError>
+    requires { IsStrictlySortedBy listed_cmp (map listed_clash_of broken.now) }
+    ensures { IfOk result (λ blocked. IfSome blocked (IsBlockedAt (map listed_clash_of broken.now) positions.now)) }
+{
+    let Some(clash) = first_held(broken, positions) else {
+        return Ok(None);
+    };
+    let breakers = clash.members.as_slice();
+    let order = places_of(alloc, positions, breakers)?;
+    let cause = Verdict::Uncovered(clash.need);
+    Ok(Some(Plan::Blocked { order, cause }))
+}
+
 /// Returns the plan of members that stand in their order among names which were looked at, where they break a need. Else it returns none.
 pub(crate) fn known_plan(
     alloc: Global,
@@ -72,13 +91,12 @@ pub(crate) fn known_plan(
     parts_break_listed_needs();
     let _office = office;
     let _root = root;
-    let Some(positions) = positions_of(alloc, looked.names.as_slice(), members)? else {
+    let names = looked.names.as_slice();
+    let broken = looked.broken.as_slice();
+    let Some(positions) = positions_of(alloc, names, members)? else {
         return Ok(None);
     };
-    let Some(clash) = first_held(looked.broken.as_slice(), positions.as_slice()) else {
-        return Ok(None);
-    };
-    let order = places_of(alloc, positions.as_slice(), clash.members.as_slice())?;
-    let cause = Verdict::Uncovered(clash.need);
-    Ok(Some(Plan::Blocked { order, cause }))
+    let found = positions.as_slice();
+    let blocked = blocked_at(alloc, broken, found)?;
+    Ok(blocked)
 }

@@ -63,11 +63,11 @@ pub(crate) fn go_on(
     alloc: Global,
     office: &Office,
     root: &str,
-    looked: Option<&Looked>,
+    looked: &Option<Looked>,
     progress: &mut Progress,
     name: &Words,
 ) -> Result<(), AllocError>
-    requires { IfSome looked (λ names. IsLookedAt office.now root.now names.now) }
+    requires { IfSome looked.now (IsLookedAt office.now root.now) }
     ensures { OnOk result ((names : List Name) → IsProgress office.now root.now names progress.old
         → IsProgress office.now root.now (names ++ name.now ∷ []) progress.new) }
 {

@@ -69,10 +69,10 @@ fn plan_of(
     alloc: Global,
     office: &Office,
     root: &str,
-    looked: Option<&Looked>,
+    looked: &Option<Looked>,
     members: &[&str],
 ) -> Result<Plan, AllocError>
-    requires { IfSome looked (λ names. IsLookedAt office.now root.now names.now) }
+    requires { IfSome looked.now (IsLookedAt office.now root.now) }
     ensures { IfOk result (IsPlanOf office.now (merge_set root.now (map (λ name. name.now) members.now))) }
 {
     if let Some(names) = looked {
@@ -88,11 +88,11 @@ fn try_members(
     alloc: Global,
     office: &Office,
     root: &str,
-    looked: Option<&Looked>,
+    looked: &Option<Looked>,
     members: &[&str],
     name: &str,
 ) -> Result<TriedName, AllocError>
-    requires { IfSome looked (λ names. IsLookedAt office.now root.now names.now) }
+    requires { IfSome looked.now (IsLookedAt office.now root.now) }
     ensures { IfOk result (IsTried office.now root.now (map (λ name. name.now) members.now) name.now) }
 {
     match plan_of(alloc, office, root, looked, members)? {
@@ -110,12 +110,12 @@ pub(crate) fn try_name(
     alloc: Global,
     office: &Office,
     root: &str,
-    looked: Option<&Looked>,
+    looked: &Option<Looked>,
     cleared: &[Words],
     count: usize,
     name: &Words,
 ) -> Result<TriedName, AllocError>
-    requires { IfSome looked (λ names. IsLookedAt office.now root.now names.now) }
+    requires { IfSome looked.now (IsLookedAt office.now root.now) }
     ensures { IfOk result (IsTried office.now root.now (take count cleared.now ++ name.now ∷ []) name.now) }
 {
     let members = members_with(alloc, cleared, count, name)?;

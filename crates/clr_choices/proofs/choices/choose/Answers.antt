@@ -9,7 +9,7 @@ use Rattle.clr_choices.proofs.choices.choose.Goals as goal
 pub loop-name-init : goal.loop-name-init
 loop-name-init c =
     subst (λ (names : List Name). IsProgress c.args.office.now c.args.root.now names c.in_ok-progress.progress) (sym (none_first c.args.names.now))
-    c.in_ok-progress.ensures
+    c.in_ok-progress.ensures.progress
 
 pub loop-name-preserved : goal.loop-name-preserved
 loop-name-preserved c =
