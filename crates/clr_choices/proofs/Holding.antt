@@ -152,16 +152,16 @@ module _ (xs : List Clash) (positions : List ℕ) (k : ℕ) (x : Clash) (less : 
 
   pub held_at : (told : Bool) (members : List ℕ) → IsStrictlySortedBy listed_cmp (map listed_clash_of xs) → told ≡ is_all_in members positions
       → members ≡ x.members.items → told ≡ true → NoneHeld (map listed_clash_of xs) positions k → IsFirstHeld (map listed_clash_of xs) positions (listed_clash_of x)
-  held_at told members ascending said same yes none =
+  held_at told members ascending said same holds none =
       subst (IsFirstHeld (map listed_clash_of xs) positions) listed_is
       (first_is_held (map listed_clash_of xs) positions k (listed_clash_of x) listed_less ascending
-      (ap (λ (j : ListedClash). is_all_in j.members positions) listed_is ∙ ap (λ (ms : List ℕ). is_all_in ms positions) (sym same) ∙ sym said ∙ yes) none)
+      (ap (λ (j : ListedClash). is_all_in j.members positions) listed_is ∙ ap (λ (ms : List ℕ). is_all_in ms positions) (sym same) ∙ sym said ∙ holds) none)
 
   pub not_held_at : (told : Bool) (members : List ℕ) → told ≡ is_all_in members positions → members ≡ x.members.items → told ≡ false
       → NoneHeld (map listed_clash_of xs) positions k → NoneHeld (map listed_clash_of xs) positions (k + 1)
-  not_held_at told members said same no none =
+  not_held_at told members said same fails none =
       none_more_held (map listed_clash_of xs) positions k (listed_clash_of x) listed_less
-      (ap (λ (j : ListedClash). is_all_in j.members positions) listed_is ∙ ap (λ (ms : List ℕ). is_all_in ms positions) (sym same) ∙ sym said ∙ no) none
+      (ap (λ (j : ListedClash). is_all_in j.members positions) listed_is ∙ ap (λ (ms : List ℕ). is_all_in ms positions) (sym same) ∙ sym said ∙ fails) none
 
 -- places -----------------------------------------------------------------------------------------------
 

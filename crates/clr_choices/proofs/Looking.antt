@@ -75,7 +75,7 @@ sets_same f names (k ∷ ks) =
 
 blocked_refusal : (o : Office) (s : MergeSet) (order : Vec ℕ Global) (k : ListedClash) → order.items ≡ k.members → member_fault o s ≡ None
     → AreApart (change_sets o s) → IsLeastBroken (setting_by_position o s) k → IsRefusal o s (plan.Blocked order (verdict.Uncovered k.need))
-blocked_refusal o s order k is free apart least = record { planned = planned; uncovered = refl; found = refl }
+blocked_refusal o s order k is free apart least = record { planned = planned; uncleared = refl; found = refl }
   where
     blocked : IsBlocked o s k.members (verdict.Uncovered k.need)
     blocked = of_unpicked k.need free apart (record { touched = least.broken.touched; none = least.broken.none; first = least.first }) least.broken.blockers refl

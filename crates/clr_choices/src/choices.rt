@@ -246,10 +246,11 @@ pub fn choose(
     requires nobody { IsPlanOf office.now (merge_set root.now []) (plan.Cleared nobody) }
     ensures chosen { IfOk result (IsChosen office.now root.now names.now) }
 {
+    let beginning = begin(alloc, office, root, names, nobody)?;
     let Beginning {
         mut progress,
         looked,
-    } = begin(alloc, office, root, names, nobody)?;
+    } = beginning;
     for name in names {
         go_on(alloc, office, root, &looked, &mut progress, name)?;
     }

@@ -8,8 +8,8 @@ use Rattle.clr_choices.proofs.choices.choose.Goals as goal
 
 pub loop-name-init : goal.loop-name-init
 loop-name-init c =
-    subst (λ (names : List Name). IsProgress c.args.office.now c.args.root.now names c.in_ok-progress.progress) (sym (none_first c.args.names.now))
-    c.in_ok-progress.ensures.progress
+    subst (λ (names : List Name). IsProgress c.args.office.now c.args.root.now names c.in_ok-beginning.beginning.progress) (sym (none_first c.args.names.now))
+    c.in_ok-beginning.ensures.progress
 
 pub loop-name-preserved : goal.loop-name-preserved
 loop-name-preserved c =
