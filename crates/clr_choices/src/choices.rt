@@ -233,6 +233,26 @@ fn end(alloc: Global, office: &Office, root: &str, progress: Progress) -> Result
     })
 }
 
+/// Goes through names in their order where nothing is tried yet, by what is known of names that were looked at.
+fn go_through(
+    alloc: Global,
+    office: &Office,
+    root: &str,
+    names: &[Words],
+    looked: &Option<Looked>,
+    begun: Progress,
+) -> Result<Progress, AllocError>
+    requires looked { IfSome looked.now (IsLookedAt office.now root.now) }
+    requires begun { IsProgress office.now root.now [] begun }
+    ensures { IfOk result (IsProgress office.now root.now names.now) }
+{
+    let mut progress = begun;
+    for name in names {
+        go_on(alloc, office, root, looked, &mut progress, name)?;
+    }
+    Ok(progress)
+}
+
 /// Goes through names in their order, and takes each that is clearable with those taken before it; of each other the
 /// lines say `left` and its name, and then why: the plan of those taken before it and of it. Nobody is to be cleared, by
 /// this certificate. It fails only for want of memory.
@@ -247,12 +267,7 @@ pub fn choose(
     ensures chosen { IfOk result (IsChosen office.now root.now names.now) }
 {
     let beginning = begin(alloc, office, root, names, nobody)?;
-    let Beginning {
-        mut progress,
-        looked,
-    } = beginning;
-    for name in names {
-        go_on(alloc, office, root, &looked, &mut progress, name)?;
-    }
-    end(alloc, office, root, progress)
+    let Beginning { progress, looked } = beginning;
+    let tried = go_through(alloc, office, root, names, &looked, progress)?;
+    end(alloc, office, root, tried)
 }
