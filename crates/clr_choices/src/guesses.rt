@@ -137,10 +137,8 @@ fn is_taken(taken: &[bool], at: usize) -> bool {
 /// Returns whether the member at a position breaks one of the needs with those that are taken.
 fn is_in_the_way(looked: &Looked, taken: &[bool], at: usize) -> bool {
     looked.broken.iter().any(|clash| {
-        clash
-            .members
-            .iter()
-            .all(|member| *member as usize == at || is_taken(taken, *member as usize))
+        clash.members.iter().all(|member| *member as usize == at
+            || is_taken(taken, *member as usize))
     })
 }
 

@@ -46,33 +46,60 @@ module _ (test : VersionId → Bool) where
 
   module _ (i : VersionId) (ids : List VersionId) where
     passed_by : test i ≡ false → HasLeast ids → HasLeast (i ∷ ids)
-    passed_by fails (None, none) = (None, λ v h passes. elim h [
-      | inl same ↦ false≢true (sym fails ∙ ap test same ∙ passes)
-      | inr more ↦ none v more passes
-    ])
-    passed_by fails (Some u, (is, least)) = (Some u, (is, λ w h passes less. elim h [
-      | inl same ↦ false≢true (sym fails ∙ ap test same ∙ passes)
-      | inr more ↦ least w more passes less
-    ]))
+    passed_by fails (None, none) = (
+      None,
+      λ v h passes. elim h [
+        | inl same ↦ false≢true (sym fails ∙ ap test same ∙ passes)
+        | inr more ↦ none v more passes
+      ],
+    )
+    passed_by fails (Some u, (is, least)) = (
+      Some u,
+      (
+        is,
+        λ w h passes less. elim h [
+          | inl same ↦ false≢true (sym fails ∙ ap test same ∙ passes)
+          | inr more ↦ least w more passes less
+        ],
+      ),
+    )
 
     beside : test i ≡ true → HasLeast ids → HasLeast (i ∷ ids)
-    beside passes (None, none) = (Some i, (passes, λ w h others less. elim h [
-      | inl same ↦ not_itself version_total w (subst (λ u. version_cmp w u ≡ Less) same less)
-      | inr more ↦ none w more others
-    ]))
+    beside passes (None, none) = (
+      Some i,
+      (
+        passes,
+        λ w h others less. elim h [
+          | inl same ↦ not_itself version_total w (subst (λ u. version_cmp w u ≡ Less) same less)
+          | inr more ↦ none w more others
+        ],
+      ),
+    )
     beside passes (Some u, (is, least)) = by (version_cmp i u) refl
       where
         before : version_cmp i u ≡ Less → HasLeast (i ∷ ids)
-        before first = (Some i, (passes, λ w h others less. elim h [
-          | inl same ↦ not_itself version_total w (subst (λ x. version_cmp w x ≡ Less) same less)
-          | inr more ↦ least w more others (version_total.trans w i u less first)
-        ]))
+        before first = (
+          Some i,
+          (
+            passes,
+            λ w h others less. elim h [
+              | inl same ↦ not_itself version_total w (subst (λ x. version_cmp w x ≡ Less) same less)
+              | inr more ↦ least w more others (version_total.trans w i u less first)
+            ],
+          ),
+        )
 
         behind : ¬ (version_cmp i u ≡ Less) → HasLeast (i ∷ ids)
-        behind later = (Some u, (is, λ w h others less. elim h [
-          | inl same ↦ later (subst (λ x. version_cmp x u ≡ Less) (sym same) less)
-          | inr more ↦ least w more others less
-        ]))
+        behind later = (
+          Some u,
+          (
+            is,
+            λ w h others less. elim h [
+              | inl same ↦ later (subst (λ x. version_cmp x u ≡ Less) (sym same) less)
+              | inr more ↦ least w more others less
+            ],
+          ),
+        )
 
         by : (o : Ordering) → version_cmp i u ≡ o → HasLeast (i ∷ ids)
         by Less e = before e
@@ -232,6 +259,8 @@ module _ (rules : List Rule) (root : Content) (sets : List Changes) where
 
   pub pick_there : (n : Need) → IsPossibleNeed c n → (pick : Option (VersionId × Option VersionId)) × Picks c n pick
   pick_there n (a, b, possible) =
-      let (pick, is) = pick_here n a b possible in
-      (pick, λ x y other. (let once = subjects_once c n x a y b other possible in
-          subst (λ d. IsPick c n x d pick) once.1 (subst (λ l. IsPick c n l b pick) once.0 is)))
+      let (pick, is) = pick_here n a b possible in (
+        pick,
+        λ x y other. (let once = subjects_once c n x a y b other possible in
+            subst (λ d. IsPick c n x d pick) once.1 (subst (λ l. IsPick c n l b pick) once.0 is)),
+      )

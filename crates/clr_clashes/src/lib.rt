@@ -20,7 +20,5 @@ mod laws;
 mod listing;
 
 pub use breaking::broken_needs;
-pub use laws::{
-    clashes_decide_subsets, listed_clashes_decide_subsets, parts_break_listed_needs,
-};
+pub use laws::{clashes_decide_subsets, listed_clashes_decide_subsets, parts_break_listed_needs};
 pub use listing::{Clash, clashes};
