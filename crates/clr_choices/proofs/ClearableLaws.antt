@@ -76,7 +76,7 @@ module _ (o : Office) (s : MergeSet) (names : List Name)
       subst (λ (view : View). BreaksNoMore o.book view (rows_with o (merge_set s.root names) more)) (same_view fewer)
       (subst (BreaksNoMore o.book (rows_with o s fewer)) (same_view more) (no_more fewer more part (λ name h. among_all name (within name h))))
 
-  part_mergeable : AllDiffer names → AreMergeable o s → AreMergeable o (merge_set s.root names)
+  pub part_mergeable : AllDiffer names → AreMergeable o s → AreMergeable o (merge_set s.root names)
   unfolding is_root
   part_mergeable differ all = record {
     kept = all.kept;

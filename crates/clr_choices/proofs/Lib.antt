@@ -1,2 +1,4 @@
 mod ClearableLaws
+mod Holding
+mod Looking
 mod Trying

@@ -1,4 +1,5 @@
 pub mod ChoiceLines
 pub mod Clearable
+pub mod Looked
 pub mod Progress
 pub mod Trials

@@ -4,9 +4,11 @@ ghost use Rattle.clr_workspaces.specs.Marks.{Name};
 ghost use Rattle.clr_merge_sets.specs.MergeSetNames.{merge_set};
 ghost use Rattle.clr_merge_sets.specs.declared.plans.Plan.TheVariants as plan;
 ghost use Rattle.clr_choices.specs.Clearable.{IsPlanOf};
+ghost use Rattle.clr_choices.specs.Looked.{IsLookedAt};
 ghost use Rattle.clr_choices.specs.Progress.{IsChosen, IsProgress};
 
-use crate::guesses::{fitting, guess};
+use crate::guesses::{apart, apart_again, fitting, guess};
+use crate::looked::{Looked, look_at};
 use crate::progress::{Progress, go_on};
 use crate::trials::plan_members;
 use clr_cert::Certificate;
@@ -43,6 +45,17 @@ fn none_taken(alloc: Global, cleared: Vec<Words>, certificate: Certificate) -> P
     }
 }
 
+/// Returns copies of names.
+fn copies(alloc: Global, names: &[Words]) -> Result<Vec<Words>, AllocError>
+    ensures { IfOk result (λ list. list.items ≡ names.now) }
+{
+    let mut list = Vec::with_capacity(alloc, names.len())?;
+    for text in names {
+        list.push(text.copy()?)?;
+    }
+    Ok(list)
+}
+
 /// Returns the plan of names.
 fn plan_names(
     alloc: Global,
@@ -61,17 +74,89 @@ fn begin_with(
     alloc: Global,
     office: &Office,
     root: &str,
-    names: Vec<Words>,
+    names: &[Words],
 ) -> Result<Option<Progress>, AllocError>
     ensures { IfOk result (λ progress. IfSome progress (IsProgress office.now root.now [])) }
 {
-    match plan_names(alloc, office, root, names.as_slice())? {
-        Plan::Cleared(certificate) => Ok(Some(none_taken(alloc, names, certificate))),
+    match plan_names(alloc, office, root, names)? {
+        Plan::Cleared(certificate) => {
+            let cleared = copies(alloc, names)?;
+            Ok(Some(none_taken(alloc, cleared, certificate)))
+        }
         _ => Ok(None),
     }
 }
 
-/// Begins with all names that fit, where a plan clears them; else with those that are guessed to be taken, where a
+/// How a choice begins: names that are cleared together, and names that were looked at together, if any were.
+#[derive(Drop)]
+struct Beginning {
+    progress: Progress,
+    looked: Option<Looked>,
+}
+
+/// Looks at names once more where others are guessed to be taken of those that were looked at: at these, and beside them at as many as can be
+/// of the names that weren't. It answers what was looked at before where there are none of these.
+fn look_again(
+    alloc: Global,
+    office: &Office,
+    root: &str,
+    names: &[Words],
+    looked: Looked,
+) -> Result<Option<Looked>, AllocError>
+    requires { IsLookedAt office.now root.now looked }
+    ensures { IfOk result (λ found. IfSome found (IsLookedAt office.now root.now)) }
+{
+    if looked.names.len() >= names.len() {
+        return Ok(Some(looked));
+    }
+    let guessed = guess(alloc, &looked)?;
+    let again = apart_again(
+        alloc,
+        office,
+        root,
+        names,
+        looked.names.as_slice(),
+        guessed.as_slice(),
+    )?;
+    look_at(alloc, office, root, again)
+}
+
+/// Looks together at as many of some names as can be.
+fn look(
+    alloc: Global,
+    office: &Office,
+    root: &str,
+    names: &[Words],
+) -> Result<Option<Looked>, AllocError>
+    ensures { IfOk result (λ found. IfSome found (IsLookedAt office.now root.now)) }
+{
+    let first = apart(alloc, office, root, names)?;
+    match look_at(alloc, office, root, first)? {
+        Some(looked) => look_again(alloc, office, root, names, looked),
+        None => Ok(None),
+    }
+}
+
+/// Begins with names that are guessed to be taken of those that were looked at, where a plan clears them; and else with nobody, who is cleared by
+/// this certificate.
+fn begin_with_guessed(
+    alloc: Global,
+    office: &Office,
+    root: &str,
+    looked: &Looked,
+    nobody: Certificate,
+) -> Result<Progress, AllocError>
+    requires { IsPlanOf office.now (merge_set root.now []) (plan.Cleared nobody) }
+    ensures { IfOk result (IsProgress office.now root.now []) }
+{
+    let guessed = guess(alloc, looked)?;
+    match begin_with(alloc, office, root, guessed.as_slice())? {
+        Some(progress) => Ok(progress),
+        None => Ok(none_taken(alloc, Vec::new(alloc), nobody)),
+    }
+}
+
+/// Begins with all names that fit, where a plan clears them; else it looks at them, and begins with those that are guessed to be taken, where a
 /// plan clears these; and else with nobody, who is cleared by this certificate.
 fn begin(
     alloc: Global,
@@ -79,19 +164,28 @@ fn begin(
     root: &str,
     names: &[Words],
     nobody: Certificate,
-) -> Result<Progress, AllocError>
+) -> Result<Beginning, AllocError>
     requires { IsPlanOf office.now (merge_set root.now []) (plan.Cleared nobody) }
-    ensures { IfOk result (IsProgress office.now root.now []) }
+    ensures progress { IfOk result (λ beginning. IsProgress office.now root.now [] beginning.progress) }
+    ensures looked { IfOk result (λ beginning. IfSome beginning.looked (IsLookedAt office.now root.now)) }
 {
     let all = fitting(alloc, office, root, names)?;
-    if let Some(progress) = begin_with(alloc, office, root, all)? {
-        return Ok(progress);
+    if let Some(progress) = begin_with(alloc, office, root, all.as_slice())? {
+        return Ok(Beginning {
+            progress,
+            looked: None,
+        });
     }
-    let guessed = guess(alloc, office, root, names)?;
-    if let Some(progress) = begin_with(alloc, office, root, guessed)? {
-        return Ok(progress);
+    match look(alloc, office, root, all.as_slice())? {
+        Some(looked) => Ok(Beginning {
+            progress: begin_with_guessed(alloc, office, root, &looked, nobody)?,
+            looked: Some(looked),
+        }),
+        None => Ok(Beginning {
+            progress: none_taken(alloc, Vec::new(alloc), nobody),
+            looked: None,
+        }),
     }
-    Ok(none_taken(alloc, Vec::new(alloc), nobody))
 }
 
 /// Returns the certificate of names that are taken. They are cleared together, so that it fails only for want of memory.
@@ -139,6 +233,26 @@ fn end(alloc: Global, office: &Office, root: &str, progress: Progress) -> Result
     })
 }
 
+/// Goes through names in their order where nothing is tried yet, by what is known of names that were looked at.
+fn go_through(
+    alloc: Global,
+    office: &Office,
+    root: &str,
+    names: &[Words],
+    looked: &Option<Looked>,
+    begun: Progress,
+) -> Result<Progress, AllocError>
+    requires looked { IfSome looked.now (IsLookedAt office.now root.now) }
+    requires begun { IsProgress office.now root.now [] begun }
+    ensures { IfOk result (IsProgress office.now root.now names.now) }
+{
+    let mut progress = begun;
+    for name in names {
+        go_on(alloc, office, root, looked, &mut progress, name)?;
+    }
+    Ok(progress)
+}
+
 /// Goes through names in their order, and takes each that is clearable with those taken before it; of each other the
 /// lines say `left` and its name, and then why: the plan of those taken before it and of it. Nobody is to be cleared, by
 /// this certificate. It fails only for want of memory.
@@ -152,9 +266,8 @@ pub fn choose(
     requires nobody { IsPlanOf office.now (merge_set root.now []) (plan.Cleared nobody) }
     ensures chosen { IfOk result (IsChosen office.now root.now names.now) }
 {
-    let mut progress = begin(alloc, office, root, names, nobody)?;
-    for name in names {
-        go_on(alloc, office, root, &mut progress, name)?;
-    }
-    end(alloc, office, root, progress)
+    let beginning = begin(alloc, office, root, names, nobody)?;
+    let Beginning { progress, looked } = beginning;
+    let tried = go_through(alloc, office, root, names, &looked, progress)?;
+    end(alloc, office, root, tried)
 }

@@ -4,16 +4,20 @@
 //!   all, and of each other the lines of a plan. A name is taken where the members taken before it and it are
 //!   clearable (`AreClearable`), and left where a plan of them isn't cleared. Want of memory is the only failure.
 //! - `plan_members`: the plan of members, with what it promises (`IsPlanOf`).
-//! - Which names are taken is guessed by the sets that `merge_clashes` lists of all of them. One plan of those guessed
-//!   shows that they are cleared together, and so that each of them is cleared with those before it; of
-//!   each other name there is one plan. Where the guess is wrong, each name that follows is planned.
+//! - Which names are taken is guessed. Where a plan clears all that fit, it is all of them. Else they are looked at together: one pass over the
+//!   needs that they touch lists all that they break, each with those that break it. One plan of those that break none shows that they are cleared
+//!   together, and so that each of them is cleared with those before it. Of each other name the same list says which need it breaks first
+//!   with those taken before it, and who breaks it: that is its plan (`parts_break_listed_needs`). Only names that aren't looked at, since they are in
+//!   conflict or change a cell that another one changes, are planned. Where the guess is wrong, each name that follows is.
 //! - `plans_tell_clearable`: a plan for which memory was found is cleared exactly where its members are clearable.
 //! - `parts_stay_clearable`: some of the members that are clearable are clearable too.
 #![tactic(auto)]
 
 mod choices;
 mod guesses;
+mod held;
 mod laws;
+mod looked;
 mod progress;
 mod trials;
 

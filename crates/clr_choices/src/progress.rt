@@ -1,8 +1,10 @@
 //! How far names are gone through.
-ghost use Rattle.std.specs.Prelude.{◌∷◌, ◌++◌, [], List, OnOk};
+ghost use Rattle.std.specs.Prelude.{◌∷◌, ◌++◌, [], List, IfSome, OnOk};
 ghost use Rattle.clr_workspaces.specs.Marks.{Name};
+ghost use Rattle.clr_choices.specs.Looked.{IsLookedAt};
 ghost use Rattle.clr_choices.specs.Progress.{IsAdded, IsFollowed, IsProgress};
 
+use crate::looked::Looked;
 use crate::trials::{TriedName, try_name};
 use clr_cert::Certificate;
 use clr_engine::Office;
@@ -55,14 +57,17 @@ impl Progress {
     }
 }
 
-/// Goes on by one more name: it is taken where it is the next of those that are cleared together, and tried otherwise.
+/// Goes on by one more name: it is taken where it is the next of those that are cleared together, and tried otherwise, by
+/// what is known of names that were looked at.
 pub(crate) fn go_on(
     alloc: Global,
     office: &Office,
     root: &str,
+    looked: &Option<Looked>,
     progress: &mut Progress,
     name: &Words,
 ) -> Result<(), AllocError>
+    requires { IfSome looked.now (IsLookedAt office.now root.now) }
     ensures { OnOk result ((names : List Name) → IsProgress office.now root.now names progress.old
         → IsProgress office.now root.now (names ++ name.now ∷ []) progress.new) }
 {
@@ -73,6 +78,7 @@ pub(crate) fn go_on(
         alloc,
         office,
         root,
+        looked,
         progress.cleared.as_slice(),
         progress.count,
         name,

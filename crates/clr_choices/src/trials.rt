@@ -1,10 +1,12 @@
 //! One more name beside those that are taken.
-ghost use Rattle.std.specs.Prelude.{◌≡◌, ◌∷◌, [], ◌++◌, map, take, IfOk};
+ghost use Rattle.std.specs.Prelude.{◌≡◌, ◌∷◌, [], ◌++◌, map, take, IfOk, IfSome};
 ghost use Rattle.clr_merge_sets.specs.MergeSetNames.{merge_set};
 ghost use Rattle.clr_choices.specs.ChoiceLines.{refusal_text};
 ghost use Rattle.clr_choices.specs.Clearable.{IsPlanOf};
+ghost use Rattle.clr_choices.specs.Looked.{IsLookedAt};
 ghost use Rattle.clr_choices.specs.Progress.{IsTried};
 
+use crate::looked::{Looked, known_plan};
 use clr_cert::Certificate;
 use clr_engine::Office;
 use clr_merge_sets::texts_of_names;
@@ -62,17 +64,38 @@ fn refusal_lines(
     Ok(lines)
 }
 
+/// Returns the plan of members: what is known of it by names that were looked at, or else what is planned.
+fn plan_of(
+    alloc: Global,
+    office: &Office,
+    root: &str,
+    looked: &Option<Looked>,
+    members: &[&str],
+) -> Result<Plan, AllocError>
+    requires { IfSome looked.now (IsLookedAt office.now root.now) }
+    ensures { IfOk result (IsPlanOf office.now (merge_set root.now (map (λ name. name.now) members.now))) }
+{
+    if let Some(names) = looked {
+        if let Some(plan) = known_plan(alloc, office, root, names, members)? {
+            return Ok(plan);
+        }
+    }
+    Ok(plan_members(alloc, office, root, members))
+}
+
 /// Tries members, of which the last is a name that is tried. Where the plan has no memory, this call fails too.
 fn try_members(
     alloc: Global,
     office: &Office,
     root: &str,
+    looked: &Option<Looked>,
     members: &[&str],
     name: &str,
 ) -> Result<TriedName, AllocError>
+    requires { IfSome looked.now (IsLookedAt office.now root.now) }
     ensures { IfOk result (IsTried office.now root.now (map (λ name. name.now) members.now) name.now) }
 {
-    match plan_members(alloc, office, root, members) {
+    match plan_of(alloc, office, root, looked, members)? {
         Plan::Cleared(certificate) => Ok(TriedName::Taken(certificate)),
         Plan::OutOfMemory => Err(AllocError),
         plan => {
@@ -82,17 +105,26 @@ fn try_members(
     }
 }
 
-/// Tries one more name with the first of some names.
+/// Tries one more name with the first of some names. What is known by names that were looked at isn't planned.
 pub(crate) fn try_name(
     alloc: Global,
     office: &Office,
     root: &str,
+    looked: &Option<Looked>,
     cleared: &[Words],
     count: usize,
     name: &Words,
 ) -> Result<TriedName, AllocError>
+    requires { IfSome looked.now (IsLookedAt office.now root.now) }
     ensures { IfOk result (IsTried office.now root.now (take count cleared.now ++ name.now ∷ []) name.now) }
 {
     let members = members_with(alloc, cleared, count, name)?;
-    try_members(alloc, office, root, members.as_slice(), name.as_str())
+    try_members(
+        alloc,
+        office,
+        root,
+        looked,
+        members.as_slice(),
+        name.as_str(),
+    )
 }

@@ -40,7 +40,7 @@ module _ (rules : List Rule) (root : Content) (sets : List Changes) where
       next : k + 1 ≡ suc k
       next = omega arith
 
-  listed : (n : Need) → ((list : List ℕ) → Blocks c n list → ⊥) → ⊥
+  pub listed : (n : Need) → ((list : List ℕ) → Blocks c n list → ⊥) → ⊥
   listed n none = listed_to n (length sets) (λ list are. none list (all_block rules root sets n (length sets) list (omega arith) are))
 
   rises : (list : List ℕ) → IsClash c list → IsStrictlySortedBy nat_cmp list

@@ -36,7 +36,7 @@ module _ (c : Setting ℕ) (n : Need) (a : Lived ℕ) (b : Option (Lived ℕ)) w
       by (Without x) (With y) e f same = (x, ((v, (pair.0, pair.2, e)), (w, (pair.1, pair.3, f ∙ ap With (sym same)))))
       by _ _ e f same = absurd same
 
-  unpicked_uncovered : IsPossible c n a b → IsPick c n a b None → IsUncovered c n a b
+  pub unpicked_uncovered : IsPossible c n a b → IsPick c n a b None → IsUncovered c n a b
   unpicked_uncovered possible pick = record {
     possible = possible;
     not_alone = pick.0;
@@ -44,11 +44,11 @@ module _ (c : Setting ℕ) (n : Need) (a : Lived ℕ) (b : Option (Lived ℕ)) w
   }
 
   -- witnesses of one member cover together
-  opposed_pair : (x : ℕ) (v w : VersionId) → ServesAs c n a b (Without x) v → ServesAs c n a b (With x) w → CoverTogether c n a b v w
+  pub opposed_pair : (x : ℕ) (v w : VersionId) → ServesAs c n a b (Without x) v → ServesAs c n a b (With x) w → CoverTogether c n a b v w
   opposed_pair x v w old new =
       (old.0, new.0, old.1, new.1, subst (λ l. AreOpposed old.0.life l) (sym new.2) (subst (λ l. AreOpposed l (With x)) (sym old.2) refl))
 
-  picked_covered : (p : VersionId × Option VersionId) → IsPick c n a b (Some p) → ¬ (IsUncovered c n a b)
+  pub picked_covered : (p : VersionId × Option VersionId) → IsPick c n a b (Some p) → ¬ (IsUncovered c n a b)
   picked_covered (v, None) pick uncovered = uncovered.not_alone v pick.0
   picked_covered (v, Some w) pick uncovered = uncovered.not_together v w (opposed_pair pick.1.0 v w pick.1.3.0 pick.1.4.0)
 
@@ -62,7 +62,7 @@ same_need m n first second = by (need_cmp m n) refl
     by Greater e = absurd (second (need_total.antisymm n m ∙ ap ordering_reverse e))
 
 -- the needs before a position come before the need that stands there
-earlier : (xs : List Need) (k : ℕ) (d m : Need) → k < length xs → IsStrictlySortedBy need_cmp xs → Among m (take k xs) → need_cmp m (get_or xs k d) ≡ Less
+pub earlier : (xs : List Need) (k : ℕ) (d m : Need) → k < length xs → IsStrictlySortedBy need_cmp xs → Among m (take k xs) → need_cmp m (get_or xs k d) ≡ Less
 unfolding IsStrictlySortedBy
 earlier [] k d m less rises h = absurd (omega (arith, less))
 earlier (x ∷ xs) zero d m less rises h = absurd h

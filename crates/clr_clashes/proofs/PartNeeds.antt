@@ -35,11 +35,11 @@ module _ {A B : Type 0} (c : Setting B) (d : Setting A) (stands : A → B → Ty
   always_up (Without y) h kept = absurd (h (kept y refl))
   always_up (With y) h kept = absurd h
 
-  with_up : (x : A) (m : Lifetime B) → IsLifeIn stands (With x) m → (y : B) × (m ≡ With y) × stands x y
+  pub with_up : (x : A) (m : Lifetime B) → IsLifeIn stands (With x) m → (y : B) × (m ≡ With y) × stands x y
   with_up x (With y) h = (y, refl, h)
   with_up x _ h = absurd h
 
-  without_up : (x : A) (m : Lifetime B) → IsLifeIn stands (Without x) m → (y : B) × (m ≡ Without y) × stands x y
+  pub without_up : (x : A) (m : Lifetime B) → IsLifeIn stands (Without x) m → (y : B) × (m ≡ Without y) × stands x y
   without_up x (Without y) h = (y, refl, h)
   without_up x _ h = absurd h
 
@@ -59,11 +59,11 @@ module _ {A B : Type 0} (c : Setting B) (d : Setting A) (stands : A → B → Ty
   always_down Always h = refl
   always_down _ h = absurd h
 
-  with_down : (l : Lifetime A) (y : B) → IsLifeIn stands l (With y) → (x : A) × (l ≡ With x) × stands x y
+  pub with_down : (l : Lifetime A) (y : B) → IsLifeIn stands l (With y) → (x : A) × (l ≡ With x) × stands x y
   with_down (With x) y h = (x, refl, h)
   with_down _ y h = absurd h
 
-  without_down : (l : Lifetime A) (y : B) → IsLifeIn stands l (Without y) → ((l ≡ Always) × ¬ (IsInside stands y)) ⊎ ((x : A) × (l ≡ Without x) × stands x y)
+  pub without_down : (l : Lifetime A) (y : B) → IsLifeIn stands l (Without y) → ((l ≡ Always) × ¬ (IsInside stands y)) ⊎ ((x : A) × (l ≡ Without x) × stands x y)
   without_down Always y h = inl (refl, h)
   without_down (Without x) y h = inr (x, refl, h)
   without_down (With x) y h = absurd h
@@ -118,14 +118,14 @@ module _ {A B : Type 0} (c : Setting B) (d : Setting A) (stands : A → B → Ty
     same_serves v l m row = λ i. serves (part.rules i) (ask_of n) (same_held n.first p a first.row i) (same_second n.second q b second i)
         (same_held v l m row i)
 
-    up_serves : (v : VersionId) (l : Lived A) → Serves d n p q v l → (m : Lived B) × Serves c n a b v m × IsVersionIn stands l m
+    pub up_serves : (v : VersionId) (l : Lived A) → Serves d n p q v l → (m : Lived B) × Serves c n a b v m × IsVersionIn stands l m
     up_serves v l serve = by (version c v) refl (subst (λ o. IsVersionOfPart stands o (version c v)) serve.is (part.versions v))
       where
         by : (o : Option (Lived B)) → version c v ≡ o → IsVersionOfPart stands (Some l) o → (m : Lived B) × Serves c n a b v m × IsVersionIn stands l m
         by None is h = absurd h
         by (Some m) is h = (m, record { is = is; it_serves = sym (same_serves v l m h.row) ∙ serve.it_serves }, h)
 
-    down_serves : (v : VersionId) (m : Lived B) → Serves c n a b v m → ¬ (IsHidden stands m.life) → (l : Lived A) × Serves d n p q v l × IsVersionIn stands l m
+    pub down_serves : (v : VersionId) (m : Lived B) → Serves c n a b v m → ¬ (IsHidden stands m.life) → (l : Lived A) × Serves d n p q v l × IsVersionIn stands l m
     down_serves v m serve seen = let (l, is, same) = shown v m serve.is seen in (
       l,
       record {

@@ -1,3 +1,4 @@
+pub mod BrokenNeeds
 pub mod Clashes
 pub mod Keeping
 pub mod Laws

@@ -1,5 +1,4 @@
-use Rattle.std.proofs.Common.{List, subst}
-use Rattle.clr_workspaces.specs.Marks.{Name}
+use Rattle.std.proofs.Common.{◌∙◌, subst}
 use Rattle.clr_merge_sets.specs.MergeSetNames.{merge_set}
 use Rattle.clr_merge_sets.specs.declared.plans.Plan.{Plan}
 use Rattle.clr_choices.specs.Clearable.{IsPlanOf}
@@ -11,7 +10,6 @@ returns-in-Cleared c =
     let o = c.args.office.now in
     let root = c.args.root.now in
     let is = c.none_taken.ensures in
-    let planned = subst (λ (names : List Name). IsPlanOf o (merge_set root names) c.in_ok-certificate.field-0) c.as_slice.ensures.value
-    c.in_ok-certificate.ensures in
-    begun_with o root c.none_taken.result c.args.names.items c.in-Cleared.certificate is.cleared is.certificate is.count is.left is.is_any_left
-    (subst (λ (p : Plan). IsPlanOf o (merge_set root c.args.names.items) p) c.in-Cleared.is planned)
+    begun_with o root c.none_taken.result c.args.names.now c.in-Cleared.certificate (is.cleared ∙ c.in_ok-cleared-in-Cleared.ensures) is.certificate
+    is.count is.left is.is_any_left
+    (subst (λ (p : Plan). IsPlanOf o (merge_set root c.args.names.now) p) c.in-Cleared.is c.in_ok-certificate.ensures)

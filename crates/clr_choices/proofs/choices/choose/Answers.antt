@@ -1,24 +1,5 @@
-use Rattle.std.proofs.Common.{List, subst, sym, take}
-use Rattle.std.proofs.lemmas.List.{take_all}
 use Rattle.std.proofs.lemmas.Result.{IfOk-weaker}
-use Rattle.clr_workspaces.specs.Marks.{Name}
-use Rattle.clr_choices.specs.Progress.{IsProgress}
-use Rattle.clr_choices.proofs.Trying.{none_first, one_more_name}
 use Rattle.clr_choices.proofs.choices.choose.Goals as goal
 
-pub loop-name-init : goal.loop-name-init
-loop-name-init c =
-    subst (λ (names : List Name). IsProgress c.args.office.now c.args.root.now names c.in_ok-progress.progress) (sym (none_first c.args.names.now))
-    c.in_ok-progress.ensures
-
-pub loop-name-preserved : goal.loop-name-preserved
-loop-name-preserved c =
-    subst (λ (names : List Name). IsProgress c.args.office.now c.args.root.now names c.go_on.new.progress)
-    (sym (one_more_name c.args.names.now c.loop-name.name-index c.name-item.result c.loop-name-test.true c.name-item.is))
-    (c.in_ok-go_on.ensures (take c.loop-name.name-index c.args.names.now) c.loop-name.invariant)
-
 pub returns : goal.returns
-returns c =
-    let so_far = subst (λ (names : List Name). IsProgress c.args.office.now c.args.root.now names c.loop-name.progress)
-    (take_all c.loop-name.name-index c.args.names.now c.loop-name-test.false) c.loop-name.invariant in
-    record { chosen = IfOk-weaker c.end.result _ _ (λ choice made. made c.args.names.now so_far) c.end.ensures }
+returns c = record { chosen = IfOk-weaker c.end.result _ _ (λ choice made. made c.args.names.now c.in_ok-tried.ensures) c.end.ensures }

@@ -1,6 +1,6 @@
 use Rattle.std.proofs.Common.{take}
 use Rattle.clr_choices.specs.Progress.{IsProgress}
-use Rattle.clr_choices.proofs.choices.choose.Given as goal
+use Rattle.clr_choices.proofs.choices.go_through.Given as goal
 
 -- the names so far are tried
 abbrev pub invariant-loop-name : goal.invariant-loop-name
