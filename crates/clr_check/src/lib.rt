@@ -38,9 +38,11 @@ mod checked;
 mod checks;
 mod covers;
 mod entries;
+mod lives;
 mod quiet;
 mod runs;
 mod text_checks;
+mod turns;
 
 pub use cases::{CaseFault, read_case};
 pub use checked::Checked;

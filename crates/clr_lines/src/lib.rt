@@ -26,4 +26,4 @@ pub use report_lines::{
 };
 pub use row_fields::{add_cell_fields, add_row_fields};
 pub use row_lines::rows_lines;
-pub use verdict_lines::{unfit_line, verdict_line};
+pub use verdict_lines::{unfit_line, verdict_line, verdict_line_in_turn};
