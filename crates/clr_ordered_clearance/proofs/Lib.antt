@@ -1,4 +1,5 @@
 pub mod AnswersInTurn
+pub mod ClearedLemmas
 pub mod HeadlineLemmas
 pub mod LastingLemmas
 pub mod ListedLemmas
@@ -7,5 +8,7 @@ pub mod OrderLemmas
 pub mod Prefixes
 pub mod RunLemmas
 pub mod SafeLemmas
+pub mod SettledLemmas
 pub mod Standing
 pub mod TurnLemmas
+pub mod VerdictLemmas

@@ -36,10 +36,10 @@ module _ (o : Office) (merge_set : MergeSet) where
   none_goes (Some m) None = refl
   none_goes (Some m) (Some n) = refl
 
-  no_order_is : position_goes_before (without_order merge_set) ≡ no_order
+  pub no_order_is : position_goes_before (without_order merge_set) ≡ no_order
   no_order_is = λ i j k. none_goes (slice_get merge_set.members j) (slice_get merge_set.members k) i
 
-  alike : (entries : List Entry) → AreCovered (position_goes_before (without_order merge_set)) (setting_by_position o merge_set) entries
+  pub alike : (entries : List Entry) → AreCovered (position_goes_before (without_order merge_set)) (setting_by_position o merge_set) entries
       ↔ unordered.AreCovered (setting_by_position o merge_set) entries
   alike entries = subst (λ (before : Order ℕ). AreCovered before (setting_by_position o merge_set) entries
       ↔ unordered.AreCovered (setting_by_position o merge_set) entries) (sym no_order_is)
