@@ -2,4 +2,5 @@ pub mod AnswerLemmas
 pub mod CoverLemmas
 pub mod EntryLemmas
 pub mod JudgeLemmas
+pub mod LifeLemmas
 pub mod Said

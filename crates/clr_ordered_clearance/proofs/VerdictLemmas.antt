@@ -83,6 +83,20 @@ module _ (o : Office) (ordered : OrderedMergeSet) where
       (both_none (repeated_member merge_set) (option_or (misplaced_pair ordered) workspaces) repeated.0
       (both_none (misplaced_pair ordered) workspaces well repeated.1))) both.1
 
+  -- behind the tests of names the tests of members are those of the merge set
+  pub same_member_fault : names_fault_in_turn o ordered ≡ None → member_fault_in_turn o ordered ≡ member_fault o merge_set
+  unfolding names_fault names_fault_in_turn
+  same_member_fault none =
+      let root = neither (root_fault o merge_set) (option_or (repeated_member merge_set) (option_or (misplaced_pair ordered) workspaces)) none in
+      let repeated = neither (repeated_member merge_set) (option_or (misplaced_pair ordered) workspaces) root.1 in
+      let misplaced = neither (misplaced_pair ordered) workspaces repeated.1 in
+      let named : names_fault o merge_set ≡ None = both_none (root_fault o merge_set) (option_or (repeated_member merge_set) workspaces) root.0
+      (both_none (repeated_member merge_set) workspaces repeated.0 misplaced.1) in
+      ap (λ r. option_or r (first_conflict o 0 merge_set.members)) (none ∙ sym named)
+
+  pub names_first : (v : Verdict) → names_fault_in_turn o ordered ≡ Some v → member_fault_in_turn o ordered ≡ Some v
+  names_first v e = ap (λ r. option_or r (first_conflict o 0 merge_set.members)) e
+
   misplaced_or_other : (v : Verdict) → member_fault_in_turn o ordered ≡ Some v → (misplaced_pair ordered ≡ Some v) ⊎ (member_fault o merge_set ≡ Some v)
   unfolding names_fault names_fault_in_turn
   misplaced_or_other v =
@@ -148,6 +162,14 @@ clear_in_turn o ordered entries = (
   λ (covers, listed). of_none (none_in_turn o ordered (no_member_fault o ordered.merge_set covers.mergeable) (of_listed ordered listed))
       (apart_sets o ordered.merge_set covers.mergeable) covers.covered refl,
 )
+
+-- where it is clear, no test of names fails
+pub clear_is_named : (o : Office) (ordered : OrderedMergeSet) (entries : List Entry) → IsVerdictInTurn o ordered entries verdict.Clear
+    → names_fault_in_turn o ordered ≡ None
+clear_is_named o ordered entries clear =
+    let (covers, listed) = clear_covers o ordered entries clear in
+    let none = none_in_turn o ordered (no_member_fault o ordered.merge_set covers.mergeable) (of_listed ordered listed) in
+    (neither (names_fault_in_turn o ordered) (first_conflict o 0 ordered.merge_set.members) none).0
 
 -- one verdict -----------------------------------------------------------------------------------------------------------
 
