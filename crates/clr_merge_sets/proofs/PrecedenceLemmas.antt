@@ -51,6 +51,10 @@ unlike m name no = elim (cases_Bool (same_name name m)) [
   | inr h ↦ h
 ]
 
+pub unlike_text : (n name : Name) → bytes_eq n name ≡ false → same_name n name ≡ false
+unfolding same_name
+unlike_text n name e = e
+
 module _ (names : List Name) where
   pub found_position : AllDiffer names → (at : ℕ) (n name : Name) → slice_get names at ≡ Some n → bytes_eq n name ≡ true → (j : ℕ)
       → (at == j) ≡ is_at (slice_get names j) name
@@ -71,14 +75,15 @@ module _ (names : List Name) where
 
 -- one name before another ----------------------------------------------------------------------------
 
-earlier_there : (names : List Name) (e l : Name) → is_earlier same_name names e l ≡ true → has names e ≡ true × has names l ≡ true
+earlier_there : (names : List Name) (e l : Name) → is_earlier same_name names e l ≡ true → (has names e ≡ true) × (has names l ≡ true)
 earlier_there [] e l h = absurd (false≢true h)
-earlier_there (n ∷ ns) e l h = by (same_name n e) refl h
+earlier_there (n ∷ ns) e l h = by (same_name n e) refl h (earlier_there ns e l)
   where
-    by : (b : Bool) → same_name n e ≡ b → cond b (has_by same_name ns l) (is_earlier same_name ns e l) ≡ true → has (n ∷ ns) e ≡ true × has (n ∷ ns) l ≡ true
-    by true f g = (or_left (same_name n e) (has ns e) f, or_right (same_name n l) (has ns l) (sym (has_is ns l) ∙ g))
-    by false f g =
-        let rest = earlier_there ns e l g in
+    by : (b : Bool) → same_name n e ≡ b → cond b (has_by same_name ns l) (is_earlier same_name ns e l) ≡ true
+        → (is_earlier same_name ns e l ≡ true → (has ns e ≡ true) × (has ns l ≡ true)) → (has (n ∷ ns) e ≡ true) × (has (n ∷ ns) l ≡ true)
+    by true f g more = (or_left (same_name n e) (has ns e) f, or_right (same_name n l) (has ns l) (sym (has_is ns l) ∙ g))
+    by false f g more =
+        let rest = more g in
         (or_right (same_name n e) (has ns e) rest.0, or_right (same_name n l) (has ns l) rest.1)
 
 behind : (n : Name) (ns : List Name) → AllDiffer (n ∷ ns) → AllDiffer ns
@@ -93,11 +98,11 @@ rises (n ∷ ns) i zero e l less is at = absurd (omega (arith, less))
 rises (n ∷ ns) zero (suc j) e l less is at =
     let one : n ≡ e = cc in
     ap (λ b. cond b (has_by same_name ns l) (is_earlier same_name ns e l)) (ap (same_name n) (sym one) ∙ same_itself n) ∙ has_is ns l ∙ has_at ns j l at
-rises (n ∷ ns) (suc i) (suc j) e l less is at = by (same_name n e)
+rises (n ∷ ns) (suc i) (suc j) e l less is at = by (same_name n e) (rises ns i j e l (omega (arith, less)) is at)
   where
-    by : (b : Bool) → cond b (has_by same_name ns l) (is_earlier same_name ns e l) ≡ true
-    by true = has_is ns l ∙ has_at ns j l at
-    by false = rises ns i j e l (omega (arith, less)) is at
+    by : (b : Bool) → is_earlier same_name ns e l ≡ true → cond b (has_by same_name ns l) (is_earlier same_name ns e l) ≡ true
+    by true more = has_is ns l ∙ has_at ns j l at
+    by false more = more
 
 falls : (names : List Name) (i j : ℕ) (e l : Name) → AllDiffer names → j ≤ i → slice_get names i ≡ Some e → slice_get names j ≡ Some l
     → is_earlier same_name names e l ≡ true → ⊥
@@ -114,11 +119,12 @@ falls (n ∷ ns) i zero e l once le is at h = by (same_name n e) h
     by : (b : Bool) → cond b (has_by same_name ns l) (is_earlier same_name ns e l) ≡ true → ⊥
     by true g = none (sym (has_is ns l) ∙ g)
     by false g = none (earlier_there ns e l g).1
-falls (n ∷ ns) (suc i) (suc j) e l once le is at h = by (same_name n e) refl h
+falls (n ∷ ns) (suc i) (suc j) e l once le is at h = by (same_name n e) refl h (falls ns i j e l (behind n ns once) (omega (arith, le)) is at)
   where
-    by : (b : Bool) → same_name n e ≡ b → cond b (has_by same_name ns l) (is_earlier same_name ns e l) ≡ true → ⊥
-    by true f g = alone n ns once (ap (has ns) (same_is n e f) ∙ has_at ns i e is)
-    by false f g = falls ns i j e l (behind n ns once) (omega (arith, le)) is at g
+    by : (b : Bool) → same_name n e ≡ b → cond b (has_by same_name ns l) (is_earlier same_name ns e l) ≡ true
+        → (is_earlier same_name ns e l ≡ true → ⊥) → ⊥
+    by true f g more = alone n ns once (ap (has ns) (same_is n e f) ∙ has_at ns i e is)
+    by false f g more = more g
 
 module _ (names : List Name) (once : AllDiffer names) (e l : Name) where
   not_true : (b : Bool) → (b ≡ true → ⊥) → b ≡ false
@@ -133,7 +139,7 @@ module _ (names : List Name) (once : AllDiffer names) (e l : Name) where
       itself : pair_is p.earlier p.later p ≡ true
       itself = λ i. (Decides-eqb p.earlier p.earlier).1 refl i && (Decides-eqb p.later p.later).1 refl i
 
-      both : is_at (slice_get names p.earlier) e ≡ true × is_at (slice_get names p.later) l ≡ true
+      both : (is_at (slice_get names p.earlier) e ≡ true) × (is_at (slice_get names p.later) l ≡ true)
       both = and_parts _ _ (sym (told p.earlier p.later) ∙ itself)
 
       is : slice_get names p.earlier ≡ Some e
