@@ -171,7 +171,11 @@ module _ (o : Office) (s : MergeSet) where
   scene_plan c p none apart same h = by p (subst (λ d. IsScenePlan d s p) same h)
     where
       by : (p : Plan) → IsScenePlan (setting_by_position o s) s p → IsPlan o s p
-      by (plan.Cleared cert) h = record { merge_set = h.0; cleared = record { free = none; apart = apart; picked = h.1 } }
+      by (plan.Cleared cert) h = record {
+        merge_set = h.0;
+        without_order = h.1;
+        cleared = record { free = none; apart = apart; picked = h.2 };
+      }
       by (plan.Blocked order cause) h = of_unpicked h.0 none apart h.1 h.2 h.3
       by (plan.Unfit v) h = absurd h
       by plan.OutOfMemory h = absurd h
