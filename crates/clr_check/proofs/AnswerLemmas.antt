@@ -1,11 +1,17 @@
 -- What an answer says, and what the scene of a merge set tells of its verdict.
+<<<<<<< HEAD
 use Rattle.std.proofs.Common.{◌≡◌, ◌∙◌, ℕ, List, [], None, Some, refl, subst, sym}
+=======
+use Rattle.std.proofs.Common.{◌≡◌, ◌∙◌, ℕ, List, Option, None, Some, length, refl, subst, sym, take}
+>>>>>>> 8d50d8ac4e6e1fe755acbe27ef635897115687e0
 use Rattle.clr_needs.specs.declared.faults.SceneFault.{SceneFault}
 use Rattle.clr_needs.specs.declared.faults.SceneFault.TheVariants as scene
 use Rattle.clr_needs.specs.declared.needs.Need.{Need}
 use Rattle.clr_needs.specs.Covers.{Entry}
 use Rattle.clr_needs.specs.Members.{AreApart, IsSceneFault}
 use Rattle.clr_needs.specs.Settings.{Setting}
+use Rattle.clr_steps.specs.declared.commands.Command.{Command}
+use Rattle.clr_steps.specs.declared.commands.Reply.{Reply}
 use Rattle.clr_steps.specs.Offices.{Office}
 use Rattle.clr_clearance.specs.declared.verdicts.Verdict.{Verdict}
 use Rattle.clr_clearance.specs.declared.verdicts.Verdict.TheVariants as verdict
@@ -14,12 +20,22 @@ use Rattle.clr_clearance.specs.Verdicts.{member_fault}
 use Rattle.clr_ordered_needs.specs.Covers.{AreCovered}
 use Rattle.clr_ordered_needs.specs.Turns.{Order}
 use Rattle.clr_ordered_clearance.specs.MergeSets.{OrderedMergeSet, position_goes_before}
+<<<<<<< HEAD
 use Rattle.clr_ordered_clearance.specs.VerdictLaws.{IsClearedInEveryOrder, IsClearedInTurn}
 use Rattle.clr_ordered_clearance.specs.Verdicts.{IsVerdictInTurn, names_fault_in_turn, of_cell, of_need, of_none}
 use Rattle.clr_ordered_clearance.specs.Verdicts.{of_member as member}
 use Rattle.clr_ordered_clearance.proofs.ClearedLemmas.{cleared_in_turn}
 use Rattle.clr_ordered_clearance.proofs.VerdictLemmas.{clear_is_named, names_first, same_member_fault}
 use Rattle.clr_ordered_clearance.proofs.WithoutOrderLemmas.{cleared_without_order}
+=======
+use Rattle.clr_ordered_clearance.specs.Runs.{IsClearedRunInTurn, IsQuietStartInTurn}
+use Rattle.clr_ordered_clearance.specs.VerdictLaws.{IsClearedInTurn}
+use Rattle.clr_ordered_clearance.specs.Verdicts.{IsVerdictInTurn, names_fault_in_turn, of_cell, of_need, of_none}
+use Rattle.clr_ordered_clearance.specs.Verdicts.{of_member as member}
+use Rattle.clr_ordered_clearance.proofs.ClearedLemmas.{cleared_in_turn}
+use Rattle.clr_ordered_clearance.proofs.RunLemmas.{cleared_run_in_turn}
+use Rattle.clr_ordered_clearance.proofs.VerdictLemmas.{clear_in_turn, clear_is_named, names_first, same_member_fault}
+>>>>>>> 8d50d8ac4e6e1fe755acbe27ef635897115687e0
 use Rattle.clr_check.specs.Answers.{IsCheckAnswer, IsRefusingVerdict, of_memory, of_verdict}
 use Rattle.clr_check.specs.Entries.{IsLeastUncovered}
 use Rattle.clr_merge_sets.specs.Faults.{IsMergeSetFault, of_member, verdict_of, without_memory}
@@ -51,6 +67,13 @@ module _ (o : Office) (ordered : OrderedMergeSet) (entries : List Entry) where
     answer = of_memory (clear_is_named o ordered entries (clear_verdict verdict.Clear clear refl)) refl;
     not_clear = λ e. absurd (cc);
   }
+
+  -- a run that starts where the answer is clear
+  pub clear_run : (commands : List Command) (replies : List Reply) (left : Office) (stopped : Option ℕ) → IsCheckAnswer o ordered entries verdict.Clear
+      → IsQuietStartInTurn o ordered commands replies left stopped
+      → IsClearedRunInTurn o ordered (take (length replies) commands) replies left
+  clear_run commands replies left stopped clear start =
+      cleared_run_in_turn o ordered entries commands replies left stopped ((clear_in_turn o ordered entries).0 (clear_verdict verdict.Clear clear refl)).0 start
 
 -- behind the tests of names -------------------------------------------------------------------------
 

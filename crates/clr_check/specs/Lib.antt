@@ -3,3 +3,4 @@ pub mod Cases
 pub mod Entries
 pub mod Lives
 pub mod TextChecks
+pub mod Turns

@@ -1,7 +1,7 @@
 //! Commands that are performed where a certificate is clear, up to the first that isn't quiet, or that merges a
 //! member before its turn.
 
-ghost use Rattle.std.specs.Prelude.{◌≡◌, ◌≤◌, [], IfErr, IfOk, OnErr, OnOk, length, option_map, option_to_list, take, vec_capacity};
+ghost use Rattle.std.specs.Prelude.{◌≡◌, ◌≤◌, ◌<◌, ◌+◌, ◌++◌, [], Some, IfErr, IfOk, OnErr, OnOk, length, map, take, vec_capacity, vec_len};
 ghost use Rattle.clr_clearance.specs.Runs.{merged_by};
 ghost use Rattle.clr_clearance.specs.declared.verdicts.Verdict.TheVariants as verdict;
 ghost use Rattle.clr_ordered_clearance.specs.Runs.{IsClearedRunInTurn, IsQuietStartInTurn};
@@ -26,15 +26,37 @@ pub struct ClearedRun {
     pub stopped: Option<usize>,
 }
 
-/// Returns the member whose merge was done, if a command was such a merge.
-fn merged_member<'a>(certificate: &Certificate, command: &'a Command, reply: &Reply) -> Option<&'a str>
-    ensures { option_to_list (option_map (λ name. name.now) result) ≡ merged_by (merge_set_of certificate.now) command.now reply.now }
+/// Adds the member whose merge was done, if a command was such a merge.
+fn add_merged<'a>(
+    certificate: &Certificate,
+    command: &'a Command,
+    reply: &Reply,
+    merged: &mut Vec<&'a str>,
+)
+    requires { vec_len merged.old < vec_capacity merged.old }
+    ensures names { map (λ name. name.now) merged.new.items
+        ≡ map (λ name. name.now) merged.old.items ++ merged_by (merge_set_of certificate.now) command.now reply.now }
+    ensures len { vec_len merged.new ≤ vec_len merged.old + 1 }
+    ensures room { vec_capacity merged.old ≤ vec_capacity merged.new }
 {
     match (command, reply) {
-        (Command::Merge { ws, .. }, Reply::Done) if is_member(certificate, ws.as_str()) => {
-            Some(ws.as_str())
+        (Command::Merge { ws, .. }, Reply::Done) => {
+            if is_member(certificate, ws.as_str()) {
+                merged.push(ws.as_str()).unwrap();
+            }
         }
-        _ => None,
+        _ => {}
+    }
+}
+
+/// Returns the run that stops behind these replies, where commands are left.
+fn stopped_behind(replies: Vec<Reply>) -> ClearedRun
+    ensures { result ≡ record { replies = replies; stopped = Some (length replies.items + 1) } }
+{
+    let number = replies.len() + 1;
+    ClearedRun {
+        replies,
+        stopped: Some(number),
     }
 }
 
@@ -55,17 +77,14 @@ fn perform_quiet<'a>(
     ensures { IsQuietStartInTurn office.old (ordered_merge_set_of certificate.now) commands.now result.replies.items office.new result.stopped }
 {
     for command in commands {
-        if !is_quiet(office, certificate, command) || !is_due(certificate, merged.as_slice(), command) {
-            let number = replies.len() + 1;
-            return ClearedRun {
-                replies,
-                stopped: Some(number),
-            };
+        if !is_quiet(office, certificate, command) {
+            return stopped_behind(replies);
+        }
+        if !is_due(certificate, merged.as_slice(), command) {
+            return stopped_behind(replies);
         }
         let reply = office.perform(command);
-        if let Some(name) = merged_member(certificate, command, &reply) {
-            merged.push(name).unwrap();
-        }
+        add_merged(certificate, command, &reply, &mut merged);
         replies.push(reply).unwrap();
     }
     ClearedRun {

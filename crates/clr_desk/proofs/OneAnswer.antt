@@ -13,14 +13,14 @@ use Rattle.clr_steps.specs.Quiet.{MergeSet}
 use Rattle.clr_clearance.specs.declared.verdicts.Verdict.{Verdict}
 use Rattle.clr_clearance.specs.declared.verdicts.Verdict.TheVariants as verdict
 use Rattle.clr_clearance.specs.Plans.{merges}
-use Rattle.clr_clearance.specs.Verdicts.{IsVerdict}
-use Rattle.clr_clearance.proofs.OneAnswerLemmas.{one_start}
-use Rattle.clr_clearance.proofs.VerdictLemmas.{one_verdict}
+use Rattle.clr_ordered_clearance.specs.Verdicts.{IsVerdictInTurn}
+use Rattle.clr_ordered_clearance.proofs.VerdictLemmas.{one_verdict_in_turn}
+use Rattle.clr_check.proofs.OneStart.{one_start_in_turn}
 use Rattle.clr_cert.specs.declared.certificates.Certificate.{Certificate}
 use Rattle.clr_cert.specs.Texts.{certificate_text}
 use Rattle.clr_check.specs.Answers as checks
 use Rattle.clr_check.specs.Answers.{IsCheckAnswer}
-use Rattle.clr_merge_sets.specs.Certificates.{entries_in, merge_set_of}
+use Rattle.clr_merge_sets.specs.Certificates.{entries_in, ordered_merge_set_of}
 use Rattle.clr_merge_sets.specs.MergeSetNames.{merge_set}
 use Rattle.clr_lines.specs.Verdicts.{verdict_text}
 use Rattle.clr_office_texts.specs.Drafts.{opened_in}
@@ -88,15 +88,15 @@ module _ (o : Office) (s : MergeSet) where
 
 module _ (o : Office) (c : Certificate) where
   abbrev IsSaid : Verdict → Type 0
-  IsSaid v = IsCheckAnswer o (merge_set_of c) (entries_in c.entries) v
+  IsSaid v = IsCheckAnswer o (ordered_merge_set_of c) (entries_in c.entries) v
 
-  found_verdict : (v : Verdict) → IsSaid v → is_without_memory v ≡ false → IsVerdict o (merge_set_of c) (entries_in c.entries) v
+  found_verdict : (v : Verdict) → IsSaid v → is_without_memory v ≡ false → IsVerdictInTurn o (ordered_merge_set_of c) (entries_in c.entries) v
   found_verdict v (checks.of_verdict is) found = is
   found_verdict v (checks.of_memory none is) found = absurd (true≢false (sym (ap is_without_memory is) ∙ found))
 
   same_verdict : (v w : Verdict) → IsSaid v → IsSaid w → is_without_memory v ≡ false → is_without_memory w ≡ false → v ≡ w
   same_verdict v w one two found found_too =
-      one_verdict o (merge_set_of c) (entries_in c.entries) v w (found_verdict v one found) (found_verdict w two found_too)
+      one_verdict_in_turn o (ordered_merge_set_of c) (entries_in c.entries) v w (found_verdict v one found) (found_verdict w two found_too)
 
   pub one_check_print : IsOnePrint (IsCheckPrint o c)
   one_check_print print other (v, judged, found, is) (w, judged_too, found_too, is_too) any any_too =
@@ -105,14 +105,14 @@ module _ (o : Office) (c : Certificate) where
   found_said : (v : Verdict) → FoundMemory (verdict_print o c v) → is_without_memory v ≡ false
   found_said v found = found_by_status _ (is_without_memory v) found
 
-  not_refused : (v : Verdict) → IsVerdict o (merge_set_of c) (entries_in c.entries) verdict.Clear → IsSaid v → ¬ (v ≡ verdict.Clear)
+  not_refused : (v : Verdict) → IsVerdictInTurn o (ordered_merge_set_of c) (entries_in c.entries) verdict.Clear → IsSaid v → ¬ (v ≡ verdict.Clear)
       → is_without_memory v ≡ false → ⊥
   not_refused v clear one not_clear found =
-      not_clear (one_verdict o (merge_set_of c) (entries_in c.entries) v verdict.Clear (found_verdict v one found) clear)
+      not_clear (one_verdict_in_turn o (ordered_merge_set_of c) (entries_in c.entries) v verdict.Clear (found_verdict v one found) clear)
 
   pub one_merge_print : (names : List Name) → IsOnePrint (IsMergePrintout names o c)
   one_merge_print names print other (merging.of_merges replies stopped left merged is) (merging.of_merges others ended rest merged_too is_too) found found_too =
-      let same = one_start o (merge_set_of c) (merges names) replies others left rest stopped ended merged.start merged_too.start
+      let same = one_start_in_turn (ordered_merge_set_of c) o (merges names) replies others left rest stopped ended merged.start merged_too.start
       (found_by_status _ _ (subst FoundMemory is found)) (found_by_status _ _ (subst FoundMemory is_too found_too)) in
       is ∙ (λ i. merge_print (same.0 i) (same.2 i) (same.1 i)) ∙ sym is_too
   one_merge_print names print other (merging.of_merges replies stopped left merged is) (merging.of_verdict v refusal is_too) found found_too =

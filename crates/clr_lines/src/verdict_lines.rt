@@ -1,11 +1,12 @@
 //! The lines of verdicts.
 
 ghost use Rattle.std.specs.Prelude.{◌≡◌, ◌++◌, codes, map, option_map, IfOk};
-ghost use Rattle.clr_lines.specs.Verdicts.{conflict_text, name_text, not_before_text, shared_text, uncovered_text, verdict_text};
-ghost use Rattle.clr_lines.specs.Verdicts.{verdict_text_in_turn};
+ghost use Rattle.clr_lines.specs.Verdicts.{conflict_text, misplaced_text, name_text, not_before_text, shared_text, uncovered_text};
+ghost use Rattle.clr_lines.specs.Verdicts.{verdict_text, verdict_text_in_turn};
 
 use crate::needs::add_need_of_versions;
 use crate::pieces::{add_cell, add_count};
+use clr_cert::Precedence;
 use clr_clearance::Verdict;
 use clr_member_changes::member_name;
 use clr_needs::Need;
@@ -73,16 +74,27 @@ fn uncovered_line(alloc: Global, schema: &Schema, need: &Need) -> Result<Vec<u8>
 }
 
 /// Returns the line of two names of which the first isn't listed before the second.
-fn not_before_line(alloc: Global, pair: Option<(&str, &str)>) -> Result<Vec<u8>, AllocError>
-    ensures { IfOk result (λ line. line.items ≡ not_before_text (option_map (λ names. (names.0.now, names.1.now)) pair)) }
+fn not_before_line(alloc: Global, earlier: &str, later: &str) -> Result<Vec<u8>, AllocError>
+    ensures { IfOk result (λ line. line.items ≡ not_before_text earlier.now later.now) }
 {
-    let (earlier, later) = pair.unwrap_or(("", ""));
     let mut line = Vec::from_slice(alloc, b"8 NotBefore ")?;
     line.extend_from_slice(earlier.as_bytes())?;
     line.extend_from_slice(b" ")?;
     line.extend_from_slice(later.as_bytes())?;
     line.extend_from_slice(b"\n")?;
     Ok(line)
+}
+
+/// Returns the line of a precedence that doesn't stand in the list of members, or one without names.
+fn misplaced_line(alloc: Global, precedence: Option<&Precedence>) -> Result<Vec<u8>, AllocError>
+    ensures { IfOk result (λ line. line.items ≡ misplaced_text (option_map (λ p. p.now) precedence)) }
+{
+    match precedence {
+        Some(precedence) => {
+            not_before_line(alloc, precedence.earlier.as_str(), precedence.later.as_str())
+        }
+        None => not_before_line(alloc, "", ""),
+    }
 }
 
 /// Returns the line of a verdict on members of a root, ended by `\n`. The line is `clear`, or the
@@ -130,27 +142,26 @@ pub fn verdict_line(
         ),
         Verdict::Uncovered(need) => uncovered_line(alloc, schema, &need),
         Verdict::NotKept => name_line(alloc, "7 NotKept ", root),
-        Verdict::NotBefore(_) => not_before_line(alloc, None),
+        Verdict::NotBefore(_) => misplaced_line(alloc, None),
     }
 }
 
-/// Returns the line of a verdict on members of a root, some of whom go before others by these pairs of
-/// names: that of `verdict_line`, but for a pair whose first name isn't listed before the second. Its
-/// line has both names; a position past the pairs has empty names.
+/// Returns the line of a verdict on members of a root, some of whom go before others by these
+/// precedences: that of `verdict_line`, but for a precedence whose earlier name isn't listed before its
+/// later one. Its line has both names; a position past the precedences has empty names.
 /// For example, `8 NotBefore W2 W1` says so of `W2` and `W1`.
 pub fn verdict_line_in_turn(
     alloc: Global,
     schema: &Schema,
     members: &[&str],
-    before: &[(&str, &str)],
+    before: &[Precedence],
     root: &str,
     verdict: &Verdict,
 ) -> Result<Vec<u8>, AllocError>
-    ensures { IfOk result (λ line. line.items ≡ verdict_text_in_turn schema.now (map (λ name. name.now) members.now)
-        (map (λ names. (names.0.now, names.1.now)) before.now) root.now verdict.now) }
+    ensures { IfOk result (λ line. line.items ≡ verdict_text_in_turn schema.now (map (λ name. name.now) members.now) before.now root.now verdict.now) }
 {
     match *verdict {
-        Verdict::NotBefore(at) => not_before_line(alloc, before.get(at).copied()),
+        Verdict::NotBefore(at) => misplaced_line(alloc, before.get(at)),
         _ => verdict_line(alloc, schema, members, root, verdict),
     }
 }

@@ -13,7 +13,7 @@ use Rattle.clr_ordered_clearance.specs.Verdicts.{IsVerdictInTurn}
 use Rattle.clr_clearance.specs.Plans.{merges}
 use Rattle.clr_cert.specs.declared.certificates.Certificate.{Certificate}
 use Rattle.clr_check.specs.Answers.{IsRefusingVerdict}
-use Rattle.clr_merge_sets.specs.Certificates.{entries_in, ordered_merge_set_of, pairs_in}
+use Rattle.clr_merge_sets.specs.Certificates.{entries_in, ordered_merge_set_of}
 use Rattle.clr_check.specs.Cases.{Case}
 use Rattle.clr_check.specs.TextChecks.{IsCheckedVerdict}
 use Rattle.clr_check.specs.declared.cases.CaseFault.{CaseFault}
@@ -37,7 +37,7 @@ is_without_memory _ = false
 
 -- the outcome of a verdict: its line; all but a clear one counts as a refusal
 abbrev pub verdict_outcome : Office → Certificate → Verdict → Outcome
-verdict_outcome o c v = outcome (verdict_text_in_turn o.schema c.members (pairs_in c.before) c.root v) (not (is_clear v)) (is_without_memory v) o
+verdict_outcome o c v = outcome (verdict_text_in_turn o.schema c.members c.before c.root v) (not (is_clear v)) (is_without_memory v) o
 
 -- the outcome of some verdict on a certificate; where it is clear, the members are safe where they are merged in turn, and a run of quiet commands in which
 -- merges come in turn is a cleared one

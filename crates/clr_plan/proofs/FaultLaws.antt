@@ -28,6 +28,7 @@ OfNames (verdict.RepeatedMember at) = Unit {0}
 OfNames (verdict.NotBefore at) = ⊥
 OfNames (verdict.NoWorkspace at) = Unit {0}
 OfNames (verdict.NotUnderRoot at) = Unit {0}
+OfNames (verdict.NotBefore at) = ⊥
 OfNames verdict.Clear = ⊥
 OfNames verdict.OutOfMemory = ⊥
 OfNames (verdict.Conflict at cell count) = ⊥
@@ -41,6 +42,7 @@ OfConflicts (verdict.RepeatedMember at) = ⊥
 OfConflicts (verdict.NotBefore at) = ⊥
 OfConflicts (verdict.NoWorkspace at) = ⊥
 OfConflicts (verdict.NotUnderRoot at) = ⊥
+OfConflicts (verdict.NotBefore at) = ⊥
 OfConflicts verdict.Clear = ⊥
 OfConflicts verdict.OutOfMemory = ⊥
 OfConflicts (verdict.SharedCell cell i j) = ⊥
@@ -153,6 +155,7 @@ module _ (o : Office) (s : MergeSet) where
       none (verdict.NotBefore at) same h = h
       none (verdict.NoWorkspace at) same h = h
       none (verdict.NotUnderRoot at) same h = h
+      none (verdict.NotBefore at) same h = h
       none verdict.Clear same h = h
       none verdict.OutOfMemory same h = h
       none (verdict.SharedCell cell i j) same h = h
@@ -174,7 +177,15 @@ module _ (o : Office) (s : MergeSet) where
   scene_plan c p none apart same h = by p (subst (λ d. IsScenePlan d s p) same h)
     where
       by : (p : Plan) → IsScenePlan (setting_by_position o s) s p → IsPlan o s p
+<<<<<<< HEAD
       by (plan.Cleared cert) h = record { merge_set = h.0; without_order = h.1; cleared = record { free = none; apart = apart; picked = h.2 } }
+=======
+      by (plan.Cleared cert) h = record {
+        merge_set = h.0;
+        without_order = h.1;
+        cleared = record { free = none; apart = apart; picked = h.2 };
+      }
+>>>>>>> 8d50d8ac4e6e1fe755acbe27ef635897115687e0
       by (plan.Blocked order cause) h = of_unpicked h.0 none apart h.1 h.2 h.3
       by (plan.Unfit v) h = absurd h
       by plan.OutOfMemory h = absurd h

@@ -40,6 +40,7 @@ one_plan o s (plan.Cleared c) (plan.Unfit v) one two found found_too = absurd ((
 one_plan o s (plan.Cleared c) (plan.Blocked order cause) one two found found_too =
     absurd ((one_kind o s cause (entries_in c.entries) order.items cause).2 (one.cleared, two))
 one_plan o s (plan.Cleared c) (plan.Cleared d) one two found found_too =
-    same_certificates c d (one.merge_set ∙ sym two.merge_set) (one.without_order ∙ sym two.without_order) (one_cleared o s (entries_in c.entries) (entries_in d.entries) one.cleared two.cleared)
+    same_certificates c d (one.merge_set ∙ sym two.merge_set) (one.without_order ∙ sym two.without_order)
+    (one_cleared o s (entries_in c.entries) (entries_in d.entries) one.cleared two.cleared)
 one_plan o s (plan.Cleared c) plan.OutOfMemory one two found found_too = absurd (true≢false found_too)
 one_plan o s plan.OutOfMemory q one two found found_too = absurd (true≢false found)

@@ -38,7 +38,6 @@ use Rattle.clr_clearance.proofs.ClearLemmas.{faultless, has_at}
 use Rattle.clr_clearance.proofs.StaticLemmas.{child_under}
 use Rattle.clr_cert.specs.declared.certificates.Certificate.{Certificate}
 use Rattle.clr_cert.specs.declared.certificates.Entry.{Entry}
-use Rattle.clr_cert.specs.declared.certificates.Precedence.{Precedence}
 use Rattle.clr_cert.specs.declared.limits.TheConstants.{GREATEST_PART}
 use Rattle.clr_cert.specs.Texts.{IsInSchema, IsPart, IsReadBack, IsWellFormed, IsWellFormedEntry, IsWellFormedPrecedence}
 use Rattle.clr_cert.proofs.CertificateAgain.{read_again}
@@ -179,7 +178,7 @@ module _ (o : Office) (whole : IsWhole o) where
       well_formed = record {
         root = subst (λ (t : MergeSet). is_good_name t.root ≡ true) (sym h.merge_set) (kept_good s.root (faultless o s h.cleared.free).kept);
         members = subst (λ (t : MergeSet). All (λ (name : Name). is_good_name name ≡ true) t.members) (sym h.merge_set) members_good;
-        before = subst (λ (ps : List Precedence). All IsWellFormedPrecedence ps) (sym h.without_order) (λ k d less. absurd (omega (arith, less)));
+        before = subst (All IsWellFormedPrecedence) (sym h.without_order) (λ k d less. absurd (omega (arith, less)));
         entries = λ k d less. (each_named k d less).well_formed;
       }
 

@@ -1,0 +1,83 @@
+-- The members that commands merge, as one command after another is performed.
+use Rattle.std.proofs.Common.{◌≡◌, ◌∙◌, ◌+◌, ◌<◌, ℕ, true, zero, suc, List, [], ◌∷◌, ◌++◌, refl, sym, ap, subst, arith, get_or, length, take}
+use Rattle.std.proofs.lemmas.List.{append_assoc, append-nil, take_more}
+use Rattle.clr_workspaces.specs.Marks.{Name}
+use Rattle.clr_steps.specs.declared.commands.Command.{Command}
+use Rattle.clr_steps.specs.declared.commands.Reply.{Reply}
+use Rattle.clr_steps.specs.Offices.{Office}
+use Rattle.clr_steps.specs.Quiet.{MergeSet, is_quiet}
+use Rattle.clr_steps.specs.Steps.{AreAnswers, IsAnswer, lost_in}
+use Rattle.clr_clearance.specs.Runs.{AreQuiet, merged_by, merged_in}
+use Rattle.clr_ordered_clearance.specs.MergeSets.{OrderedMergeSet}
+use Rattle.clr_ordered_clearance.specs.Runs.{IsDue}
+use Rattle.clr_ordered_clearance.specs.Turns.{MergesComeInTurn}
+use Rattle.clr_ordered_clearance.proofs.RunLemmas.{one_more_in_turn}
+
+module _ (merge_set : MergeSet) where
+  none_merged : (cs : List Command) → merged_in merge_set cs [] ≡ []
+  unfolding merged_in
+  none_merged [] = refl
+  none_merged (c ∷ cs) = refl
+
+  -- the replies alone say how many commands count
+  pub merged_cut : (cs : List Command) (rs : List Reply) → merged_in merge_set (take (length rs) cs) rs ≡ merged_in merge_set cs rs
+  unfolding merged_in
+  merged_cut [] [] = refl
+  merged_cut [] (r ∷ rs) = refl
+  merged_cut (c ∷ cs) [] = refl
+  merged_cut (c ∷ cs) (r ∷ rs) = ap (λ names. merged_by merge_set c r ++ names) (merged_cut cs rs)
+
+  pub merged_more : (cs : List Command) (rs : List Reply) (d : Command) (r : Reply) → length rs < length cs
+      → merged_in merge_set cs (rs ++ r ∷ []) ≡ merged_in merge_set cs rs ++ merged_by merge_set (get_or cs (length rs) d) r
+  unfolding merged_in
+  merged_more [] rs d r less = absurd (omega (arith, less))
+  merged_more (c ∷ cs) [] d r less = ap (λ names. merged_by merge_set c r ++ names) (none_merged cs) ∙ append-nil (merged_by merge_set c r)
+  merged_more (c ∷ cs) (x ∷ rs) d r less =
+      ap (λ names. merged_by merge_set c x ++ names) (merged_more cs rs d r (omega (arith, less)))
+      ∙ sym (append_assoc (merged_by merge_set c x) (merged_in merge_set cs rs) (merged_by merge_set (get_or cs (length rs) d) r))
+
+-- one command more --------------------------------------------------------------------------------
+
+-- the commands are quiet and come in turn, and were answered
+pub record ArePerformed (o : Office) (ordered : OrderedMergeSet) (commands : List Command) (replies : List Reply) (now : Office) : Type 0 where
+  pub answers : AreAnswers o commands replies now
+  pub quiet : AreQuiet o ordered.merge_set commands (lost_in replies)
+  pub in_turn : MergesComeInTurn o ordered commands (lost_in replies)
+
+module _ (o : Office) (ordered : OrderedMergeSet) (commands : List Command) where
+  pub none_performed : ArePerformed o ordered (take 0 commands) [] o
+  none_performed = by commands
+    where
+      by : (cs : List Command) → ArePerformed o ordered (take 0 cs) [] o
+      by [] = record { answers = refl; quiet = λ at c e. absurd (cc); in_turn = λ at name remove e. absurd (cc) }
+      by (c ∷ cs) = record { answers = refl; quiet = λ at c e. absurd (cc); in_turn = λ at name remove e. absurd (cc) }
+
+  pub one_performed : (at : ℕ) (replies : List Reply) (now : Office) (c d : Command) (reply : Reply) (left : Office) (names : List Name)
+      → at < length commands
+      → c ≡ get_or commands at d
+      → length replies ≡ at
+      → ArePerformed o ordered (take at commands) replies now
+      → names ≡ merged_in ordered.merge_set commands replies
+      → is_quiet now ordered.merge_set c ≡ true
+      → IsDue ordered names c
+      → IsAnswer now c reply left
+      → ArePerformed o ordered (take (at + 1) commands) (replies ++ reply ∷ []) left
+  one_performed at replies now c d reply left names less is long before same quiet due answer =
+      let merged : names ≡ merged_in ordered.merge_set (take at commands) replies =
+      same ∙ sym (merged_cut ordered.merge_set commands replies) ∙ ap (λ k. merged_in ordered.merge_set (take k commands) replies) long in
+      let more = one_more_in_turn o ordered (take at commands) replies now c reply left before.answers before.quiet before.in_turn quiet
+      (subst (λ ns. IsDue ordered ns c) merged due) answer in
+      let here : take at commands ++ c ∷ [] ≡ take (at + 1) commands = ap (λ x. take at commands ++ x ∷ []) is ∙ sym (take_more commands at d less) in
+      subst (λ cs. ArePerformed o ordered cs (replies ++ reply ∷ []) left) here (record { answers = more.0; quiet = more.1; in_turn = more.2 })
+
+  pub names_more : (at : ℕ) (replies : List Reply) (c d : Command) (reply : Reply) (names more : List Name)
+      → at < length commands
+      → c ≡ get_or commands at d
+      → length replies ≡ at
+      → names ≡ merged_in ordered.merge_set commands replies
+      → more ≡ names ++ merged_by ordered.merge_set c reply
+      → more ≡ merged_in ordered.merge_set commands (replies ++ reply ∷ [])
+  names_more at replies c d reply names more less is long same added =
+      let here : c ≡ get_or commands (length replies) d = is ∙ ap (λ k. get_or commands k d) (sym long) in
+      added ∙ (λ i. same i ++ merged_by ordered.merge_set (here i) reply)
+      ∙ sym (merged_more ordered.merge_set commands replies d reply (omega (arith, less, long)))
