@@ -25,7 +25,6 @@ use Rattle.clr_plan.specs.Plans.{IsBlockedIn, IsPlan, IsScenePlan}
 abbrev OfNames : Verdict → Type 0
 OfNames verdict.NotKept = Unit {0}
 OfNames (verdict.RepeatedMember at) = Unit {0}
-OfNames (verdict.NotBefore at) = ⊥
 OfNames (verdict.NoWorkspace at) = Unit {0}
 OfNames (verdict.NotUnderRoot at) = Unit {0}
 OfNames (verdict.NotBefore at) = ⊥
@@ -39,7 +38,6 @@ abbrev OfConflicts : Verdict → Type 0
 OfConflicts (verdict.Conflict at cell count) = Unit {0}
 OfConflicts verdict.NotKept = ⊥
 OfConflicts (verdict.RepeatedMember at) = ⊥
-OfConflicts (verdict.NotBefore at) = ⊥
 OfConflicts (verdict.NoWorkspace at) = ⊥
 OfConflicts (verdict.NotUnderRoot at) = ⊥
 OfConflicts (verdict.NotBefore at) = ⊥
@@ -152,7 +150,6 @@ module _ (o : Office) (s : MergeSet) where
       none (verdict.Conflict at cell count) same h = not_conflict at cell count same
       none verdict.NotKept same h = h
       none (verdict.RepeatedMember at) same h = h
-      none (verdict.NotBefore at) same h = h
       none (verdict.NoWorkspace at) same h = h
       none (verdict.NotUnderRoot at) same h = h
       none (verdict.NotBefore at) same h = h
@@ -177,15 +174,11 @@ module _ (o : Office) (s : MergeSet) where
   scene_plan c p none apart same h = by p (subst (λ d. IsScenePlan d s p) same h)
     where
       by : (p : Plan) → IsScenePlan (setting_by_position o s) s p → IsPlan o s p
-<<<<<<< HEAD
-      by (plan.Cleared cert) h = record { merge_set = h.0; without_order = h.1; cleared = record { free = none; apart = apart; picked = h.2 } }
-=======
       by (plan.Cleared cert) h = record {
         merge_set = h.0;
         without_order = h.1;
         cleared = record { free = none; apart = apart; picked = h.2 };
       }
->>>>>>> 8d50d8ac4e6e1fe755acbe27ef635897115687e0
       by (plan.Blocked order cause) h = of_unpicked h.0 none apart h.1 h.2 h.3
       by (plan.Unfit v) h = absurd h
       by plan.OutOfMemory h = absurd h
