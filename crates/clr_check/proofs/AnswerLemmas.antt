@@ -1,9 +1,5 @@
 -- What an answer says, and what the scene of a merge set tells of its verdict.
-<<<<<<< HEAD
-use Rattle.std.proofs.Common.{◌≡◌, ◌∙◌, ℕ, List, [], None, Some, refl, subst, sym}
-=======
-use Rattle.std.proofs.Common.{◌≡◌, ◌∙◌, ℕ, List, Option, None, Some, length, refl, subst, sym, take}
->>>>>>> 8d50d8ac4e6e1fe755acbe27ef635897115687e0
+use Rattle.std.proofs.Common.{◌≡◌, ◌∙◌, ℕ, List, [], Option, None, Some, length, refl, subst, sym, take}
 use Rattle.clr_needs.specs.declared.faults.SceneFault.{SceneFault}
 use Rattle.clr_needs.specs.declared.faults.SceneFault.TheVariants as scene
 use Rattle.clr_needs.specs.declared.needs.Need.{Need}
@@ -20,22 +16,14 @@ use Rattle.clr_clearance.specs.Verdicts.{member_fault}
 use Rattle.clr_ordered_needs.specs.Covers.{AreCovered}
 use Rattle.clr_ordered_needs.specs.Turns.{Order}
 use Rattle.clr_ordered_clearance.specs.MergeSets.{OrderedMergeSet, position_goes_before}
-<<<<<<< HEAD
-use Rattle.clr_ordered_clearance.specs.VerdictLaws.{IsClearedInEveryOrder, IsClearedInTurn}
-use Rattle.clr_ordered_clearance.specs.Verdicts.{IsVerdictInTurn, names_fault_in_turn, of_cell, of_need, of_none}
-use Rattle.clr_ordered_clearance.specs.Verdicts.{of_member as member}
-use Rattle.clr_ordered_clearance.proofs.ClearedLemmas.{cleared_in_turn}
-use Rattle.clr_ordered_clearance.proofs.VerdictLemmas.{clear_is_named, names_first, same_member_fault}
-use Rattle.clr_ordered_clearance.proofs.WithoutOrderLemmas.{cleared_without_order}
-=======
 use Rattle.clr_ordered_clearance.specs.Runs.{IsClearedRunInTurn, IsQuietStartInTurn}
-use Rattle.clr_ordered_clearance.specs.VerdictLaws.{IsClearedInTurn}
+use Rattle.clr_ordered_clearance.specs.VerdictLaws.{IsClearedInEveryOrder, IsClearedInTurn}
 use Rattle.clr_ordered_clearance.specs.Verdicts.{IsVerdictInTurn, names_fault_in_turn, of_cell, of_need, of_none}
 use Rattle.clr_ordered_clearance.specs.Verdicts.{of_member as member}
 use Rattle.clr_ordered_clearance.proofs.ClearedLemmas.{cleared_in_turn}
 use Rattle.clr_ordered_clearance.proofs.RunLemmas.{cleared_run_in_turn}
 use Rattle.clr_ordered_clearance.proofs.VerdictLemmas.{clear_in_turn, clear_is_named, names_first, same_member_fault}
->>>>>>> 8d50d8ac4e6e1fe755acbe27ef635897115687e0
+use Rattle.clr_ordered_clearance.proofs.WithoutOrderLemmas.{cleared_without_order}
 use Rattle.clr_check.specs.Answers.{IsCheckAnswer, IsRefusingVerdict, of_memory, of_verdict}
 use Rattle.clr_check.specs.Entries.{IsLeastUncovered}
 use Rattle.clr_merge_sets.specs.Faults.{IsMergeSetFault, of_member, verdict_of, without_memory}
