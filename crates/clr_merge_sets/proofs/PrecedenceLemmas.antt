@@ -1,12 +1,15 @@
 -- Who goes before whom by position, and the tests of precedences.
-use Rattle.std.proofs.Common.{◌≡◌, ◌∙◌, ℕ, zero, suc, ◌+◌, ◌<◌, ◌≤◌, Bool, true, false, not, ◌==◌, ◌&&◌, ◌||◌, cond, List, [], ◌∷◌, ◌++◌, map, nat_lt, length}
+use Rattle.std.proofs.Common.{◌≡◌, ◌∙◌, ℕ, zero, suc, ◌+◌, ◌<◌, ◌≤◌, Bool, true, false, not, ◌==◌, ◌&&◌, ◌||◌, cond, List, [], ◌∷◌, ◌++◌, map, nat_lt, get_or, length}
 use Rattle.std.proofs.Common.{take, refl, sym, ap, arith, Option, Some, None, slice_get, ◌⊎◌, inl, inr}
 use Rattle.std.specs.List.{list_any, position}
 use Rattle.std.specs.Option.{option_map, option_or}
 use Rattle.std.proofs.lemmas.Bool.{and_parts, cases_Bool, false≢true, lt-ltb, le-ltb, or_left, or_right}
 use Rattle.std.proofs.lemmas.Bool.Decides.{Decides-eqb}
 use Rattle.std.proofs.lemmas.List.Folds.{list_any-append}
-use Rattle.std.proofs.lemmas.Option.{slice_get_within}
+use Rattle.std.proofs.lemmas.List.{take_more}
+use Rattle.std.proofs.lemmas.Option.{slice_get-get_or, slice_get-map, slice_get_within}
+use Rattle.clr_rows.proofs.SchemaLemmas.{list_any-map}
+use Rattle.clr_cert.specs.declared.certificates.Precedence.{Precedence}
 use Rattle.std.proofs.Math.Bool.{and-false, or-false}
 use Rattle.std.specs.Str.{bytes_eq}
 use Rattle.clr_workspaces.specs.Marks.{Name}
@@ -24,6 +27,7 @@ use Rattle.clr_ordered_needs.specs.Positions.{goes_before_if_any}
 use Rattle.clr_ordered_needs.specs.Turns.{is_earlier}
 use Rattle.clr_ordered_clearance.specs.MergeSets.{OrderedMergeSet, goes_before, position_goes_before}
 use Rattle.clr_ordered_clearance.specs.Verdicts.{misplaced_pair, names_fault_in_turn}
+use Rattle.clr_merge_sets.specs.Certificates.{pairs_in}
 use Rattle.clr_merge_sets.specs.Faults.{is_told_first}
 use Rattle.clr_merge_sets.specs.PositionPairs.{SayWhoGoesBefore, is_at, is_pair, is_position, pair_is, pairs_say}
 use Rattle.clr_merge_sets.specs.declared.position_pairs.PositionPair.{PositionPair}
@@ -167,20 +171,34 @@ module _ (names : List Name) (once : AllDiffer names) (e l : Name) where
 
 -- pairs of a list ------------------------------------------------------------------------------------
 
+pub pair_at : (before : List Precedence) (k : ℕ) (p : Precedence) → k < length before → p ≡ get_or before k p
+    → slice_get (pairs_in before) k ≡ Some (p.earlier, p.later)
+pair_at before k p less is =
+    slice_get-map (λ (q : Precedence). (q.earlier, q.later)) before k
+    ∙ ap (option_map (λ (q : Precedence). (q.earlier, q.later))) (slice_get-get_or before k p less ∙ ap Some (sym is))
+
 module _ (names : List Name) (j k : ℕ) where
   -- the pair of names is of these positions
   abbrev pub says : (Name × Name) → Bool
   says p = is_at (slice_get names j) p.0 && is_at (slice_get names k) p.1
 
-  pub one_pair : (pairs : List PositionPair) (before : List (Name × Name)) (p : PositionPair) (q : Name × Name) → pairs_say pairs j k ≡ list_any says before
-      → pair_is j k p ≡ says q → pairs_say (pairs ++ p ∷ []) j k ≡ list_any says (before ++ q ∷ [])
-  one_pair pairs before p q same one =
-      list_any-append (pair_is j k) pairs (p ∷ []) ∙ (λ i. same i || (one i || false)) ∙ sym (list_any-append says before (q ∷ []))
+  pub one_pair : (pairs added : List PositionPair) (p : PositionPair) (told : Bool) → added ≡ pairs ++ p ∷ [] → pair_is j k p ≡ told
+      → pairs_say added j k ≡ pairs_say pairs j k || told
+  one_pair pairs added p told is one =
+      ap (list_any (pair_is j k)) is ∙ list_any-append (pair_is j k) pairs (p ∷ [])
+      ∙ ap (λ b. pairs_say pairs j k || b) (or-false (pair_is j k p) ∙ one)
 
-  pub silent_pair : (pairs : List PositionPair) (before : List (Name × Name)) (q : Name × Name) → pairs_say pairs j k ≡ list_any says before
-      → false ≡ says q → pairs_say pairs j k ≡ list_any says (before ++ q ∷ [])
-  silent_pair pairs before q same one =
-      same ∙ sym (or-false (list_any says before)) ∙ (λ i. list_any says before || (one i || false)) ∙ sym (list_any-append says before (q ∷ []))
+  pub silent_pair : (pairs : List PositionPair) (told : Bool) → false ≡ told → pairs_say pairs j k ≡ pairs_say pairs j k || told
+  silent_pair pairs told none = sym (or-false (pairs_say pairs j k)) ∙ ap (λ b. pairs_say pairs j k || b) none
+
+  pub said_more : (before : List Precedence) (at : ℕ) (p : Precedence) (old new : Bool) → at < length before → p ≡ get_or before at p
+      → new ≡ old || says (p.earlier, p.later) → old ≡ list_any says (pairs_in (take at before)) → new ≡ list_any says (pairs_in (take (at + 1) before))
+  said_more before at p old new less is one same =
+      one ∙ ap (λ b. b || says (p.earlier, p.later)) same
+      ∙ sym (ap (λ ps. list_any says (pairs_in ps)) (take_more before at p less ∙ ap (λ q. take at before ++ q ∷ []) (sym is))
+      ∙ list_any-map says (λ (q : Precedence). (q.earlier, q.later)) (take at before ++ p ∷ [])
+      ∙ list_any-append (λ (q : Precedence). says (q.earlier, q.later)) (take at before) (p ∷ [])
+      ∙ (λ i. list_any-map says (λ (q : Precedence). (q.earlier, q.later)) (take at before) (~ i) || or-false (says (p.earlier, p.later)) i))
 
 pub pairs_tell : (ordered : OrderedMergeSet) (pairs : List PositionPair)
     → ((j k : ℕ) → pairs_say pairs j k ≡ list_any (says ordered.merge_set.members j k) ordered.before) → SayWhoGoesBefore ordered pairs

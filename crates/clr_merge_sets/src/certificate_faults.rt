@@ -47,10 +47,7 @@ fn first_misplaced(members: &Names, before: &[Precedence]) -> Option<usize>
 fn is_told_first(fault: Option<Verdict>) -> bool
     ensures { result ≡ is_told_first fault }
 {
-    matches!(
-        fault,
-        Some(Verdict::NotKept | Verdict::RepeatedMember(_))
-    )
+    matches!(fault, Some(Verdict::NotKept | Verdict::RepeatedMember(_)))
 }
 
 /// Returns the first test of names that a certificate fails, or none. Each test is made over the whole

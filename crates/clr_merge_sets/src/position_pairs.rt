@@ -1,6 +1,6 @@
 //! Who goes before whom in a certificate, by the positions of members.
 
-ghost use Rattle.std.specs.Prelude.{◌≡◌, ◌&&◌, ℕ, None, IfOk, slice_get};
+ghost use Rattle.std.specs.Prelude.{◌≡◌, ◌&&◌, ◌||◌, ℕ, None, IfOk, OnOk, slice_get};
 ghost use Rattle.clr_clearance.specs.Verdicts.{first_repeated};
 ghost use Rattle.clr_merge_sets.specs.Certificates.{ordered_merge_set_of};
 ghost use Rattle.clr_merge_sets.specs.PositionPairs.{SayWhoGoesBefore, is_at, is_pair, is_position, pairs_say};
@@ -51,6 +51,24 @@ pub(crate) fn pair_of(members: &Names, precedence: &Precedence) -> Option<Positi
     Some(PositionPair { earlier, later })
 }
 
+/// Adds the positions of the names of a precedence to some pairs, where both names stand in a list in
+/// which no name stands twice.
+fn add_pair(
+    members: &Names,
+    precedence: &Precedence,
+    pairs: &mut Vec<PositionPair>,
+) -> Result<(), AllocError>
+    requires { first_repeated members.now ≡ None }
+    ensures { OnOk result ((j k : ℕ) → pairs_say pairs.new.items j k ≡ pairs_say pairs.old.items j k
+        || is_at (slice_get members.now j) precedence.now.earlier && is_at (slice_get members.now k) precedence.now.later) }
+{
+    let Some(pair) = pair_of(members, precedence) else {
+        return Ok(());
+    };
+    pairs.push(pair)?;
+    Ok(())
+}
+
 /// Returns who goes before whom among the members of a certificate, by position. A precedence that
 /// names no member says nothing.
 pub fn position_pairs(
@@ -62,9 +80,7 @@ pub fn position_pairs(
 {
     let mut pairs = Vec::new(alloc);
     for precedence in certificate.before.as_slice() {
-        if let Some(pair) = pair_of(&certificate.members, precedence) {
-            pairs.push(pair)?;
-        }
+        add_pair(&certificate.members, precedence, &mut pairs)?;
     }
     Ok(pairs)
 }

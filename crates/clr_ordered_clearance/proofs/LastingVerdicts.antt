@@ -144,8 +144,7 @@ clear_lasts_in_turn o ordered entries commands lost clear quiet come =
     let (more, later) = lasting_in_turn o ordered entries commands lost covers quiet come in
     let now = (run o commands lost).office in (
       more,
-      (clear_in_turn now (standing_pairs now ordered) more).1
-      (
+      (clear_in_turn now (standing_pairs now ordered) more).1 (
         record {
           mergeable = later.mergeable;
           covered = subst (λ (before : Order ℕ). AreCovered before (setting_by_position now (standing now ordered.merge_set)) more)

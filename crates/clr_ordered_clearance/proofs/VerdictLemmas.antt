@@ -58,8 +58,8 @@ module _ (o : Office) (ordered : OrderedMergeSet) where
       let repeated = neither (repeated_member merge_set) (option_or (misplaced_pair ordered) workspaces) root.1 in
       let misplaced = neither (misplaced_pair ordered) workspaces repeated.1 in (
         both_none (names_fault o merge_set) (first_conflict o 0 merge_set.members)
-        (both_none (root_fault o merge_set) (option_or (repeated_member merge_set) workspaces) root.0
-        (both_none (repeated_member merge_set) workspaces repeated.0 misplaced.1)) both.1,
+            (both_none (root_fault o merge_set) (option_or (repeated_member merge_set) workspaces) root.0
+            (both_none (repeated_member merge_set) workspaces repeated.0 misplaced.1)) both.1,
         misplaced.0,
       )
 
@@ -115,10 +115,10 @@ module _ (ordered : OrderedMergeSet) where
   one_says m n [] each h = absurd (false≢true h)
   one_says m n (p ∷ pairs) each h = elim (or_cases (says m n p) (list_any (says m n) pairs) h) [
     | inl here ↦ (let parts = and_parts (same_name p.0 m) (same_name p.1 n) here in
-      let first : p.0 ≡ m = same_is p.0 m parts.0 in
-      let second : p.1 ≡ n = same_is p.1 n parts.1 in
-      subst (λ x. is_earlier same_name ordered.merge_set.members x n ≡ true) first
-      (subst (λ y. is_earlier same_name ordered.merge_set.members p.0 y ≡ true) second (not-false _ (each 0 p refl))))
+        let first : p.0 ≡ m = same_is p.0 m parts.0 in
+        let second : p.1 ≡ n = same_is p.1 n parts.1 in
+        subst (λ x. is_earlier same_name ordered.merge_set.members x n ≡ true) first
+        (subst (λ y. is_earlier same_name ordered.merge_set.members p.0 y ≡ true) second (not-false _ (each 0 p refl))))
     | inr there ↦ one_says m n pairs (λ k. each (suc k)) there
   ]
 

@@ -122,13 +122,13 @@ module _ (merge_set : MergeSet) where
   stop_in_every : (merged : List Name) (commands : List Command) (replies : List Reply) (left : Office) (stopped : Option ℕ)
       → IsStopInTurn (without_order merge_set) merged commands replies left stopped → IsStop merge_set commands replies left stopped
   stop_in_every merged commands replies left None stop = stop
-  stop_in_every merged commands replies left (Some number) (is, (d, (at, inl noisy))) = (is, (d, (at, noisy)))
-  stop_in_every merged commands replies left (Some number) (is, (d, (at, inr late))) = absurd (late (due merged d))
+  stop_in_every merged commands replies left (Some number) (is, (d, at, inl noisy)) = (is, (d, at, noisy))
+  stop_in_every merged commands replies left (Some number) (is, (d, at, inr late)) = absurd (late (due merged d))
 
   stop_in_none : (merged : List Name) (commands : List Command) (replies : List Reply) (left : Office) (stopped : Option ℕ)
       → IsStop merge_set commands replies left stopped → IsStopInTurn (without_order merge_set) merged commands replies left stopped
   stop_in_none merged commands replies left None stop = stop
-  stop_in_none merged commands replies left (Some number) (is, (d, (at, noisy))) = (is, (d, (at, inl noisy)))
+  stop_in_none merged commands replies left (Some number) (is, (d, at, noisy)) = (is, (d, at, inl noisy))
 
 pub start_without_order : StartWithoutOrderLaw
 start_without_order o merge_set commands replies left stopped = (
