@@ -1,5 +1,5 @@
 -- What an answer says, and what the scene of a merge set tells of its verdict.
-use Rattle.std.proofs.Common.{◌≡◌, ◌∙◌, ℕ, List, Option, None, Some, length, refl, subst, sym, take}
+use Rattle.std.proofs.Common.{◌≡◌, ◌∙◌, ℕ, List, [], Option, None, Some, length, refl, subst, sym, take}
 use Rattle.clr_needs.specs.declared.faults.SceneFault.{SceneFault}
 use Rattle.clr_needs.specs.declared.faults.SceneFault.TheVariants as scene
 use Rattle.clr_needs.specs.declared.needs.Need.{Need}
@@ -17,12 +17,13 @@ use Rattle.clr_ordered_needs.specs.Covers.{AreCovered}
 use Rattle.clr_ordered_needs.specs.Turns.{Order}
 use Rattle.clr_ordered_clearance.specs.MergeSets.{OrderedMergeSet, position_goes_before}
 use Rattle.clr_ordered_clearance.specs.Runs.{IsClearedRunInTurn, IsQuietStartInTurn}
-use Rattle.clr_ordered_clearance.specs.VerdictLaws.{IsClearedInTurn}
+use Rattle.clr_ordered_clearance.specs.VerdictLaws.{IsClearedInEveryOrder, IsClearedInTurn}
 use Rattle.clr_ordered_clearance.specs.Verdicts.{IsVerdictInTurn, names_fault_in_turn, of_cell, of_need, of_none}
 use Rattle.clr_ordered_clearance.specs.Verdicts.{of_member as member}
 use Rattle.clr_ordered_clearance.proofs.ClearedLemmas.{cleared_in_turn}
 use Rattle.clr_ordered_clearance.proofs.RunLemmas.{cleared_run_in_turn}
 use Rattle.clr_ordered_clearance.proofs.VerdictLemmas.{clear_in_turn, clear_is_named, names_first, same_member_fault}
+use Rattle.clr_ordered_clearance.proofs.WithoutOrderLemmas.{cleared_without_order}
 use Rattle.clr_check.specs.Answers.{IsCheckAnswer, IsRefusingVerdict, of_memory, of_verdict}
 use Rattle.clr_check.specs.Entries.{IsLeastUncovered}
 use Rattle.clr_merge_sets.specs.Faults.{IsMergeSetFault, of_member, verdict_of, without_memory}
@@ -39,6 +40,10 @@ module _ (o : Office) (ordered : OrderedMergeSet) (entries : List Entry) where
   -- all that a clear answer promises
   pub clear_promises : (v : Verdict) → IsCheckAnswer o ordered entries v → v ≡ verdict.Clear → IsClearedInTurn o ordered
   clear_promises v answer e = cleared_in_turn o ordered entries (clear_verdict v answer e)
+
+  -- and where no member goes before another
+  pub clear_everywhere : (v : Verdict) → IsCheckAnswer o ordered entries v → ordered.before ≡ [] → v ≡ verdict.Clear → IsClearedInEveryOrder o ordered.merge_set
+  clear_everywhere v answer none e = cleared_without_order o ordered entries none (clear_verdict v answer e)
 
   -- a test of names that fails
   pub named_answers : (v : Verdict) → names_fault_in_turn o ordered ≡ Some v → IsCheckAnswer o ordered entries v

@@ -1,9 +1,9 @@
 //! The check of a certificate in an office.
 
-ghost use Rattle.std.specs.Prelude.{◌≡◌, None, IfOk};
+ghost use Rattle.std.specs.Prelude.{◌≡◌, [], None, IfOk};
 ghost use Rattle.clr_clearance.specs.MergeSets.{change_sets};
 ghost use Rattle.clr_clearance.specs.declared.verdicts.Verdict.TheVariants as verdict;
-ghost use Rattle.clr_ordered_clearance.specs.VerdictLaws.{IsClearedInTurn};
+ghost use Rattle.clr_ordered_clearance.specs.VerdictLaws.{IsClearedInEveryOrder, IsClearedInTurn};
 ghost use Rattle.clr_ordered_clearance.specs.Verdicts.{names_fault_in_turn};
 ghost use Rattle.clr_engine.specs.Fitting.{IsAdmitted};
 ghost use Rattle.clr_check.specs.Answers.{IsCheckAnswer};
@@ -78,8 +78,9 @@ fn judge_changes(
 /// refresh of a member meets a conflict. So where every rule holds in the root, it holds in the root
 /// after each command. After any two quiet lists that merge the same members the root has the same
 /// rows. The members can be merged as they are listed. What `Office::perform_all` answers to quiet
-/// commands in which merges come in turn is then a cleared run. Nothing that the certificate says is
-/// taken to be true.
+/// commands in which merges come in turn is then a cleared run. Where the certificate has no
+/// precedence, each merge and each refresh comes in turn, and all this holds of every list of quiet
+/// commands. Nothing that the certificate says is taken to be true.
 ///
 /// For example, mains 1 and 2 may cross only at a node, and the member `W1` deletes node 9, at which they do, and
 /// inserts node 10 there. The verdict is `Clear` where an entry names the old node 9 and the new node 10 as witnesses
@@ -87,6 +88,7 @@ fn judge_changes(
 pub fn check(alloc: Global, office: &Office, certificate: &Certificate) -> Verdict
     ensures answer { IsCheckAnswer office.now (ordered_merge_set_of certificate.now) (entries_in certificate.now.entries) result }
     ensures cleared { result ≡ verdict.Clear → IsClearedInTurn office.now (ordered_merge_set_of certificate.now) }
+    ensures every_order { certificate.now.before ≡ [] → result ≡ verdict.Clear → IsClearedInEveryOrder office.now (merge_set_of certificate.now) }
     ensures admitted { IsAdmitted office.now }
 {
     let _rules = office.book();

@@ -1,10 +1,11 @@
 //! Who goes before whom in a certificate, by the positions of members.
 
-ghost use Rattle.std.specs.Prelude.{◌≡◌, None, IfOk, Option};
-ghost use Rattle.clr_clearance.specs.Verdicts.{repeated_member};
-ghost use Rattle.clr_merge_sets.specs.Certificates.{merge_set_of, ordered_merge_set_of};
-ghost use Rattle.clr_merge_sets.specs.PositionPairs.{SayWhoGoesBefore, pairs_say};
+ghost use Rattle.std.specs.Prelude.{◌≡◌, ◌&&◌, ℕ, None, IfOk, slice_get};
+ghost use Rattle.clr_clearance.specs.Verdicts.{first_repeated};
+ghost use Rattle.clr_merge_sets.specs.Certificates.{ordered_merge_set_of};
+ghost use Rattle.clr_merge_sets.specs.PositionPairs.{SayWhoGoesBefore, is_at, is_pair, is_position, pairs_say};
 
+use crate::name_lists::NameList;
 use clr_cert::{Certificate, Precedence};
 use clr_rows::Names;
 use std::alloc::{AllocError, Global};
@@ -25,13 +26,26 @@ pub fn goes_before(pairs: &[PositionPair], earlier: usize, later: usize) -> bool
         .any(|pair| pair.earlier == earlier && pair.later == later)
 }
 
-/// Returns the position of a name in a list.
-fn position_of(members: &Names, name: &str) -> Option<usize> {
-    members.as_slice().iter().position(|member| member.as_str() == name)
+/// Returns the position of a name in a list in which no name stands twice.
+fn position_of(members: &Names, name: &str) -> Option<usize>
+    requires { first_repeated members.now ≡ None }
+    ensures { (at : ℕ) → is_position result at ≡ is_at (slice_get members.now at) name.now }
+{
+    for position in 0..members.len() {
+        if members.name_at(position) == name {
+            return Some(position);
+        }
+    }
+    None
 }
 
-/// Returns the positions of a precedence, where both its names are members'.
-fn pair_of(members: &Names, precedence: &Precedence) -> Option<PositionPair> {
+/// Returns the positions of the names of a precedence, where both stand in a list in which no name
+/// stands twice.
+pub(crate) fn pair_of(members: &Names, precedence: &Precedence) -> Option<PositionPair>
+    requires { first_repeated members.now ≡ None }
+    ensures { (j k : ℕ) → is_pair result j k
+        ≡ is_at (slice_get members.now j) precedence.now.earlier && is_at (slice_get members.now k) precedence.now.later }
+{
     let earlier = position_of(members, precedence.earlier.as_str())?;
     let later = position_of(members, precedence.later.as_str())?;
     Some(PositionPair { earlier, later })
@@ -43,7 +57,7 @@ pub fn position_pairs(
     alloc: Global,
     certificate: &Certificate,
 ) -> Result<Vec<PositionPair>, AllocError>
-    requires { repeated_member (merge_set_of certificate.now) ≡ None }
+    requires { first_repeated certificate.now.members ≡ None }
     ensures { IfOk result (λ pairs. SayWhoGoesBefore (ordered_merge_set_of certificate.now) pairs.items) }
 {
     let mut pairs = Vec::new(alloc);

@@ -2,6 +2,7 @@ pub mod AnswersInTurn
 pub mod ClearedLemmas
 pub mod HeadlineLemmas
 pub mod LastingLemmas
+pub mod LastingVerdicts
 pub mod ListedLemmas
 pub mod NumberLemmas
 pub mod OrderLemmas
@@ -12,3 +13,4 @@ pub mod SettledLemmas
 pub mod Standing
 pub mod TurnLemmas
 pub mod VerdictLemmas
+pub mod WithoutOrderLemmas

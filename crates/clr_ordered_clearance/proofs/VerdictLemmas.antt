@@ -1,16 +1,12 @@
--- Verdicts under an order: there is one, it is clear exactly where entries cover and members are listed in turn, and without pairs it is that on the merge
--- set.
+-- Verdicts under an order: there is one, and it is clear exactly where entries cover and members are listed in turn.
 use Rattle.std.proofs.Common.{◌≡◌, ◌⊎◌, ◌∙◌, ◌<◌, ℕ, zero, suc, Bool, true, false, not, ◌&&◌, List, [], ◌∷◌, refl, sym, ap, subst, inl, inr}
 use Rattle.std.proofs.Common.{Option, Some, None, slice_get}
-use Rattle.std.specs.Prelude.{◌↔◌}
 use Rattle.std.specs.List.{list_any, position}
 use Rattle.std.specs.Option.{option_map, option_or}
 use Rattle.std.proofs.lemmas.Bool.{and_parts, false≢true, true≢false, not-false, or_cases, or_left, or_right}
 use Rattle.clr_workspaces.specs.Marks.{Name}
 use Rattle.clr_needs.specs.declared.needs.Need.{Need}
-use Rattle.clr_needs.specs.Covers.{Entry, HasEntry as HasEntryInEvery}
-use Rattle.clr_needs.specs.Members.{AreApart}
-use Rattle.clr_needs.specs.Needs.{IsPossible}
+use Rattle.clr_needs.specs.Covers.{Entry}
 use Rattle.clr_needs.specs.Settings.{Setting, Lived}
 use Rattle.clr_needs.proofs.NeedOrder.{need_exact, need_total}
 use Rattle.clr_steps.specs.Names.{same_name}
@@ -19,23 +15,18 @@ use Rattle.clr_steps.specs.Quiet.{MergeSet}
 use Rattle.clr_steps.proofs.FindLemmas.{same_is, same_itself}
 use Rattle.clr_clearance.specs.declared.verdicts.Verdict.{Verdict}
 use Rattle.clr_clearance.specs.declared.verdicts.Verdict.TheVariants as verdict
-use Rattle.clr_clearance.specs.MergeSets.{change_sets, setting_by_position}
-use Rattle.clr_clearance.specs.Verdicts.{IsFirstUncovered, IsVerdict, first_conflict, member_fault, missing_member, names_fault, repeated_member, root_fault}
+use Rattle.clr_clearance.specs.Verdicts.{first_conflict, first_repeated, member_fault, missing_member, names_fault, repeated_member, root_fault}
 use Rattle.clr_clearance.specs.Verdicts.{stray_member}
-use Rattle.clr_clearance.specs.Verdicts as unordered
 use Rattle.clr_clearance.proofs.ClearLemmas.{IsNoClear, each_fails, fault_no_clear, is_clear, mergeable_of, neither, no_map, no_member_fault, none_found}
 use Rattle.clr_clearance.proofs.OrderLemmas.{in_order}
 use Rattle.clr_clearance.proofs.StaticLemmas.{apart_sets}
 use Rattle.clr_clearance.proofs.VerdictLemmas.{not_apart, not_both, one_cell, one_some}
 use Rattle.clr_ordered_needs.specs.Covers.{AreCovered}
-use Rattle.clr_ordered_needs.specs.Turns.{Order, is_earlier, no_order}
-use Rattle.clr_ordered_needs.proofs.EmptyOrder.{can_meet, entry_in_every, entry_in_none}
-use Rattle.clr_ordered_clearance.specs.Laws.{without_order}
-use Rattle.clr_ordered_clearance.specs.MergeSets.{AreListedInTurn, CoversInTurn, OrderedMergeSet, goes_before, position_goes_before}
-use Rattle.clr_ordered_clearance.specs.VerdictLaws.{ClearInTurnLaw, OneVerdictInTurnLaw, VerdictWithoutOrderLaw}
-use Rattle.clr_ordered_clearance.specs.Verdicts.{IsFirstUncoveredInTurn, IsSettled, IsVerdictInTurn, member_fault_in_turn, misplaced_pair, names_fault_in_turn}
+use Rattle.clr_ordered_needs.specs.Turns.{Order, is_earlier}
+use Rattle.clr_ordered_clearance.specs.MergeSets.{AreListedInTurn, CoversInTurn, OrderedMergeSet}
+use Rattle.clr_ordered_clearance.specs.VerdictLaws.{ClearInTurnLaw, OneVerdictInTurnLaw}
+use Rattle.clr_ordered_clearance.specs.Verdicts.{IsFirstUncoveredInTurn, IsVerdictInTurn, member_fault_in_turn, misplaced_pair, names_fault_in_turn}
 use Rattle.clr_ordered_clearance.specs.Verdicts.{of_cell, of_member, of_need, of_none}
-use Rattle.clr_ordered_clearance.proofs.NumberLemmas.{alike, no_order_is}
 
 -- tests, one after another --------------------------------------------------------------------------------------
 
@@ -93,6 +84,14 @@ module _ (o : Office) (ordered : OrderedMergeSet) where
       let named : names_fault o merge_set ≡ None = both_none (root_fault o merge_set) (option_or (repeated_member merge_set) workspaces) root.0
       (both_none (repeated_member merge_set) workspaces repeated.0 misplaced.1) in
       ap (λ r. option_or r (first_conflict o 0 merge_set.members)) (none ∙ sym named)
+
+  -- and no member stands twice
+  pub named_once : names_fault_in_turn o ordered ≡ None → first_repeated merge_set.members ≡ None
+  unfolding names_fault_in_turn
+  named_once none =
+      let root = neither (root_fault o merge_set) (option_or (repeated_member merge_set) (option_or (misplaced_pair ordered) workspaces)) none in
+      no_map verdict.RepeatedMember (first_repeated merge_set.members)
+      (neither (repeated_member merge_set) (option_or (misplaced_pair ordered) workspaces) root.1).0
 
   pub names_first : (v : Verdict) → names_fault_in_turn o ordered ≡ Some v → member_fault_in_turn o ordered ≡ Some v
   names_first v e = ap (λ r. option_or r (first_conflict o 0 merge_set.members)) e
@@ -205,64 +204,3 @@ one_verdict_in_turn o ordered entries v w (of_none none apart covered e) (of_cel
 one_verdict_in_turn o ordered entries v w (of_none none apart covered e) (of_need n a b none_too apart_too first f) = absurd
     (not_covered _ _ entries n a b first covered)
 one_verdict_in_turn o ordered entries v w (of_none none apart covered e) (of_none none_too apart_too covered_too f) = e ∙ sym f
-
--- without pairs -----------------------------------------------------------------------------------------------------------
-
-module _ (c : Setting ℕ) (entries : List Entry) where
-  -- where no member goes before another a possible need is settled exactly where an entry covers it
-  settled_entry : (n : Need) (a : Lived ℕ) (b : Option (Lived ℕ)) → IsPossible c n a b → IsSettled no_order c entries n a b → HasEntryInEvery c n a b entries
-  settled_entry n a b possible (inl never) = absurd (can_meet c n a b possible never)
-  settled_entry n a b possible (inr has) = entry_in_every c n a b entries has
-
-  entry_settled : (n : Need) (a : Lived ℕ) (b : Option (Lived ℕ)) → HasEntryInEvery c n a b entries → IsSettled no_order c entries n a b
-  entry_settled n a b has = inr (entry_in_none c n a b entries has)
-
-  first_in_every : (n : Need) (a : Lived ℕ) (b : Option (Lived ℕ)) → IsFirstUncoveredInTurn no_order c entries n a b → IsFirstUncovered c entries n a b
-  first_in_every n a b first = record {
-    possible = first.possible;
-    touched = first.touched;
-    uncovered = λ has. first.uncovered (entry_settled n a b has);
-    first = λ m d e less possible touched. settled_entry m d e possible (first.first m d e less possible touched);
-  }
-
-  first_in_none : (n : Need) (a : Lived ℕ) (b : Option (Lived ℕ)) → IsFirstUncovered c entries n a b → IsFirstUncoveredInTurn no_order c entries n a b
-  first_in_none n a b first = record {
-    possible = first.possible;
-    touched = first.touched;
-    uncovered = λ settled. first.uncovered (settled_entry n a b first.possible settled);
-    first = λ m d e less possible touched. entry_settled m d e (first.first m d e less possible touched);
-  }
-
-module _ (o : Office) (merge_set : MergeSet) (entries : List Entry) where
-  abbrev c : Setting ℕ
-  c = setting_by_position o merge_set
-
-  abbrev none_before : Order ℕ
-  none_before = position_goes_before (without_order merge_set)
-
-  none_misplaced : misplaced_pair (without_order merge_set) ≡ None
-  none_misplaced = ap (option_map verdict.NotBefore) (none_found (is_misplaced (without_order merge_set)) [] (λ k p e. absurd (cc)))
-
-  same_fault : member_fault_in_turn o (without_order merge_set) ≡ member_fault o merge_set
-  unfolding names_fault names_fault_in_turn
-  same_fault = ap (λ r. option_or (option_or (root_fault o merge_set) (option_or (repeated_member merge_set)
-      (option_or r (option_or (missing_member o merge_set) (stray_member o merge_set))))) (first_conflict o 0 merge_set.members)) none_misplaced
-
-  verdict_in_every : (v : Verdict) → IsVerdictInTurn o (without_order merge_set) entries v → IsVerdict o merge_set entries v
-  verdict_in_every v (of_member e) = unordered.of_member (sym same_fault ∙ e)
-  verdict_in_every v (of_cell cell i j none shared e) = unordered.of_cell cell i j (sym same_fault ∙ none) shared e
-  verdict_in_every v (of_need n a b none apart first e) =
-      unordered.of_need n a b (sym same_fault ∙ none) apart
-      (first_in_every c entries n a b (subst (λ (before : Order ℕ). IsFirstUncoveredInTurn before c entries n a b) (no_order_is o merge_set) first)) e
-  verdict_in_every v (of_none none apart covered e) = unordered.of_none (sym same_fault ∙ none) apart ((alike o merge_set entries).0 covered) e
-
-  verdict_in_none : (v : Verdict) → IsVerdict o merge_set entries v → IsVerdictInTurn o (without_order merge_set) entries v
-  verdict_in_none v (unordered.of_member e) = of_member (same_fault ∙ e)
-  verdict_in_none v (unordered.of_cell cell i j none shared e) = of_cell cell i j (same_fault ∙ none) shared e
-  verdict_in_none v (unordered.of_need n a b none apart first e) =
-      of_need n a b (same_fault ∙ none) apart
-      (subst (λ (before : Order ℕ). IsFirstUncoveredInTurn before c entries n a b) (sym (no_order_is o merge_set)) (first_in_none c entries n a b first)) e
-  verdict_in_none v (unordered.of_none none apart covered e) = of_none (same_fault ∙ none) apart ((alike o merge_set entries).1 covered) e
-
-pub verdict_without_order : VerdictWithoutOrderLaw
-verdict_without_order o merge_set entries v = (verdict_in_every o merge_set entries v, verdict_in_none o merge_set entries v)

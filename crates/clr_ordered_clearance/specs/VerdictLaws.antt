@@ -1,5 +1,5 @@
 -- What a clear verdict promises where some members go before others, and how one comes about need by need.
-use Rattle.std.specs.Prelude.{◌≡◌, ◌↔◌, ℕ, ◌<◌, true, false, List, Some, Contains, map, slice_get}
+use Rattle.std.specs.Prelude.{◌≡◌, ◌↔◌, ℕ, ◌<◌, Bool, true, false, ◌&&◌, List, [], Option, Some, Contains, filter, is_some, map, slice_get}
 use Rattle.clr_workspaces.specs.Marks.{Name}
 use Rattle.clr_workspaces.specs.Workspaces.{Workspace}
 use Rattle.clr_needs.specs.declared.needs.Need.{Need}
@@ -15,16 +15,20 @@ use Rattle.clr_steps.specs.Quiet.{MergeSet, is_member}
 use Rattle.clr_steps.specs.Steps.{lost_in, run}
 use Rattle.clr_clearance.specs.declared.verdicts.Verdict.{Verdict}
 use Rattle.clr_clearance.specs.declared.verdicts.Verdict.TheVariants as verdict
+use Rattle.clr_clearance.specs.ClearedRuns.{IsQuietStart}
+use Rattle.clr_clearance.specs.Headline.{Headline, RunsAreCleared}
+use Rattle.clr_clearance.specs.Laws.{StaysFree}
 use Rattle.clr_clearance.specs.MergeSets.{AgreesWith, RootHolds, rows_with, setting_of}
-use Rattle.clr_clearance.specs.Plans.{merges}
+use Rattle.clr_clearance.specs.Plans.{merges, standing}
 use Rattle.clr_clearance.specs.Runs.{AreQuiet}
+use Rattle.clr_clearance.specs.Safety.{Safe}
 use Rattle.clr_clearance.specs.Verdicts.{IsVerdict}
 use Rattle.clr_ordered_needs.specs.Covers.{AreCovered}
 use Rattle.clr_ordered_needs.specs.Turns.{Order}
 use Rattle.clr_ordered_clearance.specs.Headlines.{HeadlineInTurn}
 use Rattle.clr_ordered_clearance.specs.Laws.{none_lost, without_order}
 use Rattle.clr_ordered_clearance.specs.MergeSets.{AreListedInTurn, CoversInTurn, KeepsRulesInTurn, MembersBreakNoMoreInTurn, OrderedMergeSet}
-use Rattle.clr_ordered_clearance.specs.Runs.{IsClearedRunInTurn}
+use Rattle.clr_ordered_clearance.specs.Runs.{IsClearedRunInTurn, IsQuietStartInTurn}
 use Rattle.clr_ordered_clearance.specs.Safety.{SafeInTurn}
 use Rattle.clr_ordered_clearance.specs.Turns.{MergesComeInTurn}
 use Rattle.clr_ordered_clearance.specs.Verdicts.{IsFirstUncoveredInTurn, IsSettled, IsVerdictInTurn}
@@ -69,6 +73,21 @@ abbrev pub ClearedInTurnLaw : Type 0
 ClearedInTurnLaw = (o : Office) (ordered : OrderedMergeSet) (entries : List Entry) → IsVerdictInTurn o ordered entries verdict.Clear
     → IsClearedInTurn o ordered
 
+-- the members that stand, and the pairs of which both do
+abbrev pub standing_pairs : Office → OrderedMergeSet → OrderedMergeSet
+standing_pairs now ordered = record {
+  merge_set = standing now ordered.merge_set;
+  before = filter (λ p. is_some (workspace now p.0) && is_some (workspace now p.1)) ordered.before;
+}
+
+-- after quiet commands in which merges come in turn the verdict is clear, with some entries, on the members that stand and the pairs of them
+abbrev pub ClearLastsInTurnLaw : Type 0
+ClearLastsInTurnLaw = (o : Office) (ordered : OrderedMergeSet) (entries : List Entry) (commands : List Command) (lost : ℕ → Bool)
+    → IsVerdictInTurn o ordered entries verdict.Clear
+    → AreQuiet o ordered.merge_set commands lost
+    → MergesComeInTurn o ordered commands lost
+    → let now = (run o commands lost).office in (more : List Entry) × IsVerdictInTurn now (standing_pairs now ordered) more verdict.Clear
+
 -- verdicts -------------------------------------------------------------------------------------------------
 
 -- clear exactly where the entries cover the ordered merge set, and the first of each pair is listed before the second
@@ -85,6 +104,22 @@ OneVerdictInTurnLaw = (o : Office) (ordered : OrderedMergeSet) (entries : List E
 abbrev pub VerdictWithoutOrderLaw : Type 0
 VerdictWithoutOrderLaw = (o : Office) (merge_set : MergeSet) (entries : List Entry) (v : Verdict)
     → IsVerdictInTurn o (without_order merge_set) entries v ↔ IsVerdict o merge_set entries v
+
+-- where no member goes before another, a clear verdict promises what one on the merge set promises, of merges in every order
+pub record IsClearedInEveryOrder (o : Office) (merge_set : MergeSet) : Type 0 where
+  pub free : StaysFree o merge_set
+  pub safe : Safe o merge_set
+  pub headline : Headline o merge_set
+  pub runs : RunsAreCleared o merge_set
+
+abbrev pub ClearedWithoutOrderLaw : Type 0
+ClearedWithoutOrderLaw = (o : Office) (ordered : OrderedMergeSet) (entries : List Entry) → ordered.before ≡ [] → IsVerdictInTurn o ordered entries verdict.Clear
+    → IsClearedInEveryOrder o ordered.merge_set
+
+-- and the first commands of a list, up to one that isn't quiet or due, are those up to one that isn't quiet
+abbrev pub StartWithoutOrderLaw : Type 0
+StartWithoutOrderLaw = (o : Office) (merge_set : MergeSet) (commands : List Command) (replies : List Reply) (left : Office) (stopped : Option ℕ)
+    → IsQuietStartInTurn o (without_order merge_set) commands replies left stopped ↔ IsQuietStart o merge_set commands replies left stopped
 
 -- need by need -----------------------------------------------------------------------------------------------
 
