@@ -60,8 +60,8 @@ fn names(fields: &StringRecord) -> Option<(&str, &str)>
     ensures { option_map (λ names. (names.0.now, names.1.now)) result ≡ record_names_of (fields_of fields.now) }
 {
     let (earlier, later) = (field(fields, 1), field(fields, 2));
-    (good_name(earlier) && good_name(later) && ends_empty_behind_two(fields))
-        .then_some((earlier, later))
+    let are_right = good_name(earlier) && good_name(later) && ends_empty_behind_two(fields);
+    are_right.then_some((earlier, later))
 }
 
 /// Returns the root that a record names, if it may name one. `rooted` says whether a root record

@@ -1,6 +1,6 @@
 //! The checker of certificates, given as values or as texts: whether children of a kept workspace may be
-//! merged into it in every order in which some go before others, between other work, and runs of
-//! commands where it says so.
+//! merged into it in every order, or in every order in which some go before others, between other work;
+//! and runs of commands where it says so.
 //!
 //! - `check` [`answer`, `cleared`, `every_order`, `admitted`] gives the verdict on the certificate's
 //!   root, members, precedences and entries, or want of memory; it is never want of memory where a
@@ -32,8 +32,7 @@
 //! - `check_texts` says, memory aside, exactly which of these fails first, and otherwise gives the
 //!   verdict, which may be want of memory. Where it is clear, all holds that `check` promises of a
 //!   clear one. `judge_texts` [`case`, `verdict`, `fault`] gives besides the office and the
-//!   certificate, which a line names; by it the program
-//!   answers `check`.
+//!   certificate, which a line names; by it the program answers `check`.
 #![tactic(auto)]
 
 mod cases;

@@ -90,8 +90,8 @@ fn misplaced_line(alloc: Global, precedence: Option<&Precedence>) -> Result<Vec<
     ensures { IfOk result (λ line. line.items ≡ misplaced_text (option_map (λ p. p.now) precedence)) }
 {
     match precedence {
-        Some(precedence) => {
-            not_before_line(alloc, precedence.earlier.as_str(), precedence.later.as_str())
+        Some(Precedence { earlier, later }) => {
+            not_before_line(alloc, earlier.as_str(), later.as_str())
         }
         None => not_before_line(alloc, "", ""),
     }

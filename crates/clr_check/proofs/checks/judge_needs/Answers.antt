@@ -1,8 +1,12 @@
 use Rattle.std.proofs.Common.{subst, sym}
+use Rattle.clr_ordered_clearance.proofs.VerdictLemmas.{named_once}
 use Rattle.clr_check.specs.Answers.{IsCheckAnswer}
 use Rattle.clr_merge_sets.specs.Certificates.{entries_in, merge_set_of, ordered_merge_set_of}
 use Rattle.clr_check.proofs.AnswerLemmas.{clear_answers, scene_answers, uncovered_answers}
 use Rattle.clr_check.proofs.checks.judge_needs.Goals as goal
+
+pub position_pairs-requires : goal.position_pairs-requires
+position_pairs-requires c = named_once c.args.office.now (ordered_merge_set_of c.args.certificate.now) c.requires.named
 
 pub returns-in-Ok-None : goal.returns-in-Ok-None
 returns-in-Ok-None c =
