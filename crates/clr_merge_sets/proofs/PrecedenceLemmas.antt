@@ -91,10 +91,10 @@ earlier_there (n ∷ ns) e l h = by (same_name n e) refl h (earlier_there ns e l
         (or_right (same_name n e) (has ns e) rest.0, or_right (same_name n l) (has ns l) rest.1)
 
 behind : (n : Name) (ns : List Name) → AllDiffer (n ∷ ns) → AllDiffer ns
-behind n ns once j k name e f = let one = once (suc j) (suc k) name e f in omega (arith, one)
+behind n ns once j k name e f = let one : suc j ≡ suc k = once (suc j) (suc k) name e f in omega (arith, one)
 
 alone : (n : Name) (ns : List Name) → AllDiffer (n ∷ ns) → has ns n ≡ true → ⊥
-alone n ns once h = let (k, e) = position_of ns n h in let one = once 0 (suc k) n refl e in omega (arith, one)
+alone n ns once h = let (k, e) = position_of ns n h in let one : 0 ≡ suc k = once 0 (suc k) n refl e in omega (arith, one)
 
 rises : (names : List Name) (i j : ℕ) (e l : Name) → i < j → slice_get names i ≡ Some e → slice_get names j ≡ Some l → is_earlier same_name names e l ≡ true
 rises [] i j e l less is at = absurd (cc)
@@ -144,13 +144,13 @@ module _ (names : List Name) (once : AllDiffer names) (e l : Name) where
       itself = λ i. (Decides-eqb p.earlier p.earlier).1 refl i && (Decides-eqb p.later p.later).1 refl i
 
       both : (is_at (slice_get names p.earlier) e ≡ true) × (is_at (slice_get names p.later) l ≡ true)
-      both = and_parts _ _ (sym (told p.earlier p.later) ∙ itself)
+      both = and_parts (is_at (slice_get names p.earlier) e) (is_at (slice_get names p.later) l) (sym (told p.earlier p.later) ∙ itself)
 
       is : slice_get names p.earlier ≡ Some e
-      is = is_the _ e both.0
+      is = is_the (slice_get names p.earlier) e both.0
 
       at : slice_get names p.later ≡ Some l
-      at = is_the _ l both.1
+      at = is_the (slice_get names p.later) l both.1
 
       order : (i j : ℕ) → (i < j) ⊎ (j ≤ i)
       order i j = grind arith
@@ -198,19 +198,19 @@ module _ (names : List Name) (j k : ℕ) where
       ∙ sym (ap (λ ps. list_any says (pairs_in ps)) (take_more before at p less ∙ ap (λ q. take at before ++ q ∷ []) (sym is))
       ∙ list_any-map says (λ (q : Precedence). (q.earlier, q.later)) (take at before ++ p ∷ [])
       ∙ list_any-append (λ (q : Precedence). says (q.earlier, q.later)) (take at before) (p ∷ [])
-      ∙ (λ i. list_any-map says (λ (q : Precedence). (q.earlier, q.later)) (take at before) (~ i) || or-false (says (p.earlier, p.later)) i))
+      ∙ (λ i. sym (list_any-map says (λ (q : Precedence). (q.earlier, q.later)) (take at before)) i || or-false (says (p.earlier, p.later)) i))
+
+none_says : {X : Type 0} (f : X → Bool) → ((x : X) → f x ≡ false) → (xs : List X) → list_any f xs ≡ false
+none_says f fails [] = refl
+none_says f fails (x ∷ xs) = λ i. fails x i || none_says f fails xs i
 
 pub pairs_tell : (ordered : OrderedMergeSet) (pairs : List PositionPair)
     → ((j k : ℕ) → pairs_say pairs j k ≡ list_any (says ordered.merge_set.members j k) ordered.before) → SayWhoGoesBefore ordered pairs
 pairs_tell ordered pairs same j k = same j k ∙ by (slice_get ordered.merge_set.members j) (slice_get ordered.merge_set.members k)
   where
-    none : (f : (Name × Name) → Bool) → ((p : Name × Name) → f p ≡ false) → (ps : List (Name × Name)) → list_any f ps ≡ false
-    none f fails [] = refl
-    none f fails (p ∷ ps) = λ i. fails p i || none f fails ps i
-
     by : (m n : Option Name) → list_any (λ (p : Name × Name). is_at m p.0 && is_at n p.1) ordered.before ≡ goes_before_if_any (goes_before ordered) m n
-    by None n = none _ (λ p. refl) ordered.before
-    by (Some m) None = none _ (λ p. and-false (same_name p.0 m)) ordered.before
+    by None n = none_says (λ (p : Name × Name). is_at None p.0 && is_at n p.1) (λ p. refl) ordered.before
+    by (Some m) None = none_says (λ (p : Name × Name). is_at (Some m) p.0 && is_at None p.1) (λ p. and-false (same_name p.0 m)) ordered.before
     by (Some m) (Some n) = refl
 
 -- the tests of names ---------------------------------------------------------------------------------
