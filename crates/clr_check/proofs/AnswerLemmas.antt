@@ -28,7 +28,7 @@ use Rattle.clr_check.specs.Answers.{IsCheckAnswer, IsRefusingVerdict, of_memory,
 use Rattle.clr_check.specs.Entries.{IsLeastUncovered}
 use Rattle.clr_merge_sets.specs.Faults.{IsMergeSetFault, of_member, verdict_of, without_memory}
 use Rattle.clr_merge_sets.specs.PositionPairs.{SayWhoGoesBefore, pairs_say}
-use Rattle.clr_merge_sets.specs.declared.position_pairs.PositionPair.{PositionPair}
+use Rattle.clr_merge_sets.specs.declared.precedence_pairs.PositionPair.{PositionPair}
 
 -- what an answer says ------------------------------------------------------------------------------
 

@@ -30,7 +30,7 @@ use Rattle.clr_ordered_clearance.specs.Verdicts.{misplaced_pair, names_fault_in_
 use Rattle.clr_merge_sets.specs.Certificates.{pairs_in}
 use Rattle.clr_merge_sets.specs.Faults.{is_told_first}
 use Rattle.clr_merge_sets.specs.PositionPairs.{SayWhoGoesBefore, is_at, is_pair, is_position, pair_is, pairs_say}
-use Rattle.clr_merge_sets.specs.declared.position_pairs.PositionPair.{PositionPair}
+use Rattle.clr_merge_sets.specs.declared.precedence_pairs.PositionPair.{PositionPair}
 use Rattle.clr_merge_sets.proofs.NameLemmas.{NonePasses}
 
 -- one name of a list ---------------------------------------------------------------------------------

@@ -4,7 +4,7 @@ use Rattle.std.specs.List.{list_any}
 use Rattle.clr_workspaces.specs.Marks.{Name}
 use Rattle.clr_steps.specs.Names.{same_name}
 use Rattle.clr_ordered_clearance.specs.MergeSets.{OrderedMergeSet, position_goes_before}
-use Rattle.clr_merge_sets.specs.declared.position_pairs.PositionPair.{PositionPair}
+use Rattle.clr_merge_sets.specs.declared.precedence_pairs.PositionPair.{PositionPair}
 
 -- the pair is of these positions
 abbrev pub pair_is : ℕ → ℕ → PositionPair → Bool

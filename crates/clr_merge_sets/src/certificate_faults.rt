@@ -10,7 +10,7 @@ ghost use Rattle.clr_merge_sets.specs.Certificates.{ordered_merge_set_of, pairs_
 ghost use Rattle.clr_merge_sets.specs.Faults.{is_told_first};
 
 use crate::name_tests::name_fault;
-use crate::position_pairs::pair_of;
+use crate::precedence_pairs::pair_of;
 use clr_cert::{Certificate, Precedence};
 use clr_clearance::Verdict;
 use clr_engine::Office;

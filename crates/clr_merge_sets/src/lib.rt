@@ -29,7 +29,7 @@ mod merge_sets;
 mod name_lists;
 mod name_tests;
 mod plans;
-mod position_pairs;
+mod precedence_pairs;
 mod repeats;
 mod scene_faults;
 
@@ -41,5 +41,5 @@ pub use merge_sets::{read_merge_set, read_merge_set_of};
 pub use name_lists::NameList;
 pub use name_tests::{fault_without_memory, is_child, name_fault};
 pub use plans::Plan;
-pub use position_pairs::{PositionPair, goes_before, position_pairs};
+pub use precedence_pairs::{PositionPair, goes_before, position_pairs};
 pub use scene_faults::verdict_of;

@@ -1,6 +1,6 @@
 use Rattle.clr_merge_sets.proofs.PrecedenceLemmas.{pairs_tell, said_more}
 use Rattle.clr_merge_sets.specs.Certificates.{ordered_merge_set_of}
-use Rattle.clr_merge_sets.proofs.position_pairs.position_pairs.Goals as goal
+use Rattle.clr_merge_sets.proofs.precedence_pairs.position_pairs.Goals as goal
 
 pub loop-precedence-preserved : goal.loop-precedence-preserved
 loop-precedence-preserved c j k =

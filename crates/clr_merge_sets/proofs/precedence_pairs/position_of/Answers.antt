@@ -3,7 +3,7 @@ use Rattle.clr_steps.specs.Names.{same_name}
 use Rattle.clr_clearance.proofs.ClearLemmas.{all_differ}
 use Rattle.clr_merge_sets.proofs.NameLemmas.{one_fails}
 use Rattle.clr_merge_sets.proofs.PrecedenceLemmas.{found_position, no_position, unlike_text}
-use Rattle.clr_merge_sets.proofs.position_pairs.position_of.Goals as goal
+use Rattle.clr_merge_sets.proofs.precedence_pairs.position_of.Goals as goal
 
 pub returns-then-eq : goal.returns-then-eq
 returns-then-eq c =

@@ -3,7 +3,7 @@ use Rattle.std.specs.List.{list_any}
 use Rattle.clr_merge_sets.specs.Certificates.{pairs_in}
 use Rattle.clr_merge_sets.specs.PositionPairs.{pairs_say}
 use Rattle.clr_merge_sets.proofs.PrecedenceLemmas.{says}
-use Rattle.clr_merge_sets.proofs.position_pairs.position_pairs.Given as goal
+use Rattle.clr_merge_sets.proofs.precedence_pairs.position_pairs.Given as goal
 
 -- the pairs so far say what the precedences so far say
 abbrev pub invariant-loop-precedence : goal.invariant-loop-precedence
