@@ -1,9 +1,12 @@
 -- The members that commands merge, as one command after another is performed.
-use Rattle.std.proofs.Common.{◌≡◌, ◌∙◌, ◌+◌, ◌<◌, ℕ, true, zero, suc, List, [], ◌∷◌, ◌++◌, refl, sym, ap, subst, arith, get_or, length, take}
+use Rattle.std.proofs.Common.{◌≡◌, ◌∙◌, ◌+◌, ◌<◌, ℕ, Bool, true, false, ◌&&◌, cond, zero, suc, List, [], ◌∷◌, ◌++◌, refl, sym, ap, subst, arith, get_or, length, take}
 use Rattle.std.proofs.lemmas.List.{append_assoc, append-nil, take_more}
 use Rattle.clr_workspaces.specs.Marks.{Name}
 use Rattle.clr_steps.specs.declared.commands.Command.{Command}
+use Rattle.clr_steps.specs.declared.commands.Command.TheVariants as command
 use Rattle.clr_steps.specs.declared.commands.Reply.{Reply}
+use Rattle.clr_steps.specs.declared.commands.Reply.TheVariants.{Done}
+use Rattle.clr_steps.specs.Names.{has}
 use Rattle.clr_steps.specs.Offices.{Office}
 use Rattle.clr_steps.specs.Quiet.{MergeSet, is_quiet}
 use Rattle.clr_steps.specs.Steps.{AreAnswers, IsAnswer, lost_in}
@@ -12,12 +15,28 @@ use Rattle.clr_ordered_clearance.specs.MergeSets.{OrderedMergeSet}
 use Rattle.clr_ordered_clearance.specs.Runs.{IsDue}
 use Rattle.clr_ordered_clearance.specs.Turns.{MergesComeInTurn}
 use Rattle.clr_ordered_clearance.proofs.RunLemmas.{one_more_in_turn}
+use Rattle.clr_check.specs.Turns.{is_done}
 
 module _ (merge_set : MergeSet) where
   none_merged : (cs : List Command) → merged_in merge_set cs [] ≡ []
   unfolding merged_in
   none_merged [] = refl
   none_merged (c ∷ cs) = refl
+
+  -- what one command merges
+  pub nobody_merged : (c : Command) (r : Reply) → ((name : Name) (remove : Bool) → ¬ (c ≡ command.Merge name remove)) → merged_by merge_set c r ≡ []
+  nobody_merged (command.Merge name remove) r other = absurd (other name remove refl)
+  nobody_merged _ r other = refl
+
+  merged_alone : (name : Name) (remove : Bool) (r : Reply)
+      → merged_by merge_set (command.Merge name remove) r ≡ cond (is_done r && has merge_set.members name) (name ∷ []) []
+  merged_alone name remove Done = refl
+  merged_alone name remove _ = refl
+
+  pub one_merged : (c : Command) (name : Name) (remove : Bool) (r : Reply) (told : Bool) → c ≡ command.Merge name remove
+      → told ≡ (is_done r && has merge_set.members name) → merged_by merge_set c r ≡ cond told (name ∷ []) []
+  one_merged c name remove r told is same =
+      ap (λ x. merged_by merge_set x r) is ∙ merged_alone name remove r ∙ ap (λ b. cond b (name ∷ []) []) (sym same)
 
   -- the replies alone say how many commands count
   pub merged_cut : (cs : List Command) (rs : List Reply) → merged_in merge_set (take (length rs) cs) rs ≡ merged_in merge_set cs rs
@@ -81,3 +100,8 @@ module _ (o : Office) (ordered : OrderedMergeSet) (commands : List Command) wher
       let here : c ≡ get_or commands (length replies) d = is ∙ ap (λ k. get_or commands k d) (sym long) in
       added ∙ (λ i. same i ++ merged_by ordered.merge_set (here i) reply)
       ∙ sym (merged_more ordered.merge_set commands replies d reply (omega (arith, less, long)))
+
+-- a reply that isn't Done
+pub not_done : (r : Reply) (b : Bool) → ¬ (r ≡ Done) → false ≡ (is_done r && b)
+not_done Done b other = absurd (other refl)
+not_done _ b other = refl

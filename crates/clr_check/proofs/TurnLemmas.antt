@@ -9,10 +9,15 @@ use Rattle.std.proofs.lemmas.List.Folds.{list_any-append}
 use Rattle.std.proofs.lemmas.Option.{slice_get-get_or, slice_get-map}
 use Rattle.clr_rows.proofs.SchemaLemmas.{list_any-map}
 use Rattle.clr_workspaces.specs.Marks.{Name}
+use Rattle.clr_needs.specs.Tests.{IsTestOf}
+use Rattle.clr_needs.proofs.TestLemmas.{told_as}
+use Rattle.clr_steps.specs.declared.commands.Command.{Command}
+use Rattle.clr_steps.specs.declared.commands.Command.TheVariants as command
 use Rattle.clr_steps.specs.Names.{has, same_name}
 use Rattle.clr_steps.specs.Quiet.{is_member}
 use Rattle.clr_steps.proofs.FindLemmas.{same_is, same_itself}
 use Rattle.clr_ordered_clearance.specs.MergeSets.{OrderedMergeSet, goes_before}
+use Rattle.clr_ordered_clearance.specs.Runs.{IsDue}
 use Rattle.clr_ordered_clearance.specs.Turns.{IsTurnOf}
 use Rattle.clr_cert.specs.declared.certificates.Certificate.{Certificate}
 use Rattle.clr_cert.specs.declared.certificates.Precedence.{Precedence}
@@ -96,3 +101,20 @@ module _ (c : Certificate) (merged : List Name) (name : Name) where
       any_at [] j {p} e h = absurd (cc)
       any_at (x ∷ xs) zero {p} e h = let one : x ≡ p = cc in or_left (says p.earlier name x) (list_any (says p.earlier name) xs) (ap (says p.earlier name) one ∙ h)
       any_at (x ∷ xs) (suc j) {p} e h = or_right (says p.earlier name x) (list_any (says p.earlier name) xs) (any_at xs j e h)
+
+-- commands that are due -----------------------------------------------------------------------------
+
+module _ (ordered : OrderedMergeSet) (merged : List Name) where
+  pub other_due : (c : Command) → ((name : Name) (remove : Bool) → ¬ (c ≡ command.Merge name remove)) → IsDue ordered merged c
+  other_due (command.Merge name remove) other = absurd (other name remove refl)
+  other_due _ other = tt
+
+  pub outside_due : (c : Command) (name : Name) (remove : Bool) → c ≡ command.Merge name remove → is_member ordered.merge_set name ≡ false
+      → IsDue ordered merged c
+  outside_due c name remove is out = subst (IsDue ordered merged) (sym is) (λ member. absurd (false≢true (sym out ∙ member)))
+
+  pub member_due : (c : Command) (name : Name) (remove : Bool) (told : Bool) → c ≡ command.Merge name remove → is_member ordered.merge_set name ≡ true
+      → IsTestOf told (IsTurnOf ordered merged name) → IsTestOf told (IsDue ordered merged c)
+  member_due c name remove told is member turn =
+      subst (λ x. IsTestOf told (IsDue ordered merged x)) (sym is)
+      (told_as told (IsTurnOf ordered merged name) (is_member ordered.merge_set name ≡ true → IsTurnOf ordered merged name) (λ t _. t) (λ f. f member) turn)

@@ -1,13 +1,15 @@
 //! Commands that are performed where a certificate is clear, up to the first that isn't quiet, or that merges a
 //! member before its turn.
 
-ghost use Rattle.std.specs.Prelude.{◌≡◌, ◌≤◌, ◌<◌, ◌+◌, ◌++◌, [], Some, IfErr, IfOk, OnErr, OnOk, length, map, take, vec_capacity, vec_len};
+ghost use Rattle.std.specs.Prelude.{◌≡◌, ◌≤◌, ◌<◌, ◌&&◌, ◌+◌, ◌++◌, [], Some, IfErr, IfOk, OnErr, OnOk, length, map, take, vec_capacity, vec_len};
 ghost use Rattle.clr_clearance.specs.Runs.{merged_by};
 ghost use Rattle.clr_clearance.specs.declared.verdicts.Verdict.TheVariants as verdict;
 ghost use Rattle.clr_ordered_clearance.specs.Runs.{IsClearedRunInTurn, IsQuietStartInTurn};
 ghost use Rattle.clr_ordered_clearance.specs.Verdicts.{IsVerdictInTurn};
 ghost use Rattle.clr_check.specs.Answers.{IsRefusingVerdict};
+ghost use Rattle.clr_check.specs.Turns.{is_done};
 ghost use Rattle.clr_merge_sets.specs.Certificates.{entries_in, merge_set_of, ordered_merge_set_of};
+ghost use Rattle.clr_steps.specs.Names.{has};
 
 use crate::checks::check;
 use crate::quiet::{is_member, is_quiet};
@@ -26,6 +28,16 @@ pub struct ClearedRun {
     pub stopped: Option<usize>,
 }
 
+/// Returns whether a merge was that of a member, and was done.
+fn is_merged(certificate: &Certificate, ws: &str, reply: &Reply) -> bool
+    ensures { result ≡ is_done reply.now && has certificate.now.members ws.now }
+{
+    match reply {
+        Reply::Done => is_member(certificate, ws),
+        _ => false,
+    }
+}
+
 /// Adds the member whose merge was done, if a command was such a merge.
 fn add_merged<'a>(
     certificate: &Certificate,
@@ -39,14 +51,13 @@ fn add_merged<'a>(
     ensures len { vec_len merged.new ≤ vec_len merged.old + 1 }
     ensures room { vec_capacity merged.old ≤ vec_capacity merged.new }
 {
-    match (command, reply) {
-        (Command::Merge { ws, .. }, Reply::Done) => {
-            if is_member(certificate, ws.as_str()) {
-                merged.push(ws.as_str()).unwrap();
-            }
-        }
-        _ => {}
+    let Command::Merge { ws, .. } = command else {
+        return;
+    };
+    if !is_merged(certificate, ws.as_str(), reply) {
+        return;
     }
+    merged.push(ws.as_str()).unwrap();
 }
 
 /// Returns the run that stops behind these replies, where commands are left.
