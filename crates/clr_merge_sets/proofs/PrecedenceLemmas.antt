@@ -6,7 +6,7 @@ use Rattle.std.specs.Option.{option_map, option_or}
 use Rattle.std.proofs.lemmas.Bool.{and_parts, cases_Bool, false≢true, lt-ltb, le-ltb, or_left, or_right}
 use Rattle.std.proofs.lemmas.Bool.Decides.{Decides-eqb}
 use Rattle.std.proofs.lemmas.List.Folds.{list_any-append}
-use Rattle.std.proofs.lemmas.List.{take_more}
+use Rattle.std.proofs.lemmas.List.{take_all, take_more}
 use Rattle.std.proofs.lemmas.Option.{slice_get-get_or, slice_get-map, slice_get_within}
 use Rattle.clr_rows.proofs.SchemaLemmas.{list_any-map}
 use Rattle.clr_cert.specs.declared.certificates.Precedence.{Precedence}
@@ -50,8 +50,8 @@ at_it None name e = absurd (cc)
 at_it (Some m) name e = let one : m ≡ name = cc in ap (same_name name) one ∙ same_itself name
 
 unlike : (m name : Name) → same_name m name ≡ false → same_name name m ≡ false
-unlike m name no = elim (cases_Bool (same_name name m)) [
-  | inl h ↦ absurd (false≢true (sym no ∙ ap (same_name m) (same_is name m h) ∙ same_itself m))
+unlike m name apart = elim (cases_Bool (same_name name m)) [
+  | inl h ↦ absurd (false≢true (sym apart ∙ ap (same_name m) (same_is name m h) ∙ same_itself m))
   | inr h ↦ h
 ]
 
@@ -132,8 +132,8 @@ falls (n ∷ ns) (suc i) (suc j) e l once le is at h = by (same_name n e) refl h
 
 module _ (names : List Name) (once : AllDiffer names) (e l : Name) where
   not_true : (b : Bool) → (b ≡ true → ⊥) → b ≡ false
-  not_true true no = absurd (no refl)
-  not_true false no = refl
+  not_true true refused = absurd (refused refl)
+  not_true false refused = refl
 
   -- a pair that was found tells whether the one name stands before the other
   pub rising_pair : (p : PositionPair) → ((j k : ℕ) → pair_is j k p ≡ is_at (slice_get names j) e && is_at (slice_get names k) l)
@@ -199,6 +199,11 @@ module _ (names : List Name) (j k : ℕ) where
       ∙ list_any-map says (λ (q : Precedence). (q.earlier, q.later)) (take at before ++ p ∷ [])
       ∙ list_any-append (λ (q : Precedence). says (q.earlier, q.later)) (take at before) (p ∷ [])
       ∙ (λ i. sym (list_any-map says (λ (q : Precedence). (q.earlier, q.later)) (take at before)) i || or-false (says (p.earlier, p.later)) i))
+
+module _ (names : List Name) (j k : ℕ) where
+  pub said_all : (before : List Precedence) (at : ℕ) → length before ≤ at
+      → list_any (says names j k) (pairs_in (take at before)) ≡ list_any (says names j k) (pairs_in before)
+  said_all before at past = ap (λ ps. list_any (says names j k) (pairs_in ps)) (take_all at before past)
 
 none_says : {X : Type 0} (f : X → Bool) → ((x : X) → f x ≡ false) → (xs : List X) → list_any f xs ≡ false
 none_says f fails [] = refl

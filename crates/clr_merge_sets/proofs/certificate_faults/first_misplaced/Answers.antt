@@ -1,4 +1,6 @@
-use Rattle.std.proofs.Common.{◌∙◌, ap, arith, not, sym}
+use Rattle.std.proofs.Common.{◌≡◌, ◌∙◌, ap, arith, length, not, sym}
+use Rattle.std.proofs.lemmas.List.{length-map}
+use Rattle.clr_cert.specs.declared.certificates.Precedence.{Precedence}
 use Rattle.clr_steps.specs.Names.{same_name}
 use Rattle.clr_ordered_needs.specs.Turns.{is_earlier}
 use Rattle.clr_merge_sets.specs.Certificates.{pairs_in}
@@ -28,5 +30,7 @@ loop-position-preserved c =
 
 pub returns : goal.returns
 returns c =
-    none_passes (λ q. not (is_earlier same_name c.args.members.now q.0 q.1)) (pairs_in c.args.before.now) c.loop-position.position (omega arith)
+    let before = c.args.before.now in
+    let long : length (pairs_in before) ≡ length before = length-map before (λ (p : Precedence). (p.earlier, p.later)) in
+    none_passes (λ q. not (is_earlier same_name c.args.members.now q.0 q.1)) (pairs_in before) c.loop-position.position (omega (arith, long))
     c.loop-position.invariant
