@@ -1,5 +1,5 @@
 -- Whose turn it is, told by one precedence after another.
-use Rattle.std.proofs.Common.{◌≡◌, ◌∙◌, ◌+◌, ◌<◌, ◌≤◌, ℕ, zero, suc, Bool, true, false, not, ◌&&◌, List, [], ◌∷◌, ◌++◌, Bor, Some, inl, inr, refl, sym, ap, subst}
+use Rattle.std.proofs.Common.{◌≡◌, ◌∙◌, ◌+◌, ◌<◌, ◌≤◌, ℕ, zero, suc, Bool, true, false, not, ◌&&◌, ◌||◌, List, [], ◌∷◌, ◌++◌, Bor, Some, inl, inr, refl, sym, ap, subst}
 use Rattle.std.proofs.Common.{get_or, length, map, take}
 use Rattle.std.specs.List.{list_any}
 use Rattle.std.specs.Prelude.{option_map, slice_get}
@@ -63,7 +63,7 @@ module _ (c : Certificate) (merged : List Name) (name : Name) where
       let parts = and_parts (same_name p.earlier m) (same_name p.later name) goes in
       let first = same_is p.earlier m parts.0 in
       by (has merged m) refl
-      (sym (λ i. parts.1 i && (ap (is_member (merge_set_of c)) first ∙ member) i && not (ap (has merged) first i)) ∙ lets)
+      (sym (λ i. parts.1 i && ((ap (is_member (merge_set_of c)) first ∙ member) i && not (ap (has merged) first i))) ∙ lets)
     where
       by : (b : Bool) → has merged m ≡ b → not (has merged m) ≡ false → has merged m ≡ true
       by true e f = e

@@ -1,6 +1,6 @@
 //! The lines of verdicts.
 
-ghost use Rattle.std.specs.Prelude.{◌≡◌, ◌++◌, codes, map, option_map, IfOk};
+ghost use Rattle.std.specs.Prelude.{◌≡◌, ◌++◌, codes, map, slice_get, IfOk};
 ghost use Rattle.clr_lines.specs.Verdicts.{conflict_text, misplaced_text, name_text, not_before_text, shared_text, uncovered_text};
 ghost use Rattle.clr_lines.specs.Verdicts.{verdict_text, verdict_text_in_turn};
 
@@ -85,11 +85,11 @@ fn not_before_line(alloc: Global, earlier: &str, later: &str) -> Result<Vec<u8>,
     Ok(line)
 }
 
-/// Returns the line of a precedence that doesn't stand in the list of members, or one without names.
-fn misplaced_line(alloc: Global, precedence: Option<&Precedence>) -> Result<Vec<u8>, AllocError>
-    ensures { IfOk result (λ line. line.items ≡ misplaced_text (option_map (λ p. p.now) precedence)) }
+/// Returns the line of the precedence of a position, or one without names where there is none.
+fn misplaced_line(alloc: Global, before: &[Precedence], at: usize) -> Result<Vec<u8>, AllocError>
+    ensures { IfOk result (λ line. line.items ≡ misplaced_text (slice_get before.now at)) }
 {
-    match precedence {
+    match before.get(at) {
         Some(Precedence { earlier, later }) => {
             not_before_line(alloc, earlier.as_str(), later.as_str())
         }
@@ -142,7 +142,7 @@ pub fn verdict_line(
         ),
         Verdict::Uncovered(need) => uncovered_line(alloc, schema, &need),
         Verdict::NotKept => name_line(alloc, "7 NotKept ", root),
-        Verdict::NotBefore(_) => misplaced_line(alloc, None),
+        Verdict::NotBefore(_) => not_before_line(alloc, "", ""),
     }
 }
 
@@ -161,7 +161,7 @@ pub fn verdict_line_in_turn(
     ensures { IfOk result (λ line. line.items ≡ verdict_text_in_turn schema.now (map (λ name. name.now) members.now) before.now root.now verdict.now) }
 {
     match *verdict {
-        Verdict::NotBefore(at) => misplaced_line(alloc, before.get(at)),
+        Verdict::NotBefore(at) => misplaced_line(alloc, before, at),
         _ => verdict_line(alloc, schema, members, root, verdict),
     }
 }
