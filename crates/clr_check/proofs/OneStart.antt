@@ -108,7 +108,7 @@ module _ (ordered : OrderedMergeSet) where
         by (inr (d, at, halt)) =
             let one : c ≡ d = cc in
             subst (λ x. IsHalt o names x) (sym one)
-            (subst (λ p. IsHalt p names d) (sym start.answers) (subst (λ ns. IsHalt left ns d) (append-nil names) halt))
+            (subst (λ p. IsHalt p names d) start.answers (subst (λ ns. IsHalt left ns d) (append-nil names) halt))
 
     -- no list of replies stops where another goes on
     not_both_ways : (o left rest : Office) (names : List Name) (reply : Reply) (replies : List Reply)

@@ -93,14 +93,17 @@ module _ (c : Certificate) (merged : List Name) (name : Name) where
       let p : Precedence = get_or before k d in
       let parts = and_parts (same_name p.later name) (is_member (merge_set_of c) p.earlier && not (has merged p.earlier)) holds in
       let rest = and_parts (is_member (merge_set_of c) p.earlier) (not (has merged p.earlier)) parts.1 in
-      let goes : list_any (says p.earlier name) before ≡ true = any_at before k (slice_get-get_or before k d less) (λ i. same_itself p.earlier i && parts.0 i) in
+      let goes : list_any (says p.earlier name) before ≡ true = any_at before k p (slice_get-get_or before k d less) (λ i. same_itself p.earlier i && parts.0 i) in
       let there = turn p.earlier (goes_is before p.earlier ∙ goes) rest.0 in
       false≢true (sym (ap not there) ∙ rest.1)
     where
-      any_at : (xs : List Precedence) (j : ℕ) → {p : Precedence} → slice_get xs j ≡ Some p → says p.earlier name p ≡ true → list_any (says p.earlier name) xs ≡ true
-      any_at [] j {p} e h = absurd (cc)
-      any_at (x ∷ xs) zero {p} e h = let one : x ≡ p = cc in or_left (says p.earlier name x) (list_any (says p.earlier name) xs) (ap (says p.earlier name) one ∙ h)
-      any_at (x ∷ xs) (suc j) {p} e h = or_right (says p.earlier name x) (list_any (says p.earlier name) xs) (any_at xs j e h)
+      any_at : (xs : List Precedence) (j : ℕ) (q : Precedence) → slice_get xs j ≡ Some q → says q.earlier name q ≡ true
+          → list_any (says q.earlier name) xs ≡ true
+      any_at [] j q e h = absurd (cc)
+      any_at (x ∷ xs) zero q e h =
+          let one : x ≡ q = cc in
+          or_left (says q.earlier name x) (list_any (says q.earlier name) xs) (ap (says q.earlier name) one ∙ h)
+      any_at (x ∷ xs) (suc j) q e h = or_right (says q.earlier name x) (list_any (says q.earlier name) xs) (any_at xs j q e h)
 
 -- commands that are due -----------------------------------------------------------------------------
 
