@@ -116,6 +116,18 @@ module _ (before : Order ℕ) (c : Setting ℕ) where
           let second : two ≡ d.life = cc in
           subst (λ t. IsTestOf t (NeverBothLive before a.life d.life)) (sym (e ∙ (λ i. never_both_live before (first i) (second i)))) (never_told before a.life d.life)
 
+  -- a second subject is there
+  pub no_second : (n : Need) (a : Lived ℕ) (b : Option (Lived ℕ)) → IsPossible c n a b → (v : VersionId) → n.second ≡ Some v → None ≡ life_at v → ⊥
+  no_second n a b possible v is e = by n.second b possible.second_is is
+    where
+      by : (w : Option VersionId) (d : Option (Lived ℕ)) → IsBesideIfAny c n.first a w d → w ≡ Some v → ⊥
+      by None d beside f = absurd (cc)
+      by (Some w) None beside f = beside
+      by (Some w) (Some d) beside f =
+          let named : w ≡ v = cc in
+          let none : None ≡ Some d.life = e ∙ ap life_at (sym named) ∙ ap (option_map (λ (x : Lived ℕ). x.life)) beside.is in
+          cc
+
   pub no_life : (v : VersionId) (l : Lived ℕ) → version c v ≡ Some l → None ≡ life_at v → ⊥
   no_life v l is e = let none : None ≡ Some l.life = e ∙ ap (option_map (λ (x : Lived ℕ). x.life)) is in cc
 

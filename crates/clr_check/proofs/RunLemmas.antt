@@ -1,6 +1,8 @@
 -- The members that commands merge, as one command after another is performed.
 use Rattle.std.proofs.Common.{◌≡◌, ◌∙◌, ◌+◌, ◌<◌, ℕ, Bool, true, false, ◌&&◌, cond, zero, suc, List, [], ◌∷◌, ◌++◌, refl, sym, ap, subst, arith, get_or, length, take}
+use Rattle.std.proofs.Common.{◌⊎◌, Some, slice_get}
 use Rattle.std.proofs.lemmas.List.{append_assoc, append-nil, take_more}
+use Rattle.std.proofs.lemmas.Option.{slice_get-get_or}
 use Rattle.clr_workspaces.specs.Marks.{Name}
 use Rattle.clr_steps.specs.declared.commands.Command.{Command}
 use Rattle.clr_steps.specs.declared.commands.Command.TheVariants as command
@@ -12,13 +14,13 @@ use Rattle.clr_steps.specs.Quiet.{MergeSet, is_quiet}
 use Rattle.clr_steps.specs.Steps.{AreAnswers, IsAnswer, lost_in}
 use Rattle.clr_clearance.specs.Runs.{AreQuiet, merged_by, merged_in}
 use Rattle.clr_ordered_clearance.specs.MergeSets.{OrderedMergeSet}
-use Rattle.clr_ordered_clearance.specs.Runs.{IsDue}
+use Rattle.clr_ordered_clearance.specs.Runs.{IsDue, IsQuietStartInTurn}
 use Rattle.clr_ordered_clearance.specs.Turns.{MergesComeInTurn}
 use Rattle.clr_ordered_clearance.proofs.RunLemmas.{one_more_in_turn}
 use Rattle.clr_check.specs.Turns.{is_done}
 
 module _ (merge_set : MergeSet) where
-  none_merged : (cs : List Command) → merged_in merge_set cs [] ≡ []
+  pub none_merged : (cs : List Command) → merged_in merge_set cs [] ≡ []
   unfolding merged_in
   none_merged [] = refl
   none_merged (c ∷ cs) = refl
@@ -88,6 +90,31 @@ module _ (o : Office) (ordered : OrderedMergeSet) (commands : List Command) wher
       (subst (λ ns. IsDue ordered ns c) merged due) answer in
       let here : take at commands ++ c ∷ [] ≡ take (at + 1) commands = ap (λ x. take at commands ++ x ∷ []) is ∙ sym (take_more commands at d less) in
       subst (λ cs. ArePerformed o ordered cs (replies ++ reply ∷ []) left) here (record { answers = more.0; quiet = more.1; in_turn = more.2 })
+
+  -- the command behind them stops the run
+  pub stops_behind : (at : ℕ) (replies : List Reply) (now : Office) (c d : Command) (names : List Name)
+      → at < length commands
+      → c ≡ get_or commands at d
+      → length replies ≡ at
+      → ArePerformed o ordered (take at commands) replies now
+      → names ≡ merged_in ordered.merge_set commands replies
+      → (is_quiet now ordered.merge_set c ≡ false) ⊎ ¬ (IsDue ordered names c)
+      → IsQuietStartInTurn o ordered commands replies now (Some (length replies + 1))
+  stops_behind at replies now c d names less is long before same halt =
+      let performed = subst (λ k. ArePerformed o ordered (take k commands) replies now) (sym long) before in
+      record {
+        answers = performed.answers;
+        quiet = performed.quiet;
+        in_turn = performed.in_turn;
+        stop = (
+          refl,
+          (
+            c,
+            ap (slice_get commands) long ∙ slice_get-get_or commands at d less ∙ ap Some (sym is),
+            subst (λ ns. (is_quiet now ordered.merge_set c ≡ false) ⊎ ¬ (IsDue ordered ns c)) same halt,
+          ),
+        );
+      }
 
   pub names_more : (at : ℕ) (replies : List Reply) (c d : Command) (reply : Reply) (names more : List Name)
       → at < length commands

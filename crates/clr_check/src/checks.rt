@@ -1,6 +1,6 @@
 //! The check of a certificate in an office.
 
-ghost use Rattle.std.specs.Prelude.{◌≡◌, [], None, IfOk};
+ghost use Rattle.std.specs.Prelude.{◌≡◌, [], None};
 ghost use Rattle.clr_clearance.specs.MergeSets.{change_sets};
 ghost use Rattle.clr_clearance.specs.declared.verdicts.Verdict.TheVariants as verdict;
 ghost use Rattle.clr_ordered_clearance.specs.VerdictLaws.{IsClearedInEveryOrder, IsClearedInTurn};
@@ -9,6 +9,7 @@ ghost use Rattle.clr_engine.specs.Fitting.{IsAdmitted};
 ghost use Rattle.clr_check.specs.Answers.{IsCheckAnswer};
 ghost use Rattle.clr_merge_sets.specs.Certificates.{entries_in, merge_set_of, ordered_merge_set_of};
 ghost use Rattle.clr_merge_sets.specs.MergeSets.{AreParts};
+ghost use Rattle.clr_merge_sets.specs.PositionPairs.{SayWhoGoesBefore};
 
 use crate::covers::first_uncovered;
 use clr_cert::Certificate;
@@ -16,31 +17,59 @@ use clr_change::ChangeSet;
 use clr_clearance::Verdict;
 use clr_engine::Office;
 use clr_merge_sets::{
-    MergeSetParts, certificate_fault, position_pairs, read_changes, read_merge_set, verdict_of,
+    MergeSetParts, PositionPair, certificate_fault, position_pairs, read_changes, read_merge_set,
+    verdict_of,
 };
-use std::alloc::{AllocError, Global};
+use std::alloc::Global;
 
-/// Returns what the test of needs says of the scene of a certificate's parts.
-fn judge_needs(
+/// Returns what the tests of cells and needs say of the parts of a certificate's merge set, where these
+/// pairs say who goes before whom.
+fn judge_parts(
     alloc: Global,
     office: &Office,
     certificate: &Certificate,
+    pairs: &[PositionPair],
     parts: &MergeSetParts,
-) -> Result<Verdict, AllocError>
+) -> Verdict
     requires named { names_fault_in_turn office.now (ordered_merge_set_of certificate.now) ≡ None }
+    requires pairs { SayWhoGoesBefore (ordered_merge_set_of certificate.now) pairs.now }
     requires parts { AreParts office.now (merge_set_of certificate.now) parts.now }
-    ensures { IfOk result (λ verdict. IsCheckAnswer office.now (ordered_merge_set_of certificate.now) (entries_in certificate.now.entries) verdict) }
+    ensures { IsCheckAnswer office.now (ordered_merge_set_of certificate.now) (entries_in certificate.now.entries) result }
 {
-    let pairs = position_pairs(alloc, certificate)?;
+    let entries = certificate.entries.as_slice();
     match parts.scene(alloc, office) {
-        Ok(scene) => {
-            let entries = certificate.entries.as_slice();
-            match first_uncovered(alloc, &scene, pairs.as_slice(), entries)? {
-                None => Ok(Verdict::Clear),
-                Some(need) => Ok(Verdict::Uncovered(need)),
-            }
-        }
-        Err(fault) => Ok(verdict_of(fault)),
+        Ok(scene) => match first_uncovered(alloc, &scene, pairs, entries) {
+            Ok(None) => Verdict::Clear,
+            Ok(Some(need)) => Verdict::Uncovered(need),
+            Err(_) => Verdict::OutOfMemory,
+        },
+        Err(fault) => verdict_of(fault),
+    }
+}
+
+/// Returns what the tests behind those of names say of a certificate, over what its members changed,
+/// where these pairs say who goes before whom.
+fn judge_members(
+    alloc: Global,
+    office: &Office,
+    certificate: &Certificate,
+    pairs: &[PositionPair],
+    changes: &[ChangeSet],
+) -> Verdict
+    requires named { names_fault_in_turn office.now (ordered_merge_set_of certificate.now) ≡ None }
+    requires pairs { SayWhoGoesBefore (ordered_merge_set_of certificate.now) pairs.now }
+    requires changed { changes.now ≡ change_sets office.now (merge_set_of certificate.now) }
+    ensures { IsCheckAnswer office.now (ordered_merge_set_of certificate.now) (entries_in certificate.now.entries) result }
+{
+    match read_merge_set(
+        alloc,
+        office,
+        certificate.root.as_str(),
+        &certificate.members,
+        changes,
+    ) {
+        Ok(parts) => judge_parts(alloc, office, certificate, pairs, &parts),
+        Err(verdict) => verdict,
     }
 }
 
@@ -55,13 +84,9 @@ fn judge_changes(
     requires changed { changes.now ≡ change_sets office.now (merge_set_of certificate.now) }
     ensures { IsCheckAnswer office.now (ordered_merge_set_of certificate.now) (entries_in certificate.now.entries) result }
 {
-    let root = certificate.root.as_str();
-    match read_merge_set(alloc, office, root, &certificate.members, changes) {
-        Ok(parts) => match judge_needs(alloc, office, certificate, &parts) {
-            Ok(verdict) => verdict,
-            Err(_) => Verdict::OutOfMemory,
-        },
-        Err(verdict) => verdict,
+    match position_pairs(alloc, certificate) {
+        Ok(pairs) => judge_members(alloc, office, certificate, pairs.as_slice(), changes),
+        Err(_) => Verdict::OutOfMemory,
     }
 }
 

@@ -1,28 +1,26 @@
 use Rattle.std.proofs.Common.{subst, sym}
-use Rattle.clr_ordered_clearance.proofs.VerdictLemmas.{named_once}
 use Rattle.clr_check.specs.Answers.{IsCheckAnswer}
 use Rattle.clr_merge_sets.specs.Certificates.{entries_in, merge_set_of, ordered_merge_set_of}
 use Rattle.clr_check.proofs.AnswerLemmas.{clear_answers, scene_answers, uncovered_answers}
-use Rattle.clr_check.proofs.checks.judge_needs.Goals as goal
-
-pub position_pairs-requires : goal.position_pairs-requires
-position_pairs-requires c = named_once c.args.office.now (ordered_merge_set_of c.args.certificate.now) c.requires.named
+use Rattle.clr_check.proofs.checks.judge_parts.Goals as goal
 
 pub returns-in-Ok-None : goal.returns-in-Ok-None
 returns-in-Ok-None c =
     let o = c.args.office.now in
     let certificate = c.args.certificate.now in
     let made = c.in-Ok.ensures.scene (merge_set_of certificate) c.requires.parts in
-    clear_answers o (ordered_merge_set_of certificate) (entries_in certificate.entries) c.requires.named c.requires.parts.free c.in_ok-pairs.pairs.items
-    c.in_ok-pairs.ensures _ made.setting made.apart (rw (c.as_slice.ensures, c.as_slice-2.ensures) at c.in-Ok-None.ensures)
+    let covered = rw c.in-Ok-None.field-0-is at c.in-Ok-None.ensures in
+    clear_answers o (ordered_merge_set_of certificate) (entries_in certificate.entries) c.requires.named c.requires.parts.free c.args.pairs.now
+    c.requires.pairs _ made.setting made.apart (rw c.as_slice-entries.ensures at covered)
 
 pub returns-in-Ok-Some : goal.returns-in-Ok-Some
 returns-in-Ok-Some c =
     let o = c.args.office.now in
     let certificate = c.args.certificate.now in
     let made = c.in-Ok.ensures.scene (merge_set_of certificate) c.requires.parts in
-    uncovered_answers o (ordered_merge_set_of certificate) (entries_in certificate.entries) c.requires.named c.requires.parts.free c.in_ok-pairs.pairs.items
-    c.in_ok-pairs.ensures _ made.setting made.apart c.in-Ok-Some.need (rw (c.as_slice.ensures, c.as_slice-2.ensures) at c.in-Ok-Some.ensures)
+    let least = rw c.in-Ok-Some.field-0-is at c.in-Ok-Some.ensures in
+    uncovered_answers o (ordered_merge_set_of certificate) (entries_in certificate.entries) c.requires.named c.requires.parts.free c.args.pairs.now
+    c.requires.pairs _ made.setting made.apart c.in-Ok-Some.need (rw c.as_slice-entries.ensures at least)
 
 pub returns : goal.returns
 returns c =
