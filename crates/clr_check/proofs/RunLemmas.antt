@@ -1,6 +1,8 @@
 -- The members that commands merge, as one command after another is performed.
-use Rattle.std.proofs.Common.{◌≡◌, ◌∙◌, ◌+◌, ◌<◌, ℕ, Bool, true, false, ◌&&◌, cond, zero, suc, List, [], ◌∷◌, ◌++◌, refl, sym, ap, subst, arith, get_or, length, take}
+use Rattle.std.proofs.Common.{◌≡◌, ◌∙◌, ◌⊎◌, ◌+◌, ◌<◌, ℕ, Bool, true, false, ◌&&◌, cond, inl, inr, zero, suc, Some, List, [], ◌∷◌, ◌++◌, refl, sym, ap, subst, arith, get_or, length, take}
+use Rattle.std.specs.Prelude.{slice_get}
 use Rattle.std.proofs.lemmas.List.{append_assoc, append-nil, take_more}
+use Rattle.std.proofs.lemmas.Option.{slice_get-get_or}
 use Rattle.clr_workspaces.specs.Marks.{Name}
 use Rattle.clr_steps.specs.declared.commands.Command.{Command}
 use Rattle.clr_steps.specs.declared.commands.Command.TheVariants as command
@@ -12,13 +14,13 @@ use Rattle.clr_steps.specs.Quiet.{MergeSet, is_quiet}
 use Rattle.clr_steps.specs.Steps.{AreAnswers, IsAnswer, lost_in}
 use Rattle.clr_clearance.specs.Runs.{AreQuiet, merged_by, merged_in}
 use Rattle.clr_ordered_clearance.specs.MergeSets.{OrderedMergeSet}
-use Rattle.clr_ordered_clearance.specs.Runs.{IsDue}
+use Rattle.clr_ordered_clearance.specs.Runs.{IsDue, IsQuietStartInTurn}
 use Rattle.clr_ordered_clearance.specs.Turns.{MergesComeInTurn}
 use Rattle.clr_ordered_clearance.proofs.RunLemmas.{one_more_in_turn}
 use Rattle.clr_check.specs.Turns.{is_done}
 
 module _ (merge_set : MergeSet) where
-  none_merged : (cs : List Command) → merged_in merge_set cs [] ≡ []
+  pub none_merged : (cs : List Command) → merged_in merge_set cs [] ≡ []
   unfolding merged_in
   none_merged [] = refl
   none_merged (c ∷ cs) = refl
@@ -105,3 +107,24 @@ module _ (o : Office) (ordered : OrderedMergeSet) (commands : List Command) wher
 pub not_done : (r : Reply) (b : Bool) → ¬ (r ≡ Done) → false ≡ (is_done r && b)
 not_done Done b other = absurd (other refl)
 not_done _ b other = refl
+
+-- where a run stops -----------------------------------------------------------------------------------
+
+module _ (o : Office) (ordered : OrderedMergeSet) (commands : List Command) (at : ℕ) (replies : List Reply) (now : Office) (c d : Command)
+    (less : at < length commands) (is : c ≡ get_or commands at d) (long : length replies ≡ at)
+    (before : ArePerformed o ordered (take at commands) replies now) where
+  halted : ((is_quiet now ordered.merge_set c ≡ false) ⊎ ¬ (IsDue ordered (merged_in ordered.merge_set commands replies) c))
+      → IsQuietStartInTurn o ordered commands replies now (Some (length replies + 1))
+  halted halt = record {
+    answers = subst (λ k. AreAnswers o (take k commands) replies now) (sym long) before.answers;
+    quiet = subst (λ k. AreQuiet o ordered.merge_set (take k commands) (lost_in replies)) (sym long) before.quiet;
+    in_turn = subst (λ k. MergesComeInTurn o ordered (take k commands) (lost_in replies)) (sym long) before.in_turn;
+    stop = (refl, (c, ap (slice_get commands) long ∙ slice_get-get_or commands at d less ∙ ap Some (sym is), halt));
+  }
+
+  pub stops_at_noise : is_quiet now ordered.merge_set c ≡ false → IsQuietStartInTurn o ordered commands replies now (Some (length replies + 1))
+  stops_at_noise noisy = halted (inl noisy)
+
+  pub stops_too_early : (names : List Name) → names ≡ merged_in ordered.merge_set commands replies → ¬ (IsDue ordered names c)
+      → IsQuietStartInTurn o ordered commands replies now (Some (length replies + 1))
+  stops_too_early names same early = halted (inr (λ due. early (subst (λ ns. IsDue ordered ns c) (sym same) due)))

@@ -1,4 +1,4 @@
-use Rattle.std.proofs.Common.{ap}
+use Rattle.std.proofs.Common.{ap, sym}
 use Rattle.clr_merge_sets.specs.Certificates.{entries_in, ordered_merge_set_of, pairs_in}
 use Rattle.clr_check.proofs.AnswerLemmas.{clear_everywhere, clear_promises, named_answers}
 use Rattle.clr_check.proofs.checks.check.Goals as goal
@@ -6,7 +6,7 @@ use Rattle.clr_check.proofs.checks.check.Goals as goal
 pub returns-in-Some-clause-answer : goal.returns-in-Some-clause-answer
 returns-in-Some-clause-answer c =
     let certificate = c.args.certificate.now in
-    named_answers c.args.office.now (ordered_merge_set_of certificate) (entries_in certificate.entries) c.in-Some.fault c.in-Some.ensures.fault
+    named_answers c.args.office.now (ordered_merge_set_of certificate) (entries_in certificate.entries) c.in-Some.fault (sym c.in-Some.ensures.fault)
 
 pub returns-in-Some-clause-cleared : goal.returns-in-Some-clause-cleared
 returns-in-Some-clause-cleared c =

@@ -8,22 +8,6 @@ use Rattle.clr_check.proofs.checks.judge_needs.Goals as goal
 pub position_pairs-requires : goal.position_pairs-requires
 position_pairs-requires c = named_once c.args.office.now (ordered_merge_set_of c.args.certificate.now) c.requires.named
 
-pub returns-in-Ok-None : goal.returns-in-Ok-None
-returns-in-Ok-None c =
-    let o = c.args.office.now in
-    let certificate = c.args.certificate.now in
-    let made = c.in-Ok.ensures.scene (merge_set_of certificate) c.requires.parts in
-    clear_answers o (ordered_merge_set_of certificate) (entries_in certificate.entries) c.requires.named c.requires.parts.free c.in_ok-pairs.pairs.items
-    c.in_ok-pairs.ensures _ made.setting made.apart (rw (c.as_slice.ensures, c.as_slice-2.ensures) at c.in-Ok-None.ensures)
-
-pub returns-in-Ok-Some : goal.returns-in-Ok-Some
-returns-in-Ok-Some c =
-    let o = c.args.office.now in
-    let certificate = c.args.certificate.now in
-    let made = c.in-Ok.ensures.scene (merge_set_of certificate) c.requires.parts in
-    uncovered_answers o (ordered_merge_set_of certificate) (entries_in certificate.entries) c.requires.named c.requires.parts.free c.in_ok-pairs.pairs.items
-    c.in_ok-pairs.ensures _ made.setting made.apart c.in-Ok-Some.need (rw (c.as_slice.ensures, c.as_slice-2.ensures) at c.in-Ok-Some.ensures)
-
 pub returns : goal.returns
 returns c =
     let o = c.args.office.now in
