@@ -1,6 +1,6 @@
 -- The members that commands merge, as one command after another is performed.
-use Rattle.std.proofs.Common.{◌≡◌, ◌∙◌, ◌+◌, ◌<◌, ℕ, Bool, true, false, ◌&&◌, cond, zero, suc, List, [], ◌∷◌, ◌++◌, refl, sym, ap, subst, arith, get_or, length, take}
-use Rattle.std.proofs.Common.{◌⊎◌, Some, slice_get}
+use Rattle.std.proofs.Common.{◌≡◌, ◌∙◌, ◌⊎◌, ◌+◌, ◌<◌, ℕ, Bool, true, false, ◌&&◌, cond, inl, inr, zero, suc, Some, List, [], ◌∷◌, ◌++◌, refl, sym, ap, subst, arith, get_or, length, take}
+use Rattle.std.specs.Prelude.{slice_get}
 use Rattle.std.proofs.lemmas.List.{append_assoc, append-nil, take_more}
 use Rattle.std.proofs.lemmas.Option.{slice_get-get_or}
 use Rattle.clr_workspaces.specs.Marks.{Name}
@@ -91,31 +91,6 @@ module _ (o : Office) (ordered : OrderedMergeSet) (commands : List Command) wher
       let here : take at commands ++ c ∷ [] ≡ take (at + 1) commands = ap (λ x. take at commands ++ x ∷ []) is ∙ sym (take_more commands at d less) in
       subst (λ cs. ArePerformed o ordered cs (replies ++ reply ∷ []) left) here (record { answers = more.0; quiet = more.1; in_turn = more.2 })
 
-  -- the command behind them stops the run
-  pub stops_behind : (at : ℕ) (replies : List Reply) (now : Office) (c d : Command) (names : List Name)
-      → at < length commands
-      → c ≡ get_or commands at d
-      → length replies ≡ at
-      → ArePerformed o ordered (take at commands) replies now
-      → names ≡ merged_in ordered.merge_set commands replies
-      → (is_quiet now ordered.merge_set c ≡ false) ⊎ ¬ (IsDue ordered names c)
-      → IsQuietStartInTurn o ordered commands replies now (Some (length replies + 1))
-  stops_behind at replies now c d names less is long before same halt =
-      let performed = subst (λ k. ArePerformed o ordered (take k commands) replies now) (sym long) before in
-      record {
-        answers = performed.answers;
-        quiet = performed.quiet;
-        in_turn = performed.in_turn;
-        stop = (
-          refl,
-          (
-            c,
-            ap (slice_get commands) long ∙ slice_get-get_or commands at d less ∙ ap Some (sym is),
-            subst (λ ns. (is_quiet now ordered.merge_set c ≡ false) ⊎ ¬ (IsDue ordered ns c)) same halt,
-          ),
-        );
-      }
-
   pub names_more : (at : ℕ) (replies : List Reply) (c d : Command) (reply : Reply) (names more : List Name)
       → at < length commands
       → c ≡ get_or commands at d
@@ -132,3 +107,24 @@ module _ (o : Office) (ordered : OrderedMergeSet) (commands : List Command) wher
 pub not_done : (r : Reply) (b : Bool) → ¬ (r ≡ Done) → false ≡ (is_done r && b)
 not_done Done b other = absurd (other refl)
 not_done _ b other = refl
+
+-- where a run stops -----------------------------------------------------------------------------------
+
+module _ (o : Office) (ordered : OrderedMergeSet) (commands : List Command) (at : ℕ) (replies : List Reply) (now : Office) (c d : Command)
+    (less : at < length commands) (is : c ≡ get_or commands at d) (long : length replies ≡ at)
+    (before : ArePerformed o ordered (take at commands) replies now) where
+  halted : ((is_quiet now ordered.merge_set c ≡ false) ⊎ ¬ (IsDue ordered (merged_in ordered.merge_set commands replies) c))
+      → IsQuietStartInTurn o ordered commands replies now (Some (length replies + 1))
+  halted halt = record {
+    answers = subst (λ k. AreAnswers o (take k commands) replies now) (sym long) before.answers;
+    quiet = subst (λ k. AreQuiet o ordered.merge_set (take k commands) (lost_in replies)) (sym long) before.quiet;
+    in_turn = subst (λ k. MergesComeInTurn o ordered (take k commands) (lost_in replies)) (sym long) before.in_turn;
+    stop = (refl, (c, ap (slice_get commands) long ∙ slice_get-get_or commands at d less ∙ ap Some (sym is), halt));
+  }
+
+  pub stops_at_noise : is_quiet now ordered.merge_set c ≡ false → IsQuietStartInTurn o ordered commands replies now (Some (length replies + 1))
+  stops_at_noise noisy = halted (inl noisy)
+
+  pub stops_too_early : (names : List Name) → names ≡ merged_in ordered.merge_set commands replies → ¬ (IsDue ordered names c)
+      → IsQuietStartInTurn o ordered commands replies now (Some (length replies + 1))
+  stops_too_early names same early = halted (inr (λ due. early (subst (λ ns. IsDue ordered ns c) (sym same) due)))

@@ -69,15 +69,16 @@ module _ (c : Certificate) (merged : List Name) (name : Name) where
       by true e f = e
       by false e f = absurd (true≢false (sym (ap not e) ∙ f))
 
-  pub one_more_lets : (before : List Precedence) (k : ℕ) (d : Precedence) → k < length before
-      → is_held_back_by (merge_set_of c) merged name (get_or before k d) ≡ false → IsTurnBy (take k before) → IsTurnBy (take (k + 1) before)
-  one_more_lets before k d less lets turn m goes member =
-      let all : list_any (says m name) (take k before ++ get_or before k d ∷ []) ≡ true =
-      ap (list_any (says m name)) (sym (take_more before k d less)) ∙ sym (goes_is (take (k + 1) before) m) ∙ goes in
-      elim (or_cases (list_any (says m name) (take k before)) (list_any (says m name) (get_or before k d ∷ []))
-      (sym (list_any-append (says m name) (take k before) (get_or before k d ∷ [])) ∙ all)) [
+  pub one_more_lets : (before : List Precedence) (k : ℕ) (p d : Precedence) → k < length before → p ≡ get_or before k d
+      → is_held_back_by (merge_set_of c) merged name p ≡ false → IsTurnBy (take k before) → IsTurnBy (take (k + 1) before)
+  one_more_lets before k p d less is lets turn m goes member =
+      let all : list_any (says m name) (take k before ++ p ∷ []) ≡ true =
+      ap (λ x. list_any (says m name) (take k before ++ x ∷ [])) is ∙ ap (list_any (says m name)) (sym (take_more before k d less))
+      ∙ sym (goes_is (take (k + 1) before) m) ∙ goes in
+      elim (or_cases (list_any (says m name) (take k before)) (list_any (says m name) (p ∷ []))
+      (sym (list_any-append (says m name) (take k before) (p ∷ [])) ∙ all)) [
         | inl earlier ↦ turn m (goes_is (take k before) m ∙ earlier) member
-        | inr last ↦ one_lets (get_or before k d) lets m (alone (says m name (get_or before k d)) last) member
+        | inr last ↦ one_lets p lets m (alone (says m name p) last) member
       ]
     where
       alone : (b : Bool) → b || false ≡ true → b ≡ true
@@ -87,13 +88,13 @@ module _ (c : Certificate) (merged : List Name) (name : Name) where
   pub all_let : (before : List Precedence) (k : ℕ) → length before ≤ k → IsTurnBy (take k before) → IsTurnBy before
   all_let before k past turn = subst IsTurnBy (take_all k before past) turn
 
-  pub one_holds_back : (before : List Precedence) (k : ℕ) (d : Precedence) → k < length before
-      → is_held_back_by (merge_set_of c) merged name (get_or before k d) ≡ true → ¬ (IsTurnBy before)
-  one_holds_back before k d less holds turn =
-      let p : Precedence = get_or before k d in
+  pub one_holds_back : (before : List Precedence) (k : ℕ) (p d : Precedence) → k < length before → p ≡ get_or before k d
+      → is_held_back_by (merge_set_of c) merged name p ≡ true → ¬ (IsTurnBy before)
+  one_holds_back before k p d less is holds turn =
       let parts = and_parts (same_name p.later name) (is_member (merge_set_of c) p.earlier && not (has merged p.earlier)) holds in
       let rest = and_parts (is_member (merge_set_of c) p.earlier) (not (has merged p.earlier)) parts.1 in
-      let goes : list_any (says p.earlier name) before ≡ true = any_at before k p (slice_get-get_or before k d less) (λ i. same_itself p.earlier i && parts.0 i) in
+      let goes : list_any (says p.earlier name) before ≡ true = any_at before k p (slice_get-get_or before k d less ∙ ap Some (sym is))
+      (λ i. same_itself p.earlier i && parts.0 i) in
       let there = turn p.earlier (goes_is before p.earlier ∙ goes) rest.0 in
       false≢true (sym (ap not there) ∙ rest.1)
     where

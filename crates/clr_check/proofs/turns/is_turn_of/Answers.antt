@@ -10,19 +10,15 @@ loop-precedence-init c = none_yet c.args.certificate.now (map (λ other. other.n
 pub loop-precedence-preserved : goal.loop-precedence-preserved
 loop-precedence-preserved c =
     let merged = map (λ other. other.now) c.args.merged.now in
-    let held = is_held_back_by (merge_set_of c.args.certificate.now) merged c.args.name.now in
     one_more_lets c.args.certificate.now merged c.args.name.now c.as_slice-precedence-items.result.now c.loop-precedence.precedence-index
-    c.precedence-item.result c.loop-precedence-test.true
-    (ap held (sym c.precedence-item.is) ∙ sym c.is_held_back_by.ensures ∙ c.if-is_held_back_by.false) c.loop-precedence.invariant
+    c.precedence-item.result c.precedence-item.result c.loop-precedence-test.true c.precedence-item.is (sym c.is_held_back_by.ensures ∙ c.if-is_held_back_by.false) c.loop-precedence.invariant
 
 pub returns-then-is_held_back_by : goal.returns-then-is_held_back_by
 returns-then-is_held_back_by c =
     let merged = map (λ other. other.now) c.args.merged.now in
-    let held = is_held_back_by (merge_set_of c.args.certificate.now) merged c.args.name.now in
     rw c.as_slice-precedence-items.ensures at
     (one_holds_back c.args.certificate.now merged c.args.name.now c.as_slice-precedence-items.result.now c.loop-precedence.precedence-index
-    c.precedence-item.result c.loop-precedence-test.true
-    (ap held (sym c.precedence-item.is) ∙ sym c.is_held_back_by.ensures ∙ c.if-is_held_back_by.true))
+    c.precedence-item.result c.precedence-item.result c.loop-precedence-test.true c.precedence-item.is (sym c.is_held_back_by.ensures ∙ c.if-is_held_back_by.true))
 
 pub returns : goal.returns
 returns c =
