@@ -47,7 +47,7 @@ returns-then-not-is_due c =
     let command = c.command-item.result in
     let long : length replies ≡ at = grind (arith, common_steps) in
     let names = ap (map (λ name. name.now)) c.as_slice.ensures.value ∙ c.loop-command.invariant.names in
-    subst (λ (run : ClearedRun). IsQuietStartInTurn first ordered commands run.replies.items c.loop-command.office run.stopped) (sym c.stopped_behind.ensures)
+    subst (λ (run : ClearedRun). IsQuietStartInTurn first ordered commands run.replies.items c.loop-command.office run.stopped) (sym c.stopped_behind-then-not-is_due.ensures)
     (stops_too_early first ordered commands at replies c.loop-command.office command command c.loop-command-test.true c.command-item.is long
     c.loop-command.invariant.performed _ names (it_is_not _ _ c.if-not-is_due.true c.is_due.ensures))
 
