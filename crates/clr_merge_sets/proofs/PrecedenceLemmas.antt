@@ -1,5 +1,5 @@
 -- Who goes before whom by position, and the tests of precedences.
-use Rattle.std.proofs.Common.{◌≡◌, ◌∙◌, ℕ, zero, suc, ◌+◌, ◌<◌, ◌≤◌, Bool, true, false, not, ◌==◌, ◌&&◌, ◌||◌, cond, List, [], ◌∷◌, ◌++◌, map, nat_lt, get_or, length}
+use Rattle.std.proofs.Common.{◌≡◌, ◌∙◌, ℕ, zero, suc, ◌+◌, ◌<◌, ◌≤◌, Bool, true, false, not, ◌==◌, ◌&&◌, ◌||◌, cond, List, [], ◌∷◌, ◌++◌, nat_lt, get_or, length}
 use Rattle.std.proofs.Common.{take, refl, sym, ap, arith, Option, Some, None, slice_get, ◌⊎◌, inl, inr}
 use Rattle.std.specs.List.{list_any, position}
 use Rattle.std.specs.Option.{option_map, option_or}
@@ -20,16 +20,16 @@ use Rattle.clr_steps.proofs.FindLemmas.{same_is, same_itself}
 use Rattle.clr_clearance.specs.declared.verdicts.Verdict.{Verdict}
 use Rattle.clr_clearance.specs.declared.verdicts.Verdict.TheVariants as verdict
 use Rattle.clr_clearance.specs.MergeSets.{is_child}
-use Rattle.clr_clearance.specs.Verdicts.{first_repeated, missing_member, names_fault, repeated_member, root_fault, stray_member}
+use Rattle.clr_clearance.specs.Verdicts.{first_repeated, names_fault}
 use Rattle.clr_clearance.proofs.ClearLemmas.{AllDiffer, has_at, position_of}
 use Rattle.clr_clearance.proofs.NameLemmas.{has_is}
 use Rattle.clr_ordered_needs.specs.Positions.{goes_before_if_any}
 use Rattle.clr_ordered_needs.specs.Turns.{is_earlier}
-use Rattle.clr_ordered_clearance.specs.MergeSets.{OrderedMergeSet, goes_before, position_goes_before}
+use Rattle.clr_ordered_clearance.specs.MergeSets.{OrderedMergeSet, goes_before}
 use Rattle.clr_ordered_clearance.specs.Verdicts.{misplaced_pair, names_fault_in_turn}
 use Rattle.clr_merge_sets.specs.Certificates.{pairs_in}
 use Rattle.clr_merge_sets.specs.Faults.{is_told_first}
-use Rattle.clr_merge_sets.specs.PositionPairs.{SayWhoGoesBefore, is_at, is_pair, is_position, pair_is, pairs_say}
+use Rattle.clr_merge_sets.specs.PositionPairs.{SayWhoGoesBefore, is_at, pair_is, pairs_say}
 use Rattle.clr_merge_sets.specs.declared.precedence_pairs.PositionPair.{PositionPair}
 use Rattle.clr_merge_sets.proofs.NameLemmas.{NonePasses}
 

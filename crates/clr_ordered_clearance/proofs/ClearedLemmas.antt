@@ -1,5 +1,5 @@
 -- What a clear verdict promises under an order.
-use Rattle.std.proofs.Common.{◌≡◌, List}
+use Rattle.std.proofs.Common.{List}
 use Rattle.clr_needs.specs.Covers.{Entry}
 use Rattle.clr_steps.specs.Offices.{Office}
 use Rattle.clr_clearance.proofs.StaticLemmas.{others_free}

@@ -2,11 +2,9 @@
 use Rattle.std.proofs.Common.{◌≡◌, ◌∙◌, ℕ, Bool, true, false, ◌&&◌, ◌||◌, cond, List, [], ◌∷◌, filter, inl, inr, refl, sym, ap, subst, Option, Some, None}
 use Rattle.std.proofs.Common.{is_some, slice_get}
 use Rattle.std.specs.List.{list_any}
-use Rattle.std.proofs.lemmas.Bool.{and_parts, cases_Bool, false≢true, true≢false, or_cases, or_left, or_right}
+use Rattle.std.proofs.lemmas.Bool.{and_parts, false≢true, true≢false, or_cases, or_left, or_right}
 use Rattle.clr_workspaces.specs.Marks.{Name}
-use Rattle.clr_needs.specs.Covers.{Entry}
 use Rattle.clr_needs.specs.Settings.{has as has_by}
-use Rattle.clr_steps.specs.declared.commands.Command.{Command}
 use Rattle.clr_steps.specs.Names.{same_name, has}
 use Rattle.clr_steps.specs.Offices.{Office, workspace}
 use Rattle.clr_steps.specs.Steps.{run}

@@ -1,13 +1,12 @@
 -- Runs in which merges come in turn: the first commands of a list, and one command more.
-use Rattle.std.proofs.Common.{◌≡◌, ◌∙◌, ◌+◌, ℕ, zero, suc, Bool, true, List, [], ◌∷◌, ◌++◌, refl, sym, ap, subst, length, take, Some, slice_get}
+use Rattle.std.proofs.Common.{◌≡◌, ◌+◌, List, [], ◌∷◌, ◌++◌, sym, ap, subst, length, take}
 use Rattle.std.proofs.lemmas.List.{append-nil, append_assoc}
 use Rattle.clr_workspaces.specs.Marks.{Name}
 use Rattle.clr_steps.specs.declared.commands.Command.{Command}
-use Rattle.clr_steps.specs.declared.commands.Command.TheVariants as command
 use Rattle.clr_steps.specs.declared.commands.Reply.{Reply}
 use Rattle.clr_steps.specs.Offices.{Office}
 use Rattle.clr_steps.specs.Quiet.{MergeSet, root_content}
-use Rattle.clr_steps.specs.Steps.{Answer, AreAnswers, Run, is_lost, lost_in, run, step_or_lost}
+use Rattle.clr_steps.specs.Steps.{Answer, AreAnswers, Run, is_lost, lost_in, step_or_lost}
 use Rattle.clr_steps.proofs.RunLemmas.{lost_later, run_law}
 use Rattle.clr_clearance.specs.Runs.{merged_by, merged_in}
 use Rattle.clr_clearance.specs.Safety.{IsMergeOf}

@@ -1,5 +1,5 @@
 -- Needs settled one after another.
-use Rattle.std.proofs.Common.{◌≡◌, ◌⊎◌, ℕ, List, Option, sym, subst, inl, inr}
+use Rattle.std.proofs.Common.{ℕ, List, Option, subst}
 use Rattle.clr_rules.proofs.Elements.{among, contained}
 use Rattle.clr_needs.specs.declared.needs.Need.{Need}
 use Rattle.clr_needs.specs.Covers.{Entry}

@@ -1,5 +1,5 @@
 -- Where no member goes before another, verdicts, promises and runs are those of the merge set.
-use Rattle.std.proofs.Common.{◌≡◌, ◌∙◌, ◌⊎◌, ℕ, false, not, List, [], refl, sym, ap, subst, inl, inr, Option, Some, None, slice_get}
+use Rattle.std.proofs.Common.{◌≡◌, ◌∙◌, ℕ, false, not, List, [], sym, ap, subst, inl, inr, Option, Some, None, slice_get}
 use Rattle.std.specs.Option.{option_map, option_or}
 use Rattle.std.proofs.lemmas.Bool.{false≢true}
 use Rattle.clr_workspaces.specs.Marks.{Name}
@@ -29,7 +29,7 @@ use Rattle.clr_ordered_needs.specs.Turns.{Order, is_earlier, no_order}
 use Rattle.clr_ordered_needs.proofs.EmptyOrder.{can_meet, entry_in_every, entry_in_none}
 use Rattle.clr_ordered_clearance.specs.Laws.{without_order}
 use Rattle.clr_ordered_clearance.specs.MergeSets.{OrderedMergeSet, position_goes_before}
-use Rattle.clr_ordered_clearance.specs.Runs.{IsDue, IsQuietStartInTurn, IsStopInTurn}
+use Rattle.clr_ordered_clearance.specs.Runs.{IsDue, IsStopInTurn}
 use Rattle.clr_ordered_clearance.specs.VerdictLaws.{ClearedWithoutOrderLaw, StartWithoutOrderLaw, VerdictWithoutOrderLaw}
 use Rattle.clr_ordered_clearance.specs.Verdicts.{IsFirstUncoveredInTurn, IsSettled, IsVerdictInTurn, member_fault_in_turn, misplaced_pair, names_fault_in_turn}
 use Rattle.clr_ordered_clearance.specs.Verdicts.{of_cell, of_member, of_need, of_none}

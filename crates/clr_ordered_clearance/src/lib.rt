@@ -20,8 +20,9 @@
 //! - `Verdicts` and `VerdictLaws` in specs/: what is to be said of an ordered merge set and of entries.
 //!   `clear_verdicts_in_turn_promise_all`, `verdicts_in_turn_are_one`,
 //!   `verdicts_in_turn_come_need_by_need`: what a clear verdict promises, that there is one verdict, and
-//!   how it comes about. `clear_verdicts_in_turn_last`: a clear verdict stays clear. `verdicts_without_order_are_those_of_merge_sets`: where no member goes before
-//!   another, nothing changes.
+//!   how it comes about. `clear_verdicts_in_turn_last`: a clear verdict stays clear.
+//!   `verdicts_without_order_are_those_of_merge_sets`: where no member goes before another, nothing
+//!   changes.
 #![tactic(auto)]
 
 mod laws;
