@@ -1,5 +1,5 @@
 -- The members that commands merge, as one command after another is performed.
-use Rattle.std.proofs.Common.{◌≡◌, ◌∙◌, ◌⊎◌, ◌+◌, ◌<◌, ℕ, Bool, true, false, ◌&&◌, cond, inl, inr, zero, suc, Some, List, [], ◌∷◌, ◌++◌, refl, sym, ap, subst, arith, get_or, length, take}
+use Rattle.std.proofs.Common.{◌≡◌, ◌∙◌, ◌⊎◌, ◌+◌, ◌<◌, ℕ, Bool, true, false, ◌&&◌, cond, inl, inr, Some, List, [], ◌∷◌, ◌++◌, refl, sym, ap, subst, arith, get_or, length, take}
 use Rattle.std.specs.Prelude.{slice_get}
 use Rattle.std.proofs.lemmas.List.{append_assoc, append-nil, take_more}
 use Rattle.std.proofs.lemmas.Option.{slice_get-get_or}

@@ -21,7 +21,7 @@ use Rattle.clr_ordered_clearance.specs.Runs.{IsDue}
 use Rattle.clr_ordered_clearance.specs.Turns.{IsTurnOf}
 use Rattle.clr_cert.specs.declared.certificates.Certificate.{Certificate}
 use Rattle.clr_cert.specs.declared.certificates.Precedence.{Precedence}
-use Rattle.clr_merge_sets.specs.Certificates.{merge_set_of, ordered_merge_set_of, pairs_in}
+use Rattle.clr_merge_sets.specs.Certificates.{merge_set_of, pairs_in}
 use Rattle.clr_check.specs.Turns.{is_held_back_by}
 
 -- a borrowed value at a position

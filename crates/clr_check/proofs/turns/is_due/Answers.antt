@@ -1,6 +1,6 @@
-use Rattle.std.proofs.Common.{◌∙◌, map, sym}
+use Rattle.std.proofs.Common.{map}
 use Rattle.clr_merge_sets.specs.Certificates.{ordered_merge_set_of}
-use Rattle.clr_check.proofs.TurnLemmas.{member_due, other_due, outside_due}
+use Rattle.clr_check.proofs.TurnLemmas.{other_due}
 use Rattle.clr_check.proofs.turns.is_due.Goals as goal
 
 pub returns-in_default : goal.returns-in_default

@@ -1,6 +1,4 @@
-use Rattle.std.proofs.Common.{◌∙◌, ap, map, subst, sym}
-use Rattle.clr_merge_sets.specs.Certificates.{merge_set_of}
-use Rattle.clr_check.specs.Turns.{is_held_back_by}
+use Rattle.std.proofs.Common.{◌∙◌, map, subst, sym}
 use Rattle.clr_check.proofs.TurnLemmas.{IsTurnBy, all_let, none_yet, one_holds_back, one_more_lets}
 use Rattle.clr_check.proofs.turns.is_turn_of.Goals as goal
 
