@@ -4,3 +4,4 @@ pub mod EditLemmas
 pub mod LiveLemmas
 pub mod PerformLemmas
 mod ScriptAgain
+pub mod SinceLemmas

@@ -61,8 +61,12 @@ office = with_rule (with_rule (with_rule (with_rule (new_app (codes "office")) (
 abbrev pub design_of_layers : App
 design_of_layers = with_rule (with_rule (database_command (codes "design")) (value (codes "NAME"))) layers
 
+-- what it is a difference to, and whether it may remove rows
+abbrev pub design_from : App
+design_from = with_rule (with_rule design_of_layers (option (codes "base"))) (option (codes "removes"))
+
 abbrev pub design : App
-design = with_rule (with_rule (with_rule design_of_layers (flag (codes "script"))) (option (codes "keys"))) round
+design = with_rule (with_rule (with_rule design_from (flag (codes "script"))) (option (codes "keys"))) round
 
 abbrev pub errors : App
 errors = with_rule (with_rule (database_command (codes "errors")) (flag (codes "geojson"))) system

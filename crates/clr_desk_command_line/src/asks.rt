@@ -20,6 +20,8 @@ pub struct DesignAsk {
     pub first_key: u64,
     /// Whether coordinates finer than a millimetre are rounded.
     pub is_rounded: bool,
+    /// Whether it may remove rows.
+    pub may_remove: bool,
 }
 
 /// What is asked of an office text in the texts of geographic information systems.
@@ -39,6 +41,8 @@ pub enum GeographicAsk {
     ErrorFeatures(Option<Words>),
     /// The office with one more design.
     Design(DesignAsk),
+    /// The office with one more design, whose layers were copied from LIVE of a second office text.
+    DesignSince(DesignAsk),
     /// The script that makes this design.
     DesignScript(DesignAsk),
 }

@@ -176,6 +176,16 @@ const OVER_NETWORKS: &[Subcommand<'static>] = &[
             DATABASE,
             Argument::Value("NAME", "The name of the new design"),
             LAYERS,
+            Argument::ValueOption(
+                "base",
+                "COPIED",
+                "The file of the office text from which the layers were copied [default: DB]",
+            ),
+            Argument::ValueOption(
+                "removes",
+                "CHOICE",
+                "Whether the design may remove rows, yes or no [default: yes]",
+            ),
             Argument::Flag("script", "Print the script that makes the design"),
             Argument::ValueOption(
                 "keys",

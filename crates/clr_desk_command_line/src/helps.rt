@@ -123,12 +123,15 @@ Example:
 pub(crate) const DESIGN_PRINTS: &str =
     "It prints the office with one more design under LIVE, which has the rows of the layers in place of those of their
 tables, and nothing else, with status 0; with --script it prints the script for `clr_office run` that makes the design.
-A layer is CSV, as `clr_desk layer` prints it, with shapes as WKT in metres; a row whose KEY is empty gets the least key
-from N on that is free. Where a layer can't be read or the design can't be made it prints nothing, and on standard error
-the line that says so, with status 2 or 1.
+How many rows the design adds, changes and removes stands on standard error. A layer is CSV, as `clr_desk layer` prints
+it, with shapes as WKT in metres; a row whose KEY is empty gets the least key from N on that is free. What LIVE got
+since the layers were copied isn't in them, and the design would remove it: give the office that they were copied from
+as COPIED. The design is then the difference to that, and in conflict where LIVE changed the same since. With
+--removes no a design that removes a row is refused. Where a layer can't be read or the design can't be made it prints
+nothing, and on standard error the line that says so, with status 2 or 1.
 
 Example:
-  clr_desk design office.json Bypass main=main.csv valve=valve.csv > with_bypass.json";
+  clr_desk design office.json Bypass main=main.csv --base copied.json > with_bypass.json";
 
 pub(crate) const ERRORS_PRINTS: &str =
     "It prints each need that is broken in LIVE: whether it is known, the rule, the rows, and the place; with --geojson

@@ -1,7 +1,7 @@
 //! Reading the words of a command line.
 
-ghost use Rattle.std.specs.Prelude.{◌≡◌, Some, IfOk, IfErr, is_some, map, option_map, true};
-ghost use Rattle.clap.specs.Words.{first_of, found_of, rows_of, subcommand_of, takes};
+ghost use Rattle.std.specs.Prelude.{◌≡◌, Some, IfOk, IfErr, map, option_map, true};
+ghost use Rattle.clap.specs.Words.{found_of, rows_of, subcommand_of, takes};
 ghost use Rattle.clr_command_line.specs.Asks.{IsMemory};
 ghost use Rattle.clr_desk_command_line.specs.Asks.{
   ask_of,
@@ -23,7 +23,7 @@ use crate::asks::{DeskAsk, GeographicAsk, TextKind};
 use crate::command::whole_command;
 use crate::complaints::complaint;
 use crate::layer_reading::geographic_ask;
-use crate::values::{given_value, is_set, root};
+use crate::values::{given_value, has_value, is_set, root};
 use clap::ArgMatches;
 use clap::error::ErrorKind;
 use clr_command_line::{AskFault, database, database_with, names};
@@ -32,13 +32,6 @@ use std::alloc::{AllocError, Global};
 
 /// What is asked, and the files, in which the office text stands first.
 type AskAndFiles = (DeskAsk, Vec<Words>);
-
-/// Returns whether an option has a value.
-fn has_value(matches: &ArgMatches, option: &str) -> bool
-    ensures { result ≡ is_some (first_of option.now (rows_of (found_of matches.now))) }
-{
-    matches.get_str(option).is_some()
-}
 
 /// Returns what `why` asks for, and its files: where a script and a certificate are given, the script
 /// counts.
@@ -188,15 +181,16 @@ fn refusal(alloc: Global, matches: &ArgMatches) -> Result<AskFault, AllocError> 
 }
 
 /// Returns what the words of a command line ask for, with the program's name first, and the names of the files that it is asked of: that
-/// of the office text, and then that of the script or the certificate or those of the layers where there are some. The subcommands are
+/// of the office text, and then that of the script, the certificate or the office that was copied, and those of the layers, where there are some. The subcommands are
 /// `check DB CERT`, `merge DB CERT NAME..`, `format DB`, `accept DB`, `mended DB`, `errors DB [--geojson] [--crs SYSTEM]`, `why DB [--script FILE]
 /// [--certificate FILE]`, `certificate`, `keep`, `clashes`, `words`, `map`
 /// and `report`, each with `DB [--under ROOT] NAME..`, `geojson DB [--under ROOT] [--crs SYSTEM] NAME..`, `layer DB TABLE [--in
-/// WORKSPACE]`, `office SCHEMA TABLE=FILE.. [--round] [--accept]` and `design DB NAME TABLE=FILE.. [--script] [--keys N] [--round]`. There are none
-/// or more names, and one or more layers. The root, and the workspace of a layer, is LIVE where none is given; N is 1.
+/// WORKSPACE]`, `office SCHEMA TABLE=FILE.. [--round] [--accept]` and `design DB NAME TABLE=FILE.. [--base COPIED] [--removes CHOICE] [--script]
+/// [--keys N] [--round]`. There are none
+/// or more names, and one or more layers. The root, and the workspace of a layer, is LIVE where none is given; N is 1, and CHOICE is `yes`.
 ///
 /// Fails with `Refused` where the words name no subcommand or another count of values than it has,
-/// where a layer has no `=` or N is no key, or where they ask for help, as `help`, `--help` and `-h`, or for the version, as
+/// where a layer has no `=`, N is no key, CHOICE is neither `yes` nor `no`, or both COPIED and a script are asked for, or where they ask for help, as `help`, `--help` and `-h`, or for the version, as
 /// `--version` and `-V`; and with `OutOfMemory` for want of memory, which may come in place of any other answer.
 pub fn ask_of<'a>(alloc: Global, words: &'a [&'a str]) -> Result<(DeskAsk, Vec<Words>), AskFault>
     ensures asks { IfOk result (λ r. ask_of (subcommand_of program (map (λ s. s.now) words.entry.now)) ≡ Some (r.0, r.1.items)) }

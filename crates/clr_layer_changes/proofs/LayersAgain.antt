@@ -247,7 +247,7 @@ module _ (tables : List TableDef) (live : Content) (options : LayerOptions) wher
       ∙ ap Ok (replaced_again live at)
 
   all_change_nothing : (layers : List GivenLayer) → All (IsLayerOf tables live) layers → AreOfOtherTables layers → wanted tables live options layers ≡ Ok live
-  unfolding wanted
+  unfolding wanted_over
   all_change_nothing layers given others =
       unchanged (with_layer_at tables live options layers) live 0 layers (λ i layer is.
       let within = slice_get_within layers i layer is in

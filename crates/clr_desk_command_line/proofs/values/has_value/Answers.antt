@@ -1,7 +1,7 @@
 use Rattle.std.proofs.Common.{◌≡◌, ◌∙◌, Option, Some, None, ap, is_some, option_map, refl}
 use Rattle.clap.proofs.WalkLemmas.{first_value-rows}
 use Rattle.clap.specs.Words.{found_of}
-use Rattle.clr_desk_command_line.proofs.reading.has_value.Goals as goal
+use Rattle.clr_desk_command_line.proofs.values.has_value.Goals as goal
 
 some_as : {A B : Type 0} (f : A → B) (o : Option A) → is_some o ≡ is_some (option_map f o)
 some_as f (Some a) = refl
