@@ -1,4 +1,7 @@
+mod CountedLemmas
 pub mod LayerLemmas
 pub mod LayersAgain
 mod RelaidLemmas
+mod SchemaLemmas
 pub mod ScriptLemmas
+mod SinceLemmas
