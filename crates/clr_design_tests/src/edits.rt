@@ -20,8 +20,16 @@ fn edit(alloc: Global, dice: &mut Dice) -> Result<String, AllocError> {
     match dice.throw(6) {
         0 => format!(in alloc; "delete,main,{key}\n"),
         1 => format!(in alloc; "delete,node,{key}\n"),
-        2 => format!(in alloc; "update,main,{key},{},{x},{y},{},9\n", code(dice), dice.throw(4)),
-        3 => format!(in alloc; "insert,main,{key},{},{x},{y},{},9\n", code(dice), dice.throw(4)),
+        2 => format!(in alloc;
+            "update,main,{key},{},{x},{y},{},9\n",
+            code(dice),
+            dice.throw(4)
+        ),
+        3 => format!(in alloc;
+            "insert,main,{key},{},{x},{y},{},9\n",
+            code(dice),
+            dice.throw(4)
+        ),
         4 => format!(in alloc; "update,node,{key},tee,{x},{y}\n"),
         _ => format!(in alloc; "insert,node,{key},valve,{x},{y}\n"),
     }

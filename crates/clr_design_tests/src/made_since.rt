@@ -12,7 +12,8 @@ use std::alloc::Global;
 use std::test::Fail;
 
 /// An empty network, in which no two mains of the code A have one place, so that some steps are refused.
-const NETWORK: &str = r#"{"format":3,"tables":[{"name":"node","columns":[["kind","TEXT"]],"shape":"POINT"},
+const NETWORK: &str =
+    r#"{"format":3,"tables":[{"name":"node","columns":[["kind","TEXT"]],"shape":"POINT"},
 {"name":"main","columns":[["code","TEXT"]],"shape":"SEGMENT"}],
 "rules":[{"kind":"UNIQUE","subject":{"table":"main","where":[["code","A"]]},"columns":["code"]}],"live":[]}"#;
 
@@ -63,13 +64,25 @@ struct Times {
 fn times(alloc: Global, seed: u64) -> Option<Times> {
     let mut dice = Dice::new(seed);
     let mut office = office_of(alloc, NETWORK)?;
-    perform(alloc, &mut office, edits(alloc, &mut dice, "LIVE", 16).ok()?.as_str())?;
+    perform(
+        alloc,
+        &mut office,
+        edits(alloc, &mut dice, "LIVE", 16).ok()?.as_str(),
+    )?;
     perform(alloc, &mut office, "create,Other,LIVE\n")?;
-    perform(alloc, &mut office, edits(alloc, &mut dice, "Other", 4).ok()?.as_str())?;
+    perform(
+        alloc,
+        &mut office,
+        edits(alloc, &mut dice, "Other", 4).ok()?.as_str(),
+    )?;
     let copied = dump_text(alloc, &office).ok()?;
     let mut without = opened(alloc, copied.as_slice())?;
     perform(alloc, &mut office, "create,Design,LIVE\n")?;
-    perform(alloc, &mut office, edits(alloc, &mut dice, DESIGN, 6).ok()?.as_str())?;
+    perform(
+        alloc,
+        &mut office,
+        edits(alloc, &mut dice, DESIGN, 6).ok()?.as_str(),
+    )?;
     let made = dump_text(alloc, &office).ok()?;
     let since = edits(alloc, &mut dice, "LIVE", 6).ok()?;
     perform(alloc, &mut office, since.as_str())?;
@@ -152,7 +165,11 @@ fn outcome(alloc: Global, seed: u64) -> Option<Outcome> {
     if text.as_slice() != times.moved.as_slice() || conflicts.as_slice() != wanted.as_slice() {
         return Some(Outcome::Wrong);
     }
-    Some(if wanted.is_empty() { Outcome::Free } else { Outcome::InConflict })
+    Some(if wanted.is_empty() {
+        Outcome::Free
+    } else {
+        Outcome::InConflict
+    })
 }
 
 /// Returns how the designs of two hundred seeds are brought.

@@ -20,5 +20,5 @@ pub record IsMadeSince (o : Office) (name : Name) (copied content : Content) (le
   pub changed : changes_in left name ≡ changes copied content
   -- and is in conflict just at the cells that LIVE changed too
   pub conflicts :
-    (cell : CellId)
-    → list_any (eq_by_cmp cell_cmp cell) (conflicts_in left name) ≡ (is_changed copied content cell && is_changed copied o.live cell)
+      (cell : CellId)
+      → list_any (eq_by_cmp cell_cmp cell) (conflicts_in left name) ≡ (is_changed copied content cell && is_changed copied o.live cell)

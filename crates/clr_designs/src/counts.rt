@@ -8,34 +8,46 @@ use clr_lines::add_count;
 use clr_rows::CellId;
 use std::alloc::{AllocError, Global};
 
+/// Returns whether an edit adds a row.
+fn is_addition(edit: &Edit) -> bool
+    ensures { result ≡ is_addition edit.now }
+{
+    matches!(edit, Edit::Insert(_, _))
+}
+
+/// Returns whether an edit changes a row.
+fn is_change(edit: &Edit) -> bool
+    ensures { result ≡ is_change edit.now }
+{
+    matches!(edit, Edit::Update(_, _))
+}
+
+/// Returns whether an edit removes a row.
+fn is_removal(edit: &Edit) -> bool
+    ensures { result ≡ is_removal edit.now }
+{
+    matches!(edit, Edit::Delete(_))
+}
+
 /// Returns how many of some edits add a row.
 fn count_additions(edits: &[Edit]) -> usize
     ensures { result ≡ count_by is_addition edits.now }
 {
-    edits
-        .iter()
-        .filter(|edit| matches!(edit, Edit::Insert(_, _)))
-        .count()
+    edits.iter().filter(|edit| is_addition(edit)).count()
 }
 
 /// Returns how many of some edits change a row.
 fn count_changes(edits: &[Edit]) -> usize
     ensures { result ≡ count_by is_change edits.now }
 {
-    edits
-        .iter()
-        .filter(|edit| matches!(edit, Edit::Update(_, _)))
-        .count()
+    edits.iter().filter(|edit| is_change(edit)).count()
 }
 
 /// Returns how many of some edits remove a row.
 fn count_removals(edits: &[Edit]) -> usize
     ensures { result ≡ count_by is_removal edits.now }
 {
-    edits
-        .iter()
-        .filter(|edit| matches!(edit, Edit::Delete(_)))
-        .count()
+    edits.iter().filter(|edit| is_removal(edit)).count()
 }
 
 /// Returns how many rows some edits add, change and remove, on a line, as `adds 2, changes 1, removes 0`.

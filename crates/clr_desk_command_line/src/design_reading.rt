@@ -148,10 +148,17 @@ fn design_with(
         is_rounded: is_set(matches, "round"),
         may_remove,
     };
-    let Some(ask) = design_as(is_set(matches, "script"), has_value(matches, "base"), design) else {
+    let Some(ask) = design_as(
+        is_set(matches, "script"),
+        has_value(matches, "base"),
+        design,
+    ) else {
         return Ok(None);
     };
-    Ok(Some((ask, append_files(offices_of_design(alloc, matches)?, files)?)))
+    Ok(Some((
+        ask,
+        append_files(offices_of_design(alloc, matches)?, files)?,
+    )))
 }
 
 /// Returns what `design` asks for, and its files, or nothing where the first key, the choice or a layer can't be read, or where the script of a

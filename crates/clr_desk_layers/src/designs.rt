@@ -31,14 +31,7 @@ pub fn answer_design(
     ensures { IsMadePrintout (IsPrintoutIn (IsDesignPrint name.now options may_remove layers.now) (opened_in office.now)) result }
 {
     match open_office(alloc, office) {
-        Ok(mut office) => Ok(design_print(
-            alloc,
-            &mut office,
-            name,
-            options,
-            may_remove,
-            layers,
-        )?),
+        Ok(mut office) => Ok(design_print(alloc, &mut office, name, options, may_remove, layers)?),
         Err(answer) => notes_of(alloc, answer),
     }
 }
@@ -92,14 +85,7 @@ pub fn answer_design_script(
     ensures { IsMadePrintout (IsPrintoutIn (IsDesignScriptPrint name.now options may_remove layers.now) (opened_in office.now)) result }
 {
     match open_office(alloc, office) {
-        Ok(mut office) => Ok(script_print(
-            alloc,
-            &mut office,
-            name,
-            options,
-            may_remove,
-            layers,
-        )?),
+        Ok(mut office) => Ok(script_print(alloc, &mut office, name, options, may_remove, layers)?),
         Err(answer) => notes_of(alloc, answer),
     }
 }

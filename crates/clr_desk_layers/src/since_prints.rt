@@ -19,9 +19,7 @@ use clr_change::Edit;
 use clr_designs::make_design;
 use clr_desk_prints::Print;
 use clr_engine::{Draft, Office};
-use clr_layer_changes::{
-    GivenLayer, LayerOptions, edits_between, united_content, wanted_content,
-};
+use clr_layer_changes::{GivenLayer, LayerOptions, edits_between, united_content, wanted_content};
 use clr_office_reports::dump_text;
 use clr_rows::Sheet;
 use std::alloc::{AllocError, Global};
@@ -92,7 +90,9 @@ fn counted_design(
 {
     let edits = edits_between(alloc, copied, content)?;
     let edits = edits.as_slice();
-    let print = design_unless_removing(alloc, office, text, name, may_remove, edits, copied, content)?;
+    let print = design_unless_removing(
+        alloc, office, text, name, may_remove, edits, copied, content,
+    )?;
     with_counts(alloc, print, edits)
 }
 
@@ -134,6 +134,15 @@ pub(crate) fn since_print(
 {
     match first_other(office.schema().tables(), copied.schema().tables()) {
         Some(table) => other_schema(alloc, table),
-        None => print_over(alloc, office, text, copied.live(), name, options, may_remove, layers),
+        None => print_over(
+            alloc,
+            office,
+            text,
+            copied.live(),
+            name,
+            options,
+            may_remove,
+            layers,
+        ),
     }
 }
