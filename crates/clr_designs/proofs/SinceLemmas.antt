@@ -1,6 +1,6 @@
 -- An office with a design that took over a copied content is one in which the design was made before, and LIVE has moved on since.
-use Rattle.std.proofs.Common.{◌≡◌, ◌∷◌, ◌++◌, [], Bool, true, false, not, cond, Option, Some, None, ℕ, refl, sym, ap, ◌∙◌}
-use Rattle.std.specs.Prelude.{◌&&◌, ◌||◌}
+use Rattle.std.proofs.Common.{◌≡◌, ◌∷◌, ◌++◌, [], Bool, true, false, not, cond, Option, Some, None, ℕ, zero, suc, refl, sym, ap, ◌∙◌}
+use Rattle.std.specs.Prelude.{◌&&◌, ◌||◌, length, nat_le}
 use Rattle.std.specs.FinMap as finite
 use Rattle.std.specs.List.{list_any}
 use Rattle.std.specs.Ordering.{eq_by_cmp}
@@ -10,7 +10,7 @@ use Rattle.clr_rows.specs.declared.cells.Change.{Change}
 use Rattle.clr_rows.specs.declared.rows.Row.{Row}
 use Rattle.clr_rows.specs.Cells.{cell_cmp}
 use Rattle.clr_rows.specs.Contents.{Changes, Content, change_of, changes, conflicts, is_changed, row_at}
-use Rattle.clr_rows.specs.Names.{live_name}
+use Rattle.clr_rows.specs.Names.{is_good_name, live_name}
 use Rattle.clr_rows.specs.Same.{same}
 use Rattle.clr_rows.specs.Schemas.{FitsSchema}
 use Rattle.clr_rows.proofs.ChangeLemmas.{any-conflicts, get-changes, has_conflict}
@@ -19,12 +19,14 @@ use Rattle.clr_workspaces.specs.Marks.{Name}
 use Rattle.clr_workspaces.specs.Operations.{own_changes}
 use Rattle.clr_workspaces.specs.Soundness.{IsSound}
 use Rattle.clr_workspaces.specs.Workspaces.{Workspace, live_workspace}
+use Rattle.clr_workspaces.specs.declared.limits.TheConstants.{MOST_LEVELS}
 use Rattle.clr_workspaces.proofs.TreeLemmas.{sound_current}
 use Rattle.clr_steps.specs.Invariants.{OfficeFits}
 use Rattle.clr_steps.specs.Names.{is_live}
-use Rattle.clr_steps.specs.Offices.{Office, content_of, workspace}
+use Rattle.clr_steps.specs.declared.commands.Reply.TheVariants.{BadName, NameTaken, NoWorkspace, TooMany}
+use Rattle.clr_steps.specs.Offices.{Office, content_of, stands, workspace}
 use Rattle.clr_steps.specs.Readings.{changes_in, conflicts_in}
-use Rattle.clr_steps.specs.Refusals.{refusal}
+use Rattle.clr_steps.specs.Refusals.{depth_within, first_of, is_full, refusal, when}
 use Rattle.clr_steps.proofs.FindLemmas as steps
 use Rattle.clr_designs.specs.Designs.{AreDone, design_of, design_refusal, with_design, with_design_over, with_live}
 use Rattle.clr_designs.specs.Laws.{SinceLaw}
@@ -51,10 +53,24 @@ both_changed live copied content q =
     by true = ap not (same_back (row_at live q) (row_at copied q))
     by false = refl
 
+-- LIVE is under no other
+live_depth : (n : ℕ) (o : Office) → depth_within n o live_name ≡ 0
+unfolding depth_within workspace is_live
+live_depth zero o = refl
+live_depth (suc n) o = refl
+
 -- LIVE's content doesn't say whether a workspace can be created
 refusal_over : (o : Office) (name : Name) (copied : Content) → design_refusal (with_live o copied) name ≡ design_refusal o name
-unfolding refusal
-refusal_over o name copied = refl
+unfolding refusal stands
+refusal_over o name copied =
+    let n = length o.workspaces in
+    ap (λ (deep : ℕ). first_of (
+    when (not (stands o live_name)) NoWorkspace
+    ∷ when (not (is_good_name name)) BadName
+    ∷ when (stands o name) NameTaken
+    ∷ when (is_full o || nat_le MOST_LEVELS deep) TooMany
+    ∷ []
+    )) (live_depth n (with_live o copied) ∙ sym (live_depth n o))
 
 -- the workspaces of an office stand under any content of LIVE
 sound_over : (o : Office) (copied : Content) → IsSound (live_workspace o.live ∷ o.workspaces) → IsSound (live_workspace copied ∷ o.workspaces)

@@ -5,6 +5,7 @@ use Rattle.clr_rows.specs.Contents.{Content}
 use Rattle.clr_rows.specs.Schemas.{FitsSchema}
 use Rattle.clr_workspaces.specs.Marks.{Name}
 use Rattle.clr_steps.specs.Offices.{Office}
+use Rattle.clr_engine.specs.Fitting.{IsFitting}
 use Rattle.clr_layer_changes.specs.Wanted.{united}
 use Rattle.clr_layer_changes.specs.declared.options.GivenLayer.{GivenLayer}
 use Rattle.clr_layer_changes.specs.declared.options.LayerOptions.{LayerOptions}
@@ -14,9 +15,9 @@ use Rattle.clr_desk_prints.specs.Printing.{PrintoutOrFault}
 use Rattle.clr_desk_layers.specs.Designs.{IsDesignPrintOver}
 use Rattle.clr_desk_layers.specs.Layers.{unfit_print}
 
--- a text is read as an office whose schema two contents fit
+-- a text is read as an office that fits its schema, as two contents do
 abbrev pub IsDraftFitting : List ℕ → Content → Content → Type 0
-IsDraftFitting text copied content = (o : Office) × (draft_in text ≡ Ok o) × FitsSchema o.schema copied × FitsSchema o.schema content
+IsDraftFitting text copied content = (o : Office) × (draft_in text ≡ Ok o) × IsFitting o × FitsSchema o.schema copied × FitsSchema o.schema content
 
 -- the name of one of two tables that aren't the same, the first if it is there
 abbrev pub name_of_other : Option TableDef → Option TableDef → Name

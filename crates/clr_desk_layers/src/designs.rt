@@ -1,5 +1,6 @@
 //! Offices and designs that are made of layers, for the office of a text.
 
+ghost use Rattle.std.specs.Prelude.{◌≡◌, Ok};
 ghost use Rattle.clr_office_texts.specs.Drafts.{draft_in, opened_in};
 ghost use Rattle.clr_desk_prints.specs.Printing.{IsMadePrintout, IsPrintoutIn};
 ghost use Rattle.clr_desk_layers.specs.Designs.{IsAcceptedOfficePrint, IsDesignPrint, IsDesignScriptPrint, IsOfficePrint};
@@ -9,6 +10,7 @@ ghost use Rattle.clr_desk_errors.specs.Accepting.{IsPrintoutOfDraft};
 use crate::design_prints::{accepted_office_print, design_print, office_print, script_print};
 use crate::since_prints::since_print;
 use clr_desk_prints::{Print, RunFault, notes_of};
+use clr_engine::Office;
 use clr_layer_changes::{GivenLayer, LayerOptions};
 use clr_office_reports::{draft_of, open_office};
 use std::alloc::Global;
@@ -36,6 +38,26 @@ pub fn answer_design(
     }
 }
 
+/// Returns what is printed of an opened office and layers that were copied from LIVE of another office text. The office is that of the first text.
+fn answer_since(
+    alloc: Global,
+    opened: &mut Office,
+    office: &[u8],
+    copied: &[u8],
+    name: &str,
+    options: LayerOptions,
+    may_remove: bool,
+    layers: &[GivenLayer],
+) -> Result<Print, RunFault>
+    requires { draft_in office.now ≡ Ok opened.old }
+    ensures { IsMadePrintout (IsDesignSincePrint copied.now name.now options may_remove layers.now opened.old) result }
+{
+    let read = draft_of(alloc, copied)?;
+    let copied = &read.draft;
+    let print = since_print(alloc, opened, office, copied, name, options, may_remove, layers)?;
+    Ok(print)
+}
+
 /// Returns an office text as `answer_design` does, for layers that were copied from LIVE of another office text, in which rules may be broken: the office
 /// in which the design was made where LIVE had the copied rows, and LIVE has moved on since to what it is in the given office. So the design adds, changes
 /// and removes just what its layers do to the copied rows, and is in conflict just where LIVE changed the same since. A row without a key gets none that
@@ -55,19 +77,16 @@ pub fn answer_design_since(
     ensures { IsMadePrintout (IsPrintoutIn (IsDesignSincePrint copied.now name.now options may_remove layers.now) (opened_in office.now)) result }
 {
     match open_office(alloc, office) {
-        Ok(mut opened) => {
-            let read = draft_of(alloc, copied)?;
-            Ok(since_print(
-                alloc,
-                &mut opened,
-                office,
-                &read.draft,
-                name,
-                options,
-                may_remove,
-                layers,
-            )?)
-        }
+        Ok(mut opened) => answer_since(
+            alloc,
+            &mut opened,
+            office,
+            copied,
+            name,
+            options,
+            may_remove,
+            layers,
+        ),
         Err(answer) => notes_of(alloc, answer),
     }
 }

@@ -1,6 +1,6 @@
 //! Which table isn't the same in two schemas.
 
-ghost use Rattle.std.specs.Prelude.{◌≡◌, ◌↔◌, IsTrue, IfNone, IfSome};
+ghost use Rattle.std.specs.Prelude.{◌≡◌, ◌↔◌, IsTrue, IfNone, IfSome, Some, slice_get};
 ghost use Rattle.clr_desk_layers.specs.Since.{IsFirstOther};
 
 use clr_rows::{Kind, TableDef, Words};
@@ -29,15 +29,24 @@ fn is_same_table(one: &TableDef, other: &TableDef) -> bool
         && are_same_columns(one.columns.as_slice(), other.columns.as_slice())
 }
 
+/// Returns whether the table of this number is the same as another.
+fn is_table_at(tables: &[TableDef], number: usize, other: &TableDef) -> bool
+    ensures { IsTrue result ↔ (slice_get tables.now number ≡ Some other.now) }
+{
+    match tables.get(number) {
+        Some(table) => is_same_table(table, other),
+        None => false,
+    }
+}
+
 /// Returns the name of the first table that isn't the same in two schemas, or none where they are the same.
 pub(crate) fn first_other<'a>(tables: &'a [TableDef], others: &'a [TableDef]) -> Option<&'a str>
     ensures same { IfNone result (tables.now ≡ others.now) }
     ensures other { IfSome result (λ name. IsFirstOther tables.now others.now name.now) }
 {
     for i in 0..tables.len() {
-        match others.get(i) {
-            Some(other) if is_same_table(&tables[i], other) => {}
-            _ => return Some(tables[i].name.as_str()),
+        if !is_table_at(others, i, &tables[i]) {
+            return Some(tables[i].name.as_str());
         }
     }
     match others.get(tables.len()) {

@@ -18,7 +18,7 @@ returns-in-Some c =
     c.print_of_refusal.ensures
 
 pub draft_with_design-requires : goal.draft_with_design-requires
-draft_with_design-requires c = (c.args.office.now, c.requires.read, c.requires.copied, c.requires.fits)
+draft_with_design-requires c = (c.args.office.now, c.requires.read, c.live-fit.ensures.admitted.fit, c.requires.copied, c.requires.fits)
 
 pub returns : goal.returns
 returns c =
