@@ -2,7 +2,7 @@
 
 ghost use Rattle.std.specs.Prelude.{◌≡◌, IfOk};
 ghost use Rattle.clap.specs.Words.{app_of};
-ghost use Rattle.clr_desk_command_line.specs.Program.{drawing, program};
+ghost use Rattle.clr_desk_command_line.specs.Program.{drawing, importing, program};
 
 use crate::helps::{
     ABOUT, ACCEPT_PRINTS, CERTIFICATE_PRINTS, CHECK_PRINTS, CLASHES_PRINTS, DESIGN_PRINTS,
@@ -129,7 +129,7 @@ const DESK: ProgramTable<'static> = ProgramTable {
     ],
 };
 
-/// The subcommands that come after those, which bring networks and designs in and out, and list errors.
+/// The subcommands that come after those, which bring networks and designs in and out.
 const OVER_NETWORKS: &[Subcommand<'static>] = &[
     Subcommand {
         name: "geojson",
@@ -195,6 +195,10 @@ const OVER_NETWORKS: &[Subcommand<'static>] = &[
             ROUND,
         ],
     },
+];
+
+/// The last subcommands, which are about errors.
+const OVER_ERRORS: &[Subcommand<'static>] = &[
     Subcommand {
         name: "errors",
         about: "Lists what is broken in LIVE, with the rows, their places and the rules",
@@ -226,10 +230,18 @@ fn plan_command<'a>(alloc: Global) -> Result<Command<'a>, AllocError>
     command_of(alloc, DESK)
 }
 
-/// Returns the whole command line. It is described by two tables: what a proof of one takes grows with the square of its subcommands.
-pub fn whole_command<'a>(alloc: Global) -> Result<Command<'a>, AllocError>
-    ensures { IfOk result (λ c. app_of c ≡ program) }
+/// Returns the command line with the subcommands about plans and about networks.
+fn network_command<'a>(alloc: Global) -> Result<Command<'a>, AllocError>
+    ensures { IfOk result (λ c. app_of c ≡ importing) }
 {
     let command = plan_command(alloc)?;
     with_subcommands(alloc, command, OVER_NETWORKS)
+}
+
+/// Returns the whole command line. It is described by three tables: what a proof of one takes grows with the square of its subcommands.
+pub fn whole_command<'a>(alloc: Global) -> Result<Command<'a>, AllocError>
+    ensures { IfOk result (λ c. app_of c ≡ program) }
+{
+    let command = network_command(alloc)?;
+    with_subcommands(alloc, command, OVER_ERRORS)
 }
