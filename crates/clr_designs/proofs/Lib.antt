@@ -1,3 +1,4 @@
+mod CountLemmas
 pub mod DesignLemmas
 mod EditAgain
 pub mod EditLemmas
