@@ -54,7 +54,9 @@ fn answer_since(
 {
     let read = draft_of(alloc, copied)?;
     let copied = &read.draft;
-    let print = since_print(alloc, opened, office, copied, name, options, may_remove, layers)?;
+    let print = since_print(
+        alloc, opened, office, copied, name, options, may_remove, layers,
+    )?;
     Ok(print)
 }
 
