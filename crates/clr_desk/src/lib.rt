@@ -22,7 +22,7 @@
 //!   none (`IsGeographicAnswer`); of `accept` the text of the same office with just its broken needs as known, of `mended` the known needs that
 //!   aren't broken any more, and of `errors` the broken needs of LIVE, whether known or not, with status 0 only where all are known.
 //! - `fault_place` [`place`]: the file, the line and the column of the fault of the office text or the certificate, and nothing of any other.
-//! - `take_layers` [`layers`, `office`]: each table that is asked for with the text in its place.
+//! - `take_layers` [`layers`, `offices`]: each table that is asked for with the text in its place.
 //! - `texts_have_one_answer` [`answer`]: memory aside, what is asked has one answer alone, but for what the definitions of clashes, of faults,
 //!   and of sentences, pictures, pages, features, layers and errors leave open.
 //! - [`silent`]: with status 3 nothing went to the sink of the text.
