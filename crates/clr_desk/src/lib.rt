@@ -49,7 +49,7 @@ mod orders;
 mod whys;
 
 pub use answers::answer;
-pub use clr_desk_command_line::{AskFault, DeskAsk, GeographicAsk, ask_of};
+pub use clr_desk_command_line::{AskFault, Asked, DeskAsk, GeographicAsk, ReachAsk, ask_of};
 pub use clr_desk_layers::GivenLayer;
 pub use fault_places::fault_place;
 pub use given_layers::take_layers;

@@ -7,7 +7,8 @@ ghost use Rattle.clr_desk_command_line.specs.Program.{drawing, program};
 use crate::helps::{
     ABOUT, ACCEPT_PRINTS, CERTIFICATE_PRINTS, CHECK_PRINTS, CLASHES_PRINTS, DESIGN_PRINTS,
     ERRORS_PRINTS, FORMAT_PRINTS, GEOJSON_PRINTS, KEEP_PRINTS, LAYER_PRINTS, MAP_PRINTS,
-    MENDED_PRINTS, MERGE_PRINTS, OFFICE_PRINTS, REPORT_PRINTS, STATUSES, WHY_PRINTS, WORDS_PRINTS,
+    MENDED_PRINTS, MERGE_PRINTS, OFFICE_PRINTS, REACH_PRINTS, REPORT_PRINTS, STATUSES, WHY_PRINTS,
+    WORDS_PRINTS,
 };
 use clap::Command;
 use clr_command_line::{
@@ -206,6 +207,27 @@ const OVER_NETWORKS: &[Subcommand<'static>] = &[
         about: "Lists what was known to be broken and isn't any more",
         prints: MENDED_PRINTS,
         arguments: &[DATABASE],
+    },
+    Subcommand {
+        name: "reach",
+        about: "Prints the rows of a table that a cut of the network lacks",
+        prints: REACH_PRINTS,
+        arguments: &[
+            Argument::Value(
+                "CUT",
+                "The file of an office text with the designs and some of the rows, which is JSON",
+            ),
+            Argument::Value(
+                "TABLE",
+                "The table, whose rows are read from standard input",
+            ),
+            DESIGNS,
+            Argument::Flag(
+                "groups",
+                "Print also what ties designs to one another, for `groups`",
+            ),
+            ROUND,
+        ],
     },
 ];
 

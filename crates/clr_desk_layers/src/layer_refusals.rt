@@ -26,6 +26,13 @@ fn unfit_print(alloc: Global, why: &[u8], name: &str) -> Result<Print, AllocErro
     Ok(Print::new(Vec::new(alloc), line, true, false))
 }
 
+/// Returns the line that says that no table has this name.
+pub fn no_table_line(alloc: Global, name: &str) -> Result<Vec<u8>, AllocError>
+    ensures { IfOk result (λ line. line.items ≡ unfit_line no_table_word name.now) }
+{
+    unfit_line(alloc, b"8 NoTable", name)
+}
+
 /// Returns what is printed where no table has this name.
 pub(crate) fn no_table(alloc: Global, name: &str) -> Result<Print, AllocError>
     ensures { IfOk result (λ p. printed p ≡ unfit_print no_table_word name.now) }

@@ -19,4 +19,6 @@ mod relaid_drafts;
 pub use clr_layer_changes::{GivenLayer, LayerOptions};
 pub use designs::{answer_accepted_office, answer_design, answer_design_script, answer_office};
 pub use laws::printed_layers_change_nothing;
+pub use layer_fault_lines::table_fault_line;
+pub use layer_refusals::no_table_line;
 pub use layers::answer_layer;

@@ -1,9 +1,10 @@
 -- One record more is read of a layer, or there is none.
-use Rattle.std.proofs.Common.{◌≡◌, ◌∙◌, ◌+◌, ℕ, Bool, List, [], ◌∷◌, ◌++◌, Option, Some, None, Result, Ok, Err, true, false, length, length-append, min, inr, refl, sym, ap, subst, arith}
+use Rattle.std.proofs.Common.{◌≡◌, ◌∙◌, ◌+◌, ℕ, Bool, List, [], ◌∷◌, ◌++◌, Option, Some, None, Result, Ok, Err, true, false, length, min, inr, refl, sym}
+use Rattle.std.proofs.Common.{ap, arith, length-append, subst}
 use Rattle.std.specs.Bool.{OnFalse}
 use Rattle.std.specs.Prelude.{slice_get, if◌then◌else◌}
 use Rattle.csv.specs.Machine.{Read, next_record}
-use Rattle.csv.specs.Reading.{NextIs, Reached, ReadRecord, ReadsNext, default_config, records, source_of, strip_bom}
+use Rattle.csv.specs.Reading.{NextIs, ReadRecord, ReadsNext, default_config, records, strip_bom}
 use Rattle.csv.specs.declared.parser.State.{State}
 use Rattle.csv.specs.declared.parser.State.TheVariants as st
 use Rattle.csv.proofs.ReadFacts.{rows-end, rows-more}
@@ -78,12 +79,12 @@ module _ {R : Type 0} (remaining : R → Option (List ℕ)) (bytes : List ℕ) (
       rw (read, so_far.headings) so_far.read
 
 -- a first record that is no header of the table
-pub header_fault : (tables : List TableDef) (table : ℕ) (bytes : List ℕ) (fields : List (List ℕ)) (fault : LayerFault) (found : StreamFault) (after : Option (List ℕ))
-    (s2 : State) → ReadsNext default_config st.StartRecord (Some (strip_bom bytes)) after true fields s2
+pub header_fault : (tables : List TableDef) (table : ℕ) (bytes : List ℕ) (fields : List (List ℕ)) (fault : LayerFault) (found : StreamFault)
+    (after : Option (List ℕ)) (s2 : State) → ReadsNext default_config st.StartRecord (Some (strip_bom bytes)) after true fields s2
     → Fails layer_lacks_memory fault (fields_of_table fields (slice_get tables table)) → found ≡ record_fault 1 fault → IsHeaderFault tables table bytes found
 header_fault tables table bytes fields fault found None s2 reads failed is = absurd reads
-header_fault tables table bytes fields fault found (Some ys) s2 reads failed is = subst (IsHeaderFault tables table bytes) (sym is) (by (layer_lacks_memory fault)
-    failed)
+header_fault tables table bytes fields fault found (Some ys) s2 reads failed is =
+    subst (IsHeaderFault tables table bytes) (sym is) (by (layer_lacks_memory fault) failed)
   where
     one : (o : Option Read) → NextIs o true fields s2 ys → fields_of_table fields (slice_get tables table) ≡ Err fault → IsFaultOfFirst tables table o fault
     one None next f = absurd cc

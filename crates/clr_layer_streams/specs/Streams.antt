@@ -1,5 +1,5 @@
 -- Layers that are read one record at a time: what was read of one so far, and what the next record gives.
-use Rattle.std.specs.Prelude.{◌≡◌, ◌⊎◌, ◌+◌, ◌-◌, ◌^◌, ℕ, min, Bool, true, false, List, [], ◌∷◌, ◌++◌, length, ⊤, Option, Some, None, Ok, Err, slice_get}
+use Rattle.std.specs.Prelude.{◌≡◌, ◌⊎◌, ◌+◌, ◌-◌, ◌^◌, ℕ, min, Bool, true, List, [], ◌∷◌, ◌++◌, length, ⊤, Option, Some, None, Ok, Err, slice_get}
 use Rattle.csv.specs.Machine.{Read, next_record}
 use Rattle.csv.specs.Reading.{Reached, Ready, TookRecord, default_config, has_failed, is_flexible, reader_config, reader_state, reader_trim, records, source_of}
 use Rattle.csv.specs.Reading.{strip_bom}

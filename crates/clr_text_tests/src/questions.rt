@@ -1,6 +1,6 @@
 //! Cases as lines: a question, which begins with a word, ` => `, and the answer.
 
-use crate::{layers, office_faults, office_texts, record_faults, scripts};
+use crate::{layer_streams, layers, office_faults, office_texts, record_faults, scripts};
 use std::alloc::Global;
 use std::process::Abort;
 
@@ -10,6 +10,7 @@ fn answer(alloc: Global, word: &'static str, rest: &'static str) -> Option<Strin
         "edits" | "script" | "route" => scripts::answer(alloc, word, rest),
         "scriptfault" | "certificatefault" => record_faults::answer(alloc, word, rest),
         "layer" | "rounded" => layers::answer(alloc, word == "rounded", rest),
+        "stream" | "rounded stream" => layer_streams::answer(alloc, word == "rounded stream", rest),
         "edited" => office_faults::spots::answer(alloc, rest),
         _ => office_texts::answer(alloc, word, rest),
     }

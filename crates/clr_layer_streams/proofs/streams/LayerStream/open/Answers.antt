@@ -1,6 +1,6 @@
-use Rattle.std.proofs.Common.{◌≡◌, ◌∙◌, inr, refl, sym, ap, [], Some}
+use Rattle.std.proofs.Common.{◌∙◌, inr, refl, sym, ap, []}
 use Rattle.std.specs.Prelude.{option_map}
-use Rattle.csv.specs.Reading.{Reached, default_config, source_of, strip_bom}
+use Rattle.csv.specs.Reading.{Reached, default_config, strip_bom}
 use Rattle.csv.specs.Records.{fields_of}
 use Rattle.csv.specs.declared.parser.State.TheVariants as st
 use Rattle.csv.proofs.ReadFacts.{rows-more}
@@ -19,7 +19,8 @@ returns-in-Ok-clause-begun g c = λ bytes known.
     let reads = rw c.in-Ok-true.field-0-test at (c.in-Ok-true.ensures.reads (rw (flexible, named) at made.trim ∙ c.new.ensures.trim)
     (inr (inr (rw (flexible, named) at made.has_headers, made.headers)))) in
     let m = rows-more g.R.Read.remaining c.from_reader-reader.result c.read_record.new.self names default_config st.StartRecord (strip_bom bytes)
-    (strip_bom bytes) [] (rw (flexible, named) at made.config ∙ c.new.ensures.config) (made.source ∙ ap (option_map strip_bom) known) (sym made.state, refl) reads in
+    (strip_bom bytes) [] (rw (flexible, named) at made.config ∙ c.new.ensures.config) (made.source ∙ ap (option_map strip_bom) known)
+    (sym made.state, refl) reads in
     record {
       names = names;
       others = [];
