@@ -39,7 +39,8 @@ fn note_need<V: RowView, F: RowFinder>(
             let blockers = scene.blockers(need)?;
             let helpers = helpers(alloc, scene, need)?;
             found.needs.push(*need)?;
-            found.sides.push(OpenNeed { blockers, helpers })
+            found.sides.push(OpenNeed { blockers, helpers })?;
+            Ok(())
         }
     }
 }

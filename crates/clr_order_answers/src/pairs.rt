@@ -87,7 +87,10 @@ fn add_pair(order: &[u16], need: &OpenNeed, pairs: &mut Vec<Pair>) -> Result<(),
     }
     match pair_for(order, need) {
         None => Ok(()),
-        Some(pair) => pairs.push(pair),
+        Some(pair) => {
+            pairs.push(pair)?;
+            Ok(())
+        }
     }
 }
 
@@ -120,7 +123,8 @@ fn keep_needed(
     if are_served(needs, kept.as_slice(), rest) {
         return Ok(());
     }
-    kept.push(pair)
+    kept.push(pair)?;
+    Ok(())
 }
 
 /// Returns those of some pairs without which not all needs would be served.
