@@ -1,6 +1,7 @@
 -- The members that are told to help a need are just those that do.
-use Rattle.std.proofs.Common.{◌≡◌, ◌∙◌, ◌<◌, ◌≤◌, ℕ, Bool, true, false, List, ◌⊎◌, inl, inr, Option, Some, None, Contains, length, refl, sym, subst}
+use Rattle.std.proofs.Common.{◌≡◌, ◌∙◌, ◌<◌, ◌≤◌, ℕ, Bool, true, false, List, ◌⊎◌, inl, inr, Option, Some, None, Contains, arith, length, refl, sym, subst}
 use Rattle.std.specs.List.{list_any}
+use Rattle.std.specs.Ordering.{nat_cmp}
 use Rattle.std.proofs.lemmas.Bool.{false≢true, true≢false}
 use Rattle.clr_rows.specs.Contents.{Changes, Content}
 use Rattle.clr_rules.specs.declared.rules.Rule.{Rule}
@@ -11,7 +12,7 @@ use Rattle.clr_needs.specs.Blocking.{has_subject_of_life}
 use Rattle.clr_needs.specs.Covers.{IsLifeOf}
 use Rattle.clr_needs.specs.Independence.{Involves, Names, NamesIfAny}
 use Rattle.clr_needs.specs.Members.{setting}
-use Rattle.clr_needs.specs.Needs.{AreServers, IsPossible, IsPossibleNeed}
+use Rattle.clr_needs.specs.Needs.{AreServers, IsPossible, IsPossibleNeed, Lists}
 use Rattle.clr_needs.specs.Settings.{Setting, With, Without, Lived}
 use Rattle.clr_needs.specs.Witnesses.{has_life_at}
 use Rattle.clr_needs.proofs.BlockerLaws.{life_at, lives_as, member_below, same_told, subject_told, told_subject}
@@ -68,14 +69,13 @@ module _ (rules : List Rule) (root : Content) (sets : List Changes) (n : Need) w
   pub helper_below : (a : Lived ℕ) (b : Option (Lived ℕ)) → IsPossible s n a b → (x : ℕ) → IsHelper s n a b x → x < length sets
   helper_below a b p x helps = member_below rules root sets x (involved_member s n a b x p (helper_involves s n a b x helps))
 
+  only : (a : Lived ℕ) (b : Option (Lived ℕ)) → IsPossible s n a b → (x : ℕ) → IsHelperOf s n x → IsHelper s n a b x
+  only a b p x (d, e, q, w) = let once = subjects_once s n a d b e p q in subst (λ l. IsHelper s n l b x) once.0 (subst (λ m. IsHelper s n d m x) once.1 w)
+
+  below : (k x : ℕ) → length sets ≤ k → IsHelperOf s n x → x < k
+  below k x past (d, e, q, w) = let less = helper_below d e q x w in omega (arith, less, past)
+
   pub all_help : (k : ℕ) (list : List ℕ) → length sets ≤ k → AreHelpersTo s n k list → Helps s n list
-  all_help k list past are a b p = record { ascending = all.ascending; exactly = λ x. (λ h. only x ((all.exactly x).0 h), λ w. (all.exactly x).1 (a, b, p, w)) }
-    where
-      below : (x : ℕ) → IsHelperOf s n x → x < k
-      below x (d, e, q, w) = let less = helper_below d e q x w in omega (arith, less, past)
-
-      abbrev all : Lists nat_cmp (IsHelperOf s n) list
-      all = all_listed (IsHelperOf s n) k list below are
-
-      only : (x : ℕ) → IsHelperOf s n x → IsHelper s n a b x
-      only x (d, e, q, w) = let once = subjects_once s n a d b e p q in subst (λ l. IsHelper s n l b x) once.0 (subst (λ m. IsHelper s n d m x) once.1 w)
+  all_help k list past are a b p =
+      let all : Lists nat_cmp (IsHelperOf s n) list = all_listed (IsHelperOf s n) k list (λ x w. below k x past w) are in
+      record { ascending = all.ascending; exactly = λ x. (λ h. only a b p x ((all.exactly x).0 h), λ w. (all.exactly x).1 (a, b, p, w)) }

@@ -4,6 +4,7 @@ use Rattle.std.proofs.Common.{append_assoc, drop, get_or, length, slice_get, tak
 use Rattle.std.specs.List.{list_all, list_any}
 use Rattle.std.proofs.lemmas.Bool.{and_from, and_parts, cases_Bool, false≢true, true≢false, or_left, or_right}
 use Rattle.std.proofs.lemmas.List.{drop_more, take_more}
+use Rattle.std.proofs.lemmas.Option.{get_or_from_slice_get}
 use Rattle.std.proofs.lemmas.List.Folds.{list_all-append, list_any-append}
 use Rattle.clr_order_search.specs.declared.open_needs.OpenNeed.{OpenNeed}
 use Rattle.clr_order_search.specs.OpenNeeds.{has}
@@ -117,20 +118,25 @@ module _ (needs : List OpenNeed) (pairs : List Pair) where
       longer [] p others e = absurd (cc)
       longer (f ∷ fs) p others e = absurd (cc)
 
-  module _ (k : ℕ) (pair : Pair) (less : k < length pairs) (is : slice_get pairs k ≡ Some pair) where
+  module _ (k : ℕ) (less : k < length pairs) where
     abbrev rest : List Pair
     rest = drop (k + 1) pairs
 
-    next : drop k pairs ≡ pair ∷ rest
-    next = drop_more pairs k pair less ∙ ap (λ p. p ∷ rest) (read pairs k is)
-      where
-        read : (ps : List Pair) (k : ℕ) → slice_get ps k ≡ Some pair → get_or ps k pair ≡ pair
-        read [] k e = absurd (cc)
-        read (p ∷ ps) zero e = cc
-        read (p ∷ ps) (suc k) e = read ps k e
+    -- what a read past the end would give
+    abbrev unread : Pair
+    unread = record { earlier = 0; later = 0 }
 
-    it : Among pair pairs
-    it = here pairs k is
+    abbrev it : Pair
+    it = get_or pairs k unread
+
+    next : drop k pairs ≡ it ∷ rest
+    next = drop_more pairs k unread less
+
+    there : (pair : Pair) → slice_get pairs k ≡ Some pair → it ≡ pair
+    there pair is = get_or_from_slice_get pairs k pair unread is
+
+    inside_all : (pair : Pair) → slice_get pairs k ≡ Some pair → Among pair pairs
+    inside_all pair is = here pairs k is
       where
         here : (ps : List Pair) (k : ℕ) → slice_get ps k ≡ Some pair → Among pair ps
         here [] k e = absurd (cc)
@@ -147,23 +153,20 @@ module _ (needs : List OpenNeed) (pairs : List Pair) where
       ])
     ]) out
 
-    pub one_more_kept : (old new : List Pair) → AreKeptTo k old → KeepsNeeded needs pair rest old new → AreKeptTo (k + 1) new
-    one_more_kept old new are (inl (served, stays)) = subst (AreKeptTo (k + 1)) (sym stays) (record {
-      served = served;
-      inside = are.inside;
-      needed = λ firsts p others e. fewer firsts others (are.needed firsts p others e);
-    })
-    one_more_kept old new are (inr (out, put)) = subst (AreKeptTo (k + 1)) (sym put) (record {
-      served = subst (λ ps. are_served ps needs ≡ true) (ap (λ ps. old ++ ps) next ∙ sym (append_assoc old (pair ∷ []) rest)) are.served;
+    kept_too : (old : List Pair) (pair : Pair) → slice_get pairs k ≡ Some pair → AreKeptTo k old → are_served (old ++ rest) needs ≡ false
+        → AreKeptTo (k + 1) (old ++ pair ∷ [])
+    kept_too old pair is are out = record {
+      served = subst (λ ps. are_served ps needs ≡ true)
+          (ap (λ ps. old ++ ps) (next ∙ ap (λ p. p ∷ rest) (there pair is)) ∙ sym (append_assoc old (pair ∷ []) rest)) are.served;
       inside = λ p h. elim (among_either p old (pair ∷ []) h) [ inl before ↦ are.inside p before | inr now ↦ last p now ];
       needed = λ firsts p others e. elim (split_last old firsts p pair others e) [
         | inl s ↦ at_end firsts others s.none s.all
         | inr s ↦ before firsts p others s.rest s.others_are s.split
       ];
-    })
+    }
       where
         last : (p : Pair) → Among p (pair ∷ []) → Among p pairs
-        last p (inl e) = subst (λ q. Among q pairs) e it
+        last p (inl e) = subst (λ q. Among q pairs) e (inside_all pair is)
         last p (inr h) = absurd h
 
         at_end : (firsts others : List Pair) → others ≡ [] → firsts ≡ old → are_served (firsts ++ (others ++ rest)) needs ≡ false
@@ -172,8 +175,17 @@ module _ (needs : List OpenNeed) (pairs : List Pair) where
         before : (firsts : List Pair) (p : Pair) (others more : List Pair) → others ≡ more ++ pair ∷ [] → old ≡ firsts ++ p ∷ more
             → are_served (firsts ++ (others ++ rest)) needs ≡ false
         before firsts p others more end split =
-            ap (λ ps. are_served (firsts ++ ps) needs) (ap (λ ps. ps ++ rest) end ∙ append_assoc more (pair ∷ []) rest ∙ ap (λ ps. more ++ ps) (sym next))
+            ap (λ ps. are_served (firsts ++ ps) needs) (ap (λ ps. ps ++ rest) end ∙ append_assoc more (pair ∷ []) rest
+            ∙ ap (λ ps. more ++ ps) (sym (next ∙ ap (λ q. q ∷ rest) (there pair is))))
             ∙ are.needed firsts p more split
+
+    pub one_more_kept : (old new : List Pair) → AreKeptTo k old → KeepsNeeded needs pairs k old new → AreKeptTo (k + 1) new
+    one_more_kept old new are (inl (served, stays)) = subst (AreKeptTo (k + 1)) (sym stays) (record {
+      served = served;
+      inside = are.inside;
+      needed = λ firsts p others e. fewer firsts others (are.needed firsts p others e);
+    })
+    one_more_kept old new are (inr (pair, is, out, put)) = subst (AreKeptTo (k + 1)) (sym put) (kept_too old pair is are out)
 
   pub all_kept : (k : ℕ) (kept : List Pair) → drop k pairs ≡ [] → AreKeptTo k kept → AreKeptOf needs pairs kept
   all_kept k kept past are = record {

@@ -15,6 +15,7 @@ use Rattle.clr_order_search.proofs.Rests.{at_of, has_at, order_of}
 use Rattle.clr_order_answers.specs.Answers.{AreWithin}
 use Rattle.clr_order_answers.specs.Laws.{UnhelpedLaw}
 use Rattle.clr_order_answers.specs.Members.{AreMembersWhere, concerns, is_concerned}
+use Rattle.clr_order_answers.specs.Pairs.{AreAllApart, AreHelpedInTime}
 use Rattle.clr_order_answers.specs.Renumbering.{AreNumberedBy, AreRenumbered, IsAmong, IsRenumbered, members_at}
 use Rattle.clr_order_answers.proofs.Lists.{AreOnce, at_mapped, has_either, has_left, has_right, mapped_at, once_joined, place_left}
 use Rattle.clr_order_answers.proofs.Numbering.{renumbered_from, renumbered_to}
@@ -176,3 +177,11 @@ unhelped needs count need at e below none order is = (
       (λ x h. subst (λ xs. has xs x ≡ true) (sym (take_all (length order) order (omega arith))) (is.every x (below x h)))
       (λ x h. absurd (false≢true (sym (ap (λ xs. has xs x) none) ∙ h))),
 )
+
+-- needs that are within are helped in time by an order that works, and their sides are apart
+pub working_helps : (needs : List OpenNeed) (count : ℕ) → AreWithin needs count → (order : List ℕ) → IsWorkingOrder needs count order
+    → AreHelpedInTime order needs
+working_helps needs count within order working need at e = (helps needs count order working.is_order).0 working.works need at e (within need at e).blockers
+
+pub within_apart : (needs : List OpenNeed) (count : ℕ) → AreWithin needs count → AreAllApart needs
+within_apart needs count within need at e = (within need at e).apart

@@ -4,3 +4,4 @@ pub mod Found
 pub mod Lists
 pub mod Numbering
 pub mod Restricted
+pub mod Unhelped

@@ -77,23 +77,27 @@ module _ (list members : List ℕ) where
       nothing [] m h = false≢true h
       nothing (x ∷ xs) m h = false≢true h
 
-  pub one_placed : (k : ℕ) (old new : List ℕ) (place : ℕ) → k < length members → new ≡ old ++ place ∷ [] → slice_get list place ≡ Some (get_or members k 0)
-      → StandFor list old (take k members) → StandFor list new (take (k + 1) members)
-  one_placed k old new place less put at stand =
-      subst (λ ps. StandFor list ps (take (k + 1) members)) (sym put) (subst (StandFor list (old ++ place ∷ [])) (sym (take_more members k 0 less)) (record {
-        only = λ p h. elim (has_either old (place ∷ []) p h) [
-          | inl before ↦ (let (m, is, there) = stand.only p before in (m, is, has_left (take k members) (last ∷ []) m there))
-          | inr now ↦ (last, subst (λ q. slice_get list q ≡ Some last) (alone place p now) at, has_right (take k members) (last ∷ []) last
-              (or_left (last == last) false (itself last)))
-        ];
-        every = λ m h. elim (has_either (take k members) (last ∷ []) m h) [
-          | inl before ↦ (let (p, is, there) = stand.every m before in (p, is, has_left old (place ∷ []) p there))
-          | inr now ↦ (place, at ∙ ap Some (alone last m now), has_right old (place ∷ []) place (or_left (place == place) false (itself place)))
-        ];
-      }))
-    where
-      abbrev last : ℕ
-      last = get_or members k 0
+  module _ (k : ℕ) (old : List ℕ) (place : ℕ) (less : k < length members) (at : slice_get list place ≡ Some (get_or members k 0))
+      (stand : StandFor list old (take k members)) where
+    abbrev last : ℕ
+    last = get_or members k 0
+
+    placed : StandFor list (old ++ place ∷ []) (take k members ++ last ∷ [])
+    placed = record {
+      only = λ p h. elim (has_either old (place ∷ []) p h) [
+        | inl before ↦ (let (m, is, there) = stand.only p before in (m, is, has_left (take k members) (last ∷ []) m there))
+        | inr now ↦ (last, subst (λ q. slice_get list q ≡ Some last) (alone place p now) at, has_right (take k members) (last ∷ []) last
+            (or_left (last == last) false (itself last)))
+      ];
+      every = λ m h. elim (has_either (take k members) (last ∷ []) m h) [
+        | inl before ↦ (let (p, is, there) = stand.every m before in (p, is, has_left old (place ∷ []) p there))
+        | inr now ↦ (place, at ∙ ap Some (alone last m now), has_right old (place ∷ []) place (or_left (place == place) false (itself place)))
+      ];
+    }
+
+    pub one_placed : (new : List ℕ) → new ≡ old ++ place ∷ [] → StandFor list new (take (k + 1) members)
+    one_placed new put = subst (λ ps. StandFor list ps (take (k + 1) members)) (sym put)
+        (subst (StandFor list (old ++ place ∷ [])) (sym (take_more members k 0 less)) placed)
 
 -- needs, one after another ---------------------------------------------------------------------------------------
 

@@ -13,22 +13,23 @@ place (y ∷ ys) x = cond (y == x) (Some 0) (option_map suc (place ys x))
 pub place_is : (list : List ℕ) (x i : ℕ) → place list x ≡ Some i → slice_get list i ≡ Some x
 unfolding place
 place_is [] x i e = absurd (cc)
-place_is (y ∷ ys) x i e = by (y == x) refl (place ys x) refl e
+place_is (y ∷ ys) x i e = by (y == x) refl (place ys x) (λ j. place_is ys x j) e
   where
-    by : (b : Bool) → (y == x) ≡ b → (p : Option ℕ) → place ys x ≡ p → cond b (Some 0) (option_map suc p) ≡ Some i → slice_get (y ∷ ys) i ≡ Some x
-    by true same p at e = let one : 0 ≡ i = cc in subst (λ k. slice_get (y ∷ ys) k ≡ Some x) one (ap Some (same_of y x same))
-    by false other None at e = absurd (cc)
-    by false other (Some j) at e = let one : suc j ≡ i = cc in subst (λ k. slice_get (y ∷ ys) k ≡ Some x) one (place_is ys x j at)
+    by : (b : Bool) → (y == x) ≡ b → (p : Option ℕ) → ((j : ℕ) → p ≡ Some j → slice_get ys j ≡ Some x) → cond b (Some 0) (option_map suc p) ≡ Some i
+        → slice_get (y ∷ ys) i ≡ Some x
+    by true same p more e = let one : 0 ≡ i = cc in subst (λ k. slice_get (y ∷ ys) k ≡ Some x) one (ap Some (same_of y x same))
+    by false other None more e = absurd (cc)
+    by false other (Some j) more e = let one : suc j ≡ i = cc in subst (λ k. slice_get (y ∷ ys) k ≡ Some x) one (more j refl)
 
 pub place_there : (list : List ℕ) → AreOnce list → (x i : ℕ) → slice_get list i ≡ Some x → place list x ≡ Some i
 unfolding place
 place_there [] once x i e = absurd (cc)
 place_there (y ∷ ys) once x zero e = let one : y ≡ x = cc in ap (λ b. cond b (Some 0) (option_map suc (place ys x))) (ap (λ z. z == x) one ∙ itself x)
-place_there (y ∷ ys) once x (suc i) e = by (y == x) refl
+place_there (y ∷ ys) once x (suc i) e = by (y == x) refl (place_there ys (once_behind y ys once) x i e)
   where
-    by : (b : Bool) → (y == x) ≡ b → cond b (Some 0) (option_map suc (place ys x)) ≡ Some (suc i)
-    by true same = absurd (not_behind y ys once i (e ∙ ap Some (sym (same_of y x same))))
-    by false other = ap (option_map suc) (place_there ys (once_behind y ys once) x i e)
+    by : (b : Bool) → (y == x) ≡ b → place ys x ≡ Some i → cond b (Some 0) (option_map suc (place ys x)) ≡ Some (suc i)
+    by true same there = absurd (not_behind y ys once i (e ∙ ap Some (sym (same_of y x same))))
+    by false other there = ap (option_map suc) there
 
 pub keep : Option ℕ → List ℕ → List ℕ
 keep None rest = rest

@@ -1,5 +1,5 @@
 -- Pairs that are chosen for needs one after another, and of which those are kept that are needed.
-use Rattle.std.specs.Prelude.{◌≡◌, ◌⊎◌, ℕ, true, false, List, [], ◌∷◌, ◌++◌, Contains}
+use Rattle.std.specs.Prelude.{◌≡◌, ◌⊎◌, ℕ, ◌+◌, true, false, List, [], ◌∷◌, ◌++◌, Some, Contains, drop, slice_get}
 use Rattle.clr_order_search.specs.declared.open_needs.OpenNeed.{OpenNeed}
 use Rattle.clr_order_answers.specs.declared.pairs.Pair.{Pair}
 use Rattle.clr_order_answers.specs.Pairs.{AreInOrder, IsPairFor, NoneIsLeftOver, are_served, is_served}
@@ -13,10 +13,10 @@ pub record AreServingPairs (needs : List OpenNeed) (order : List ℕ) (pairs : L
   pub served : are_served pairs needs ≡ true
   pub in_order : AreInOrder order pairs
 
--- one more pair: nothing changes where those that are kept and the rest serve each need without it; else it is kept too
-abbrev pub KeepsNeeded : List OpenNeed → Pair → List Pair → List Pair → List Pair → Type 0
-KeepsNeeded needs pair rest old new = ((are_served (old ++ rest) needs ≡ true) × (new ≡ old))
-    ⊎ ((are_served (old ++ rest) needs ≡ false) × (new ≡ old ++ pair ∷ []))
+-- the pair at a position: nothing changes where those that are kept and those behind it serve each need; else it is kept too
+abbrev pub KeepsNeeded : List OpenNeed → List Pair → ℕ → List Pair → List Pair → Type 0
+KeepsNeeded needs pairs at old new = ((are_served (old ++ drop (at + 1) pairs) needs ≡ true) × (new ≡ old))
+    ⊎ ((pair : Pair) × (slice_get pairs at ≡ Some pair) × (are_served (old ++ drop (at + 1) pairs) needs ≡ false) × (new ≡ old ++ pair ∷ []))
 
 -- some of the pairs that serve each need, of which none can be left out
 pub record AreKeptOf (needs : List OpenNeed) (pairs kept : List Pair) : Type 0 where

@@ -1,6 +1,6 @@
 //! What is said of the orders of members.
 
-ghost use Rattle.std.specs.Prelude.{IfOk, MatchOption, length, true};
+ghost use Rattle.std.specs.Prelude.{◌≡◌, ◌==◌, IfOk, MatchOption, length, true};
 ghost use Rattle.clr_order_answers.specs.Answers.{AreAllHelped, AreWithin, IsAnswer, IsFoundAmong, IsUnhelpedAt};
 ghost use Rattle.clr_order_answers.specs.Members.{AreMembersWhere};
 
@@ -25,12 +25,19 @@ pub enum OrderAnswer {
     TooMany(Vec<u16>),
 }
 
+/// Tests whether no member helps a need.
+fn is_unhelped(need: &OpenNeed) -> bool
+    ensures { result ≡ (length need.now.helpers.items == 0) }
+{
+    need.helpers.as_slice().is_empty()
+}
+
 /// Returns the place of the first need that no member helps, if there is one.
 fn first_unhelped(needs: &[OpenNeed]) -> Option<usize>
     ensures { MatchOption result (AreAllHelped needs.now) (IsUnhelpedAt needs.now) }
 {
     for at in 0..needs.len() {
-        if needs[at].helpers.is_empty() {
+        if is_unhelped(&needs[at]) {
             return Some(at);
         }
     }

@@ -1,11 +1,12 @@
 //! Pairs of members of which the first goes before the second, so that needs are helped in time.
 
-ghost use Rattle.std.specs.Prelude.{◌≡◌, ◌||◌, true, IfOk, MatchOption, OnOk};
+ghost use Rattle.std.specs.Prelude.{◌≡◌, ◌||◌, ◌<◌, ◌+◌, true, drop, length, IfOk, MatchOption, OnOk};
 ghost use Rattle.std.specs.List.{list_all};
 ghost use Rattle.clr_order_answers.specs.Pairs.{AreAllApart, AreHelpedInTime, ArePairsFor, AreSidesApart, IsPairFor, are_served, is_served, serves};
 ghost use Rattle.clr_order_answers.specs.Choosing.{AddsPair, AreKeptOf, AreServingPairs, KeepsNeeded};
 ghost use Rattle.clr_order_answers.specs.Places.{IsFirstAmong, IsLastAmong, IsNoneAmong};
 ghost use Rattle.clr_order_search.specs.Laws.{IsHelpedInTime};
+ghost use Rattle.clr_order_search.specs.OpenNeeds.{has};
 
 use clr_order_search::OpenNeed;
 use std::alloc::{AllocError, Global};
@@ -40,12 +41,19 @@ fn are_served(needs: &[OpenNeed], pairs: &[Pair], others: &[Pair]) -> bool
         .all(|need| is_served(pairs, need) || is_served(others, need))
 }
 
+/// Tests whether a member is one of some.
+fn is_one_of(members: &[u16], member: u16) -> bool
+    ensures { result ≡ has members.now member }
+{
+    members.contains(&member)
+}
+
 /// Returns the first of some members in an order.
 fn first_of(order: &[u16], members: &[u16]) -> Option<u16>
     ensures { MatchOption result (IsNoneAmong members.now order.now) (IsFirstAmong members.now order.now) }
 {
     for at in 0..order.len() {
-        if members.contains(&order[at]) {
+        if is_one_of(members, order[at]) {
             return Some(order[at]);
         }
     }
@@ -58,7 +66,7 @@ fn last_of(order: &[u16], members: &[u16]) -> Option<u16>
 {
     let mut last = None;
     for at in 0..order.len() {
-        if members.contains(&order[at]) {
+        if is_one_of(members, order[at]) {
             last = Some(order[at]);
         }
     }
@@ -111,19 +119,29 @@ fn pairs_in_turn(
     Ok(pairs)
 }
 
-/// Adds a pair to those that are kept, unless these and the rest serve each need without it.
+/// Tests whether each need is served by one of some pairs or of those behind a position of others.
+fn are_served_without(needs: &[OpenNeed], kept: &[Pair], pairs: &[Pair], at: usize) -> bool
+    requires { at < length pairs.now }
+    ensures { result ≡ list_all (λ need. is_served kept.now need || is_served (drop (at + 1) pairs.now) need) needs.now }
+{
+    are_served(needs, kept, &pairs[at + 1..])
+}
+
+/// Adds the pair at a position to those that are kept, unless these and those behind it serve each
+/// need without it.
 fn keep_needed(
     needs: &[OpenNeed],
-    pair: Pair,
-    rest: &[Pair],
+    pairs: &[Pair],
+    at: usize,
     kept: &mut Vec<Pair>,
 ) -> Result<(), AllocError>
-    ensures { OnOk result (KeepsNeeded needs.now pair rest.now kept.old.items kept.new.items) }
+    requires { at < length pairs.now }
+    ensures { OnOk result (KeepsNeeded needs.now pairs.now at kept.old.items kept.new.items) }
 {
-    if are_served(needs, kept.as_slice(), rest) {
+    if are_served_without(needs, kept.as_slice(), pairs, at) {
         return Ok(());
     }
-    kept.push(pair)?;
+    kept.push(pairs[at])?;
     Ok(())
 }
 
@@ -138,7 +156,7 @@ fn without_needless(
 {
     let mut kept = Vec::new(alloc);
     for at in 0..pairs.len() {
-        keep_needed(needs, pairs[at], &pairs[at + 1..], &mut kept)?;
+        keep_needed(needs, pairs, at, &mut kept)?;
     }
     Ok(kept)
 }
@@ -156,5 +174,6 @@ pub fn pairs_of(
     ensures { IfOk result (λ pairs. ArePairsFor needs.now order.now pairs.items) }
 {
     let pairs = pairs_in_turn(alloc, needs, order)?;
-    without_needless(alloc, needs, pairs.as_slice())
+    let kept = without_needless(alloc, needs, pairs.as_slice())?;
+    Ok(kept)
 }

@@ -56,12 +56,12 @@ pub(crate) fn renumber_all(
     requires among { AreNumberedBy list.now needs.now }
     ensures { IfOk result (λ new. AreRenumbered list.now needs.now new.items) }
 {
-    let mut new = Vec::new(alloc);
+    let mut renumbered = Vec::new(alloc);
     for need in needs {
         let other = renumber(alloc, list, need)?;
-        new.push(other)?;
+        renumbered.push(other)?;
     }
-    Ok(new)
+    Ok(renumbered)
 }
 
 /// Returns the members at some places of a list, and behind them others.

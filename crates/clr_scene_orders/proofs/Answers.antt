@@ -131,11 +131,8 @@ module _ (rules : List Rule) (root : Content) (sets : List Changes) where
     are_helped all n is none =
         let (at, side, e, has_sides) = side_of n is in
         let o = opens c n is in
-        all side at (within e) e (empty side.helpers.items (λ x h. none x (o.first, o.second, o.possible, helps_of c n o side has_sides x h)))
+        all side at (slice_get_within sides at side e) e (empty side.helpers.items (λ x h. none x (o.first, o.second, o.possible, helps_of c n o side has_sides x h)))
       where
-        within : {at : ℕ} {side : OpenNeed} → slice_get sides at ≡ Some side → at < length sides
-        within {at} {side} e = slice_get_within sides at side e
-
         empty : (xs : List ℕ) → ((x : ℕ) → has xs x ≡ true → ⊥) → xs ≡ []
         empty [] none = refl
         empty (x ∷ xs) none = absurd (none x (or_left (x == x) (has xs x) (itself x)))
