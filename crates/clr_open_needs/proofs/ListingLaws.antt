@@ -164,9 +164,9 @@ module _ (c : Setting ℕ) (all read : List Need) (touched : AreTouchedNeeds c a
         picked (a, b, uncovered) = picked_covered c n a b p (picks a b uncovered.possible) uncovered
 
     pub one_noted : AddsNeed c n old new → AreOpenTo c read (k + 1) new.needs.items new.sides.items
-    one_noted (inl passes) = subst (λ (f : OpenNeeds). AreOpenTo c read (k + 1) f.needs.items f.sides.items) (sym passes.stays) (passed passes.pick passes.picks)
-    one_noted (inr puts) = subst (AreOpenTo c read (k + 1) new.needs.items) (sym puts.sides)
-        (subst (λ ns. AreOpenTo c read (k + 1) ns (old.sides.items ++ puts.put ∷ [])) (sym puts.needs) (put puts.put puts.unpicked puts.has_sides))
+    one_noted (inl (p, picks, stays)) = subst (λ (f : OpenNeeds). AreOpenTo c read (k + 1) f.needs.items f.sides.items) (sym stays) (passed p picks)
+    one_noted (inr (none, puts)) = subst (AreOpenTo c read (k + 1) new.needs.items) (sym puts.sides)
+        (subst (λ ns. AreOpenTo c read (k + 1) ns (old.sides.items ++ puts.put ∷ [])) (sym puts.needs) (put puts.put none puts.has_sides))
 
   pub all_open : (k : ℕ) (found : OpenNeeds) → length read ≤ k → AreOpenTo c read k found.needs.items found.sides.items → AreOpenNeeds c found
   all_open k found past are = record {

@@ -8,20 +8,13 @@ use Rattle.clr_order_search.specs.declared.open_needs.OpenNeed.{OpenNeed}
 use Rattle.clr_open_needs.specs.declared.listing.OpenNeeds.{OpenNeeds}
 use Rattle.clr_open_needs.specs.OpenNeeds.{HasSides}
 
--- witnesses are picked for the need, and nothing changes
-pub record PassesNeed (c : Setting ℕ) (n : Need) (old new : OpenNeeds) : Type 0 where
-  pub pick : VersionId × Option VersionId
-  pub picks : Picks c n (Some pick)
-  pub stays : new ≡ old
-
--- no witnesses are picked for the need, and it is put behind the others with its blockers and helpers
+-- the need is put behind the others with its blockers and helpers
 pub record PutsNeed (c : Setting ℕ) (n : Need) (old new : OpenNeeds) : Type 0 where
-  pub unpicked : Picks c n None
   pub put : OpenNeed
   pub has_sides : HasSides c n put
   pub needs : new.needs.items ≡ old.needs.items ++ n ∷ []
   pub sides : new.sides.items ≡ old.sides.items ++ put ∷ []
 
--- one more need
+-- one more need: nothing changes where witnesses are picked for it; else it is put behind the others
 abbrev pub AddsNeed : Setting ℕ → Need → OpenNeeds → OpenNeeds → Type 0
-AddsNeed c n old new = PassesNeed c n old new ⊎ PutsNeed c n old new
+AddsNeed c n old new = ((p : VersionId × Option VersionId) × Picks c n (Some p) × (new ≡ old)) ⊎ (Picks c n None × PutsNeed c n old new)

@@ -3,7 +3,7 @@
 ghost use Rattle.std.specs.Prelude.{IfOk, OnOk};
 ghost use Rattle.clr_foot.specs.Scenes.{IsReady, model_of, setting_of};
 ghost use Rattle.clr_needs.specs.Needs.{IsPossibleNeed};
-ghost use Rattle.clr_open_needs.specs.Listing.{AddsNeed};
+ghost use Rattle.clr_open_needs.specs.Listing.{AddsNeed, PutsNeed};
 ghost use Rattle.clr_open_needs.specs.OpenNeeds.{AreOpenNeeds, AreTouchedListed};
 
 use crate::helpers::helpers;
@@ -22,6 +22,24 @@ pub struct OpenNeeds {
     pub sides: Vec<OpenNeed>,
 }
 
+/// Adds a possible need with its blockers and helpers.
+fn add_need<V: RowView, F: RowFinder>(
+    alloc: Global,
+    scene: &Scene<'_, V, F>,
+    need: &Need,
+    found: &mut OpenNeeds,
+) -> Result<(), AllocError>
+    requires ready { IsReady F.settled (model_of V.content scene.now) }
+    requires possible { IsPossibleNeed (setting_of (model_of V.content scene.now)) need.now }
+    ensures { OnOk result (PutsNeed (setting_of (model_of V.content scene.now)) need.now found.old found.new) }
+{
+    let blockers = scene.blockers(need)?;
+    let helpers = helpers(alloc, scene, need)?;
+    found.needs.push(*need)?;
+    found.sides.push(OpenNeed { blockers, helpers })?;
+    Ok(())
+}
+
 /// Adds a possible need with its blockers and helpers, where no witnesses are picked for it.
 fn note_need<V: RowView, F: RowFinder>(
     alloc: Global,
@@ -35,13 +53,7 @@ fn note_need<V: RowView, F: RowFinder>(
 {
     match scene.pick(need)? {
         Some(_) => Ok(()),
-        None => {
-            let blockers = scene.blockers(need)?;
-            let helpers = helpers(alloc, scene, need)?;
-            found.needs.push(*need)?;
-            found.sides.push(OpenNeed { blockers, helpers })?;
-            Ok(())
-        }
+        None => add_need(alloc, scene, need, found),
     }
 }
 
