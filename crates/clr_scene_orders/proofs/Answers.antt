@@ -34,7 +34,10 @@ use Rattle.clr_order_answers.proofs.Lists.{contained_at, once_behind}
 use Rattle.clr_open_needs.specs.declared.listing.OpenNeeds.{OpenNeeds}
 use Rattle.clr_open_needs.specs.OpenNeeds.{AreOpenNeeds, AreTouchedListed, HasSides, IsHelperOf, IsOpenNeed}
 use Rattle.clr_open_needs.proofs.HelperLaws.{helper_below}
-use Rattle.clr_scene_orders.specs.SceneOrders.{AreConcerned, AreHelped, EachListBreaks, IsBrokenOnTheWay, IsConcerned, IsFinal, IsOrderBy, order_by}
+use Rattle.clr_scene_orders.specs.declared.scene_orders.SceneOrder.{SceneOrder}
+use Rattle.clr_scene_orders.specs.declared.scene_orders.SceneOrder.TheVariants as scene_order
+use Rattle.clr_scene_orders.specs.SceneOrders.{AreConcerned, AreHelped, EachListBreaks, IsBrokenOnTheWay, IsConcerned, IsFinal, IsFinalAt, IsOrderBy, IsSceneOrder}
+use Rattle.clr_scene_orders.specs.SceneOrders.{order_by}
 use Rattle.clr_scene_orders.proofs.Covering.{contained_of, covering_entries, each_covered, none_covered, pair_by}
 use Rattle.clr_scene_orders.proofs.Sides.{blocks_of, has_same, helps_of, is_broken_with, is_open, need_at, of_blocks, of_helps, opens, sides_at, sides_differ}
 
@@ -230,6 +233,19 @@ module _ (rules : List Rule) (root : Content) (sets : List Changes) where
               where
                 side_same : (s t : OpenNeed) → Some s ≡ Some t → s ≡ t
                 side_same s t e = cc
+
+    pub within_needs : (at : ℕ) → IsUnhelpedAt sides at → at < length found.needs.items
+    within_needs at unhelped = let w = open_at at unhelped.need unhelped.there in slice_get_within found.needs.items at w.need w.there
+
+    pub within_sides : (at : ℕ) → IsUnhelpedAt sides at → at < length sides
+    within_sides at unhelped = slice_get_within sides at unhelped.need unhelped.there
+
+    pub final_order : (at : ℕ) (order : SceneOrder) → IsUnhelpedAt sides at → IsFinalAt found at order → IsSceneOrder c order
+    final_order at (scene_order.Final need members) unhelped (side, e, f, same) =
+        subst (IsFinal c need) (sym same) (final_at at need side e f unhelped)
+    final_order at (scene_order.Order order pairs) unhelped is = absurd is
+    final_order at (scene_order.Stuck members) unhelped is = absurd is
+    final_order at (scene_order.TooMany members) unhelped is = absurd is
 
   -- the law ------------------------------------------------------------------------------------------------------------------
 

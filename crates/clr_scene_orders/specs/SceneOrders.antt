@@ -8,11 +8,13 @@ use Rattle.clr_needs.specs.Needs.{IsPossible}
 use Rattle.clr_needs.specs.Picks.{Blocks}
 use Rattle.clr_needs.specs.Settings.{Setting, Lived, has}
 use Rattle.clr_order_search.specs.declared.limits.TheConstants.{MOST_SEARCHED}
+use Rattle.clr_order_search.specs.declared.open_needs.OpenNeed.{OpenNeed}
 use Rattle.clr_ordered_needs.specs.Covers.{AreCovered, EachHasCover}
 use Rattle.clr_ordered_needs.specs.Helpers.{IsHelper}
 use Rattle.clr_ordered_needs.specs.States.{IsBrokenWith, IsOpen}
 use Rattle.clr_ordered_needs.specs.Turns.{Order, ListsAll, is_earlier}
 use Rattle.clr_order_answers.specs.declared.pairs.Pair.{Pair}
+use Rattle.clr_open_needs.specs.declared.listing.OpenNeeds.{OpenNeeds}
 use Rattle.clr_open_needs.specs.OpenNeeds.{IsHelperOf, IsOpenNeed}
 use Rattle.clr_scene_orders.specs.declared.scene_orders.SceneOrder.{SceneOrder}
 use Rattle.clr_scene_orders.specs.declared.scene_orders.SceneOrder.TheVariants as scene_order
@@ -75,3 +77,9 @@ IsSceneOrder c (scene_order.Order order pairs) = AreHelped c × AreFewConcerned 
 IsSceneOrder c (scene_order.Final need members) = IsFinal c need members.items
 IsSceneOrder c (scene_order.Stuck members) = AreHelped c × AreConcerned c members.items × (length members.items ≤ MOST_SEARCHED) × EachListBreaks c
 IsSceneOrder c (scene_order.TooMany members) = AreHelped c × AreConcerned c members.items × (MOST_SEARCHED < length members.items)
+
+-- the open need at a place, with the members that block it
+abbrev pub IsFinalAt : OpenNeeds → ℕ → SceneOrder → Type 0
+IsFinalAt found at (scene_order.Final need members) = (sides : OpenNeed) × (slice_get found.needs.items at ≡ Some need)
+    × (slice_get found.sides.items at ≡ Some sides) × (members.items ≡ sides.blockers.items)
+IsFinalAt found at _ = ⊥

@@ -1,13 +1,13 @@
 //! What can be said of the orders of a scene's members.
 
-ghost use Rattle.std.specs.Prelude.{IfOk};
+ghost use Rattle.std.specs.Prelude.{◌<◌, length, IfOk};
 ghost use Rattle.clr_foot.specs.Scenes.{IsReady, model_of, setting_of};
-ghost use Rattle.clr_scene_orders.specs.SceneOrders.{IsSceneOrder};
+ghost use Rattle.clr_scene_orders.specs.SceneOrders.{IsFinalAt, IsSceneOrder};
 
 use clr_finders::RowFinder;
 use clr_foot::Scene;
 use clr_needs::Need;
-use clr_open_needs::open_needs;
+use clr_open_needs::{OpenNeeds, open_needs};
 use clr_order_answers::{OrderAnswer, Pair, answer_of};
 use clr_rows::RowView;
 use std::alloc::{AllocError, Global};
@@ -26,6 +26,17 @@ pub enum SceneOrder {
     TooMany(Vec<u16>),
 }
 
+/// Returns the open need at a place, with the members that block it.
+fn final_at(alloc: Global, found: &OpenNeeds, at: usize) -> Result<SceneOrder, AllocError>
+    requires needs { at < length found.now.needs.items }
+    requires sides { at < length found.now.sides.items }
+    ensures { IfOk result (IsFinalAt found.now at) }
+{
+    let need = found.needs[at];
+    let members = Vec::from_slice(alloc, found.sides[at].blockers.as_slice())?;
+    Ok(SceneOrder::Final { need, members })
+}
+
 /// Returns what can be said of the orders in which the members of a scene can be merged one after
 /// another: `Final` wherever no member helps some open need, with the least such need. Else `Order`
 /// where an order works, and `Stuck` where none does; and `TooMany` exactly where open needs concern
@@ -41,12 +52,12 @@ pub fn order_scene<V: RowView, F: RowFinder>(
     ensures { IfOk result (IsSceneOrder (setting_of (model_of V.content scene.now))) }
 {
     let found = open_needs(alloc, scene)?;
-    match answer_of(alloc, found.sides.as_slice(), scene.len() as u16)? {
+    let answer = answer_of(alloc, found.sides.as_slice(), scene.len() as u16)?;
+    match answer {
         OrderAnswer::Order { order, pairs } => Ok(SceneOrder::Order { order, pairs }),
         OrderAnswer::Final(at) => {
-            let need = found.needs[at];
-            let members = Vec::from_slice(alloc, found.sides[at].blockers.as_slice())?;
-            Ok(SceneOrder::Final { need, members })
+            let order = final_at(alloc, &found, at)?;
+            Ok(order)
         }
         OrderAnswer::Stuck(members) => Ok(SceneOrder::Stuck(members)),
         OrderAnswer::TooMany(members) => Ok(SceneOrder::TooMany(members)),
