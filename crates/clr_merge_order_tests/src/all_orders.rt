@@ -146,14 +146,13 @@ fn outcome_of_order(
 }
 
 /// Returns the outcome where no order is done.
-fn outcome_of_none(
-    alloc: Global,
-    script: &str,
-    count: u16,
-    outcome: Outcome,
-) -> Option<Outcome> {
+fn outcome_of_none(alloc: Global, script: &str, count: u16, outcome: Outcome) -> Option<Outcome> {
     let found = found_in(alloc, script, count, &[])?;
-    Some(if found.done == 0 { outcome } else { Outcome::Wrong })
+    Some(if found.done == 0 {
+        outcome
+    } else {
+        Outcome::Wrong
+    })
 }
 
 /// Returns how what is said of members of the office of a script turns out.

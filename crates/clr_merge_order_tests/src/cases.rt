@@ -28,8 +28,7 @@ fn is_said(
     hoard.leave(budget).ok()?;
     let order = merge_order(alloc, office, root, members.as_slice());
     hoard.give_back();
-    let lines =
-        merge_order_lines(alloc, office.schema(), members.as_slice(), root, &order).ok()?;
+    let lines = merge_order_lines(alloc, office.schema(), members.as_slice(), root, &order).ok()?;
     if lines.as_slice() == wanted.as_bytes() {
         Some(true)
     } else if lines.as_slice() == REFUSED {

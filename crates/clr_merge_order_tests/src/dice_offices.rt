@@ -30,10 +30,18 @@ fn edit(alloc: Global, dice: &mut Dice) -> Result<String, AllocError> {
     match dice.throw(8) {
         0 => format!(in alloc; "delete,node,{key}\n"),
         1 => format!(in alloc; "delete,main,{key}\n"),
-        2 => format!(in alloc; "insert,hydrant,{key},{},{},0\n", dice.throw(5) + 1, dice.throw(3)),
+        2 => format!(in alloc;
+            "insert,hydrant,{key},{},{},0\n",
+            dice.throw(5) + 1,
+            dice.throw(3)
+        ),
         3 | 4 => main_edit(alloc, dice, "update"),
         5 => main_edit(alloc, dice, "insert"),
-        _ => format!(in alloc; "insert,node,{key},valve,{},{}\n", dice.throw(3), dice.throw(3)),
+        _ => format!(in alloc;
+            "insert,node,{key},valve,{},{}\n",
+            dice.throw(3),
+            dice.throw(3)
+        ),
     }
 }
 

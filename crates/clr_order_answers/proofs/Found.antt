@@ -77,10 +77,10 @@ module _ (needs : List OpenNeed) (count : ℕ) (within : AreWithin needs count) 
       comes : (m : ℕ) → m < count → has order m ≡ true
       comes m less = elim (cases_Bool (is_concerned needs m)) [
         | inl is ↦ (
-          let (p, e) = at_of list m (are.every m less is) in
-          let (k, f) = at_of places p (working.is_order.every p (slice_get_within list p m e)) in
-          has_at order k m (in_order k p m f e)
-        )
+            let (p, e) = at_of list m (are.every m less is) in
+            let (k, f) = at_of places p (working.is_order.every p (slice_get_within list p m e)) in
+            has_at order k m (in_order k p m f e)
+            )
         | inr isnt ↦ has_right (map read places) others m (rest.every m less (ap not isnt))
       ]
 
@@ -127,17 +127,17 @@ module _ (needs : List OpenNeed) (count : ℕ) (within : AreWithin needs count) 
       some_is_order : IsOrder (length list) some
       some_is_order = record {
         below = λ i h. (
-          let (k, e) = at_of some i h in
-          let (j, x, f, at) = of_restricted list order k i e in
-          slice_get_within list i x (place_is list x i at)
-        );
+            let (k, e) = at_of some i h in
+            let (j, x, f, at) = of_restricted list order k i e in
+            slice_get_within list i x (place_is list x i at)
+            );
         every = λ i less. (
-          let x = get_or list i 0 in
-          let is = slice_get-get_or list i 0 less in
-          let (j, e) = at_of order x (working.is_order.every x (are.below x (has_at list i x is))) in
-          let (k, f) = to_restricted list order j x i e (place_there list are.once x i is) in
-          has_at some k i f
-        );
+            let x = get_or list i 0 in
+            let is = slice_get-get_or list i 0 less in
+            let (j, e) = at_of order x (working.is_order.every x (are.below x (has_at list i x is))) in
+            let (k, f) = to_restricted list order j x i e (place_there list are.once x i is) in
+            has_at some k i f
+            );
         once = once_restricted list order working.is_order.once;
       }
 

@@ -86,8 +86,12 @@ module _ (list members : List ℕ) where
     placed = record {
       only = λ p h. elim (has_either old (place ∷ []) p h) [
         | inl before ↦ (let (m, is, there) = stand.only p before in (m, is, has_left (take k members) (last ∷ []) m there))
-        | inr now ↦ (last, subst (λ q. slice_get list q ≡ Some last) (alone place p now) at, has_right (take k members) (last ∷ []) last
-            (or_left (last == last) false (itself last)))
+        | inr now ↦ (
+          last,
+          subst (λ q. slice_get list q ≡ Some last) (alone place p now) at,
+          has_right (take k members) (last ∷ []) last
+              (or_left (last == last) false (itself last)),
+        )
       ];
       every = λ m h. elim (has_either (take k members) (last ∷ []) m h) [
         | inl before ↦ (let (p, is, there) = stand.every m before in (p, is, has_left old (place ∷ []) p there))

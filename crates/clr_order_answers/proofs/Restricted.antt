@@ -82,9 +82,9 @@ module _ (list : List ℕ) where
       let one : z ≡ x = cc in
       let two : z ≡ y = cc in
       let here : slice_get (keep (place list z) (restricted list zs)) zero ≡ Some a = ap (λ p. slice_get (keep p (restricted list zs)) zero)
-          (ap (place list) one ∙ at) in
+      (ap (place list) one ∙ at) in
       let there : slice_get (keep (place list z) (restricted list zs)) zero ≡ Some b = ap (λ p. slice_get (keep p (restricted list zs)) zero)
-          (ap (place list) two ∙ to) in
+      (ap (place list) two ∙ to) in
       record { early = zero; late = zero; first = here; second = there; in_order = omega arith }
   before_restricted (z ∷ zs) zero (suc k) x y a b e f less at to =
       let one : z ≡ x = cc in

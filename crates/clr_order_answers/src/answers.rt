@@ -73,11 +73,7 @@ fn search(
 /// members than `MOST_SEARCHED`.
 /// For example, where member 0 alone blocks a need that member 1 helps, the answer is the order 1, 0 with the pair
 /// of these two. Where member 1 alone also blocks a need that member 0 helps, it is `Stuck`.
-pub fn answer_of(
-    alloc: Global,
-    needs: &[OpenNeed],
-    count: u16,
-) -> Result<OrderAnswer, AllocError>
+pub fn answer_of(alloc: Global, needs: &[OpenNeed], count: u16) -> Result<OrderAnswer, AllocError>
     requires { AreWithin needs.now count }
     ensures { IfOk result (IsAnswer needs.now count) }
 {

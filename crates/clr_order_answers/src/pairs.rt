@@ -103,11 +103,7 @@ fn add_pair(order: &[u16], need: &OpenNeed, pairs: &mut Vec<Pair>) -> Result<(),
 }
 
 /// Returns pairs that serve the needs, one after another: one more wherever no pair serves a need yet.
-fn pairs_in_turn(
-    alloc: Global,
-    needs: &[OpenNeed],
-    order: &[u16],
-) -> Result<Vec<Pair>, AllocError>
+fn pairs_in_turn(alloc: Global, needs: &[OpenNeed], order: &[u16]) -> Result<Vec<Pair>, AllocError>
     requires helped { AreHelpedInTime order.now needs.now }
     requires apart { AreAllApart needs.now }
     ensures { IfOk result (λ pairs. AreServingPairs needs.now order.now pairs.items) }
@@ -164,11 +160,7 @@ fn without_needless(
 /// Returns pairs of which the first goes before the second in an order, where each need is helped in
 /// time: each need has a pair of a helper and a blocker, and without any of the pairs some need
 /// would have none.
-pub fn pairs_of(
-    alloc: Global,
-    needs: &[OpenNeed],
-    order: &[u16],
-) -> Result<Vec<Pair>, AllocError>
+pub fn pairs_of(alloc: Global, needs: &[OpenNeed], order: &[u16]) -> Result<Vec<Pair>, AllocError>
     requires helped { AreHelpedInTime order.now needs.now }
     requires apart { AreAllApart needs.now }
     ensures { IfOk result (λ pairs. ArePairsFor needs.now order.now pairs.items) }

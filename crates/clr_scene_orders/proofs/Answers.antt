@@ -153,11 +153,14 @@ module _ (rules : List Rule) (root : Content) (sets : List Changes) where
             let (side, there, is) = some_of (concerns x) sides h in
             let (at, e) = contained_at sides side (contained side sides there) in
             let w = open_at at side e in
-            let o = opens c w.need w.is_open in
-            (w.need, w.is_open, elim (or_cases (has side.blockers.items x) (has side.helpers.items x) is) [
-              | inl blocks ↦ inl (o.first, o.second, o.possible, blocks_of c w.need o side w.has_sides x blocks)
-              | inr helps ↦ inr (o.first, o.second, o.possible, helps_of c w.need o side w.has_sides x helps)
-            ])
+            let o = opens c w.need w.is_open in (
+              w.need,
+              w.is_open,
+              elim (or_cases (has side.blockers.items x) (has side.helpers.items x) is) [
+                | inl blocks ↦ inl (o.first, o.second, o.possible, blocks_of c w.need o side w.has_sides x blocks)
+                | inr helps ↦ inr (o.first, o.second, o.possible, helps_of c w.need o side w.has_sides x helps)
+              ],
+            )
 
         listed : (x : ℕ) → IsConcerned c x → has members x ≡ true
         listed x (n, is, by) =
@@ -219,12 +222,12 @@ module _ (rules : List Rule) (root : Content) (sets : List Changes) where
               is_open = w.is_open;
               blockers = w.has_sides.blockers;
               unhelped = λ x (a, b, possible, helps). (
-                let o = opens c w.need w.is_open in
-                let once = subjects_once c w.need o.first a o.second b o.possible possible in
-                let h = of_helps c w.need o side w.has_sides x
-                (subst (λ l. IsHelper c w.need l o.second x) once.0 (subst (λ m. IsHelper c w.need a m x) once.1 helps)) in
-                false≢true (sym (ap (λ xs. has xs x) (no_helpers side unhelped f)) ∙ h)
-              );
+                  let o = opens c w.need w.is_open in
+                  let once = subjects_once c w.need o.first a o.second b o.possible possible in
+                  let h = of_helps c w.need o side w.has_sides x
+                  (subst (λ l. IsHelper c w.need l o.second x) once.0 (subst (λ m. IsHelper c w.need a m x) once.1 helps)) in
+                  false≢true (sym (ap (λ xs. has xs x) (no_helpers side unhelped f)) ∙ h)
+                  );
             }
           where
             no_helpers : (side : OpenNeed) → IsUnhelpedAt sides at → slice_get sides at ≡ Some side → side.helpers.items ≡ []
@@ -251,8 +254,7 @@ module _ (rules : List Rule) (root : Content) (sets : List Changes) where
 
   pub final_breaks : (n : Need) (members : List ℕ) → IsFinal c n members → EachListBreaks c
   final_breaks n members final order lists =
-      let o = opens c n final.is_open in
-      (
+      let o = opens c n final.is_open in (
         length order,
         n,
         o.first,

@@ -166,8 +166,11 @@ module _ (before : Order ℕ) (c : Setting ℕ) (each : EachHasCover before c) w
           here n (inl e) a b p =
               let q = subst (λ k. IsPossible c k x y) e possible in
               let once = subjects_once c n a x b y p q in
-              inr (inl (e, subst (λ l. WitnessesCover before c n l b v w) once.0 (subst (λ k. WitnessesCover before c n x k v w) once.1
-              (subst (λ k. WitnessesCover before c k x y v w) e cover))))
+              inr (inl (
+                e,
+                subst (λ l. WitnessesCover before c n l b v w) once.0 (subst (λ k. WitnessesCover before c n x k v w) once.1
+                    (subst (λ k. WitnessesCover before c k x y v w) e cover)),
+              ))
           here n (inr h) a b p = elim (have n h a b p) [ inl never ↦ inl never | inr there ↦ inr (inr there) ]
 
   pub covering_entries : (ns : List Need) → AreTouchedNeeds c ns → (es : List Entry) × AreCovered before c es

@@ -16,8 +16,7 @@ returns-in-Found c =
     let told = subst (λ ns. IsSearched ns (length members) c.in_ok-places.field-0) c.as_slice.ensures.value c.in_ok-places.ensures in
     let searched = subst (IsSearched news (length members)) c.in-Found.is told in
     let places = c.as_slice-in-Found.ensures.value in
-    let others = c.as_slice-in-Found-2.ensures.value in
-    (
+    let others = c.as_slice-in-Found-2.ensures.value in (
       searched.0,
       subst (IsWorkingOrder needs count) (sym (c.in_ok-order-in-Found.ensures ∙ (λ i. members_at members (places i) (others i))))
           (found_order needs count c.requires.within members c.requires.members news c.in_ok-renumbered.ensures c.in-Found.places.items

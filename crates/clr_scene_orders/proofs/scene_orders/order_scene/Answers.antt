@@ -18,8 +18,7 @@ returns-in-Order g c =
     let are = c.in_ok-found.ensures.needs in
     let told = subst (λ k. IsAnswer found.sides.items k c.in_ok-answer.answer) c.len.ensures.members
     (subst (λ ss. IsAnswer ss c.len.result c.in_ok-answer.answer) c.as_slice.ensures.value c.in_ok-answer.ensures) in
-    let a = subst (IsAnswer found.sides.items (length m.sets)) c.in-Order.is told in
-    (
+    let a = subst (IsAnswer found.sides.items (length m.sets)) c.in-Order.is told in (
       are_helped m.rules m.root m.sets found are a.0,
       (a.1.0, are_concerned m.rules m.root m.sets found are a.1.0 a.1.1, a.1.2),
       order_by_pairs m.rules m.root m.sets found are c.in_ok-found.ensures.touched c.in-Order.order.items c.in-Order.pairs.items a.2.is_order a.3,
@@ -56,8 +55,7 @@ returns-in-Stuck g c =
     let are = c.in_ok-found.ensures.needs in
     let told = subst (λ k. IsAnswer found.sides.items k c.in_ok-answer.answer) c.len.ensures.members
     (subst (λ ss. IsAnswer ss c.len.result c.in_ok-answer.answer) c.as_slice.ensures.value c.in_ok-answer.ensures) in
-    let a = subst (IsAnswer found.sides.items (length m.sets)) c.in-Stuck.is told in
-    (
+    let a = subst (IsAnswer found.sides.items (length m.sets)) c.in-Stuck.is told in (
       are_helped m.rules m.root m.sets found are a.0,
       are_concerned m.rules m.root m.sets found are c.in-Stuck.members.items a.1,
       a.2,
@@ -71,8 +69,7 @@ returns-in-TooMany g c =
     let are = c.in_ok-found.ensures.needs in
     let told = subst (λ k. IsAnswer found.sides.items k c.in_ok-answer.answer) c.len.ensures.members
     (subst (λ ss. IsAnswer ss c.len.result c.in_ok-answer.answer) c.as_slice.ensures.value c.in_ok-answer.ensures) in
-    let a = subst (IsAnswer found.sides.items (length m.sets)) c.in-TooMany.is told in
-    (
+    let a = subst (IsAnswer found.sides.items (length m.sets)) c.in-TooMany.is told in (
       are_helped m.rules m.root m.sets found are a.0,
       are_concerned m.rules m.root m.sets found are c.in-TooMany.members.items a.1,
       a.2,
