@@ -1,8 +1,8 @@
 -- Pairs that are chosen for needs one after another, and those that are kept.
-use Rattle.std.proofs.Common.{◌≡◌, ◌∙◌, ◌<◌, ◌≤◌, ◌+◌, ◌&&◌, ◌||◌, ◌⊎◌, ℕ, zero, suc, Bool, true, false, List, [], ◌∷◌, ◌++◌, Some, inl, inr, Contains}
+use Rattle.std.proofs.Common.{◌≡◌, ◌∙◌, ◌<◌, ◌+◌, ◌&&◌, ◌||◌, ℕ, zero, suc, true, false, List, [], ◌∷◌, ◌++◌, Some, inl, inr}
 use Rattle.std.proofs.Common.{append_assoc, drop, get_or, length, slice_get, take, refl, sym, ap, subst, arith}
-use Rattle.std.specs.List.{list_all, list_any}
-use Rattle.std.proofs.lemmas.Bool.{and_from, and_parts, cases_Bool, false≢true, true≢false, or_left, or_right}
+use Rattle.std.specs.List.{list_all}
+use Rattle.std.proofs.lemmas.Bool.{and_from, and_parts, cases_Bool, true≢false}
 use Rattle.std.proofs.lemmas.List.{drop_more, take_more}
 use Rattle.std.proofs.lemmas.Option.{get_or_from_slice_get}
 use Rattle.std.proofs.lemmas.List.Folds.{list_all-append, list_any-append}
@@ -13,7 +13,7 @@ use Rattle.clr_order_search.proofs.Helps.{helps}
 use Rattle.clr_order_answers.specs.declared.pairs.Pair.{Pair}
 use Rattle.clr_order_answers.specs.Choosing.{AddsPair, AreKeptOf, AreServingPairs, KeepsNeeded}
 use Rattle.clr_order_answers.specs.Laws.{KeptPairsLaw}
-use Rattle.clr_order_answers.specs.Pairs.{AreInOrder, ArePairsFor, AreSidesApart, IsPairFor, StandsInOrder, are_served, is_served, serves}
+use Rattle.clr_order_answers.specs.Pairs.{AreSidesApart, IsPairFor, StandsInOrder, are_served, is_served, serves}
 use Rattle.clr_order_answers.specs.Places.{IsFirstAmong, IsLastAmong, IsNoneAmong}
 use Rattle.clr_order_answers.proofs.Lists.{Among, all_at, all_more, among, among_either, among_left, among_right, any_by, any_more, contained, some_of, split_last}
 

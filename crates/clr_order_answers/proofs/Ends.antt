@@ -1,6 +1,6 @@
 -- The first and the last of some members in an order, one place after another.
-use Rattle.std.proofs.Common.{◌≡◌, ◌∙◌, ◌<◌, ◌≤◌, ◌+◌, ℕ, Bool, true, false, List, Option, Some, None, ◌⊎◌, inl, inr, MatchOption}
-use Rattle.std.proofs.Common.{length, slice_get, refl, sym, ap, subst, arith}
+use Rattle.std.proofs.Common.{◌≡◌, ◌∙◌, ◌<◌, ◌≤◌, ◌+◌, ℕ, true, false, List, Option, Some, None, inl, inr, MatchOption}
+use Rattle.std.proofs.Common.{length, slice_get, sym, ap, arith}
 use Rattle.std.proofs.lemmas.Bool.{cases_lt, true≢false}
 use Rattle.std.proofs.lemmas.Option.{slice_get_within}
 use Rattle.clr_order_search.specs.OpenNeeds.{has}

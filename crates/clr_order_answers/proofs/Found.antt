@@ -1,12 +1,12 @@
 -- What is found among the members whom needs concern is found among all.
-use Rattle.std.proofs.Common.{◌≡◌, ◌∙◌, ◌<◌, ◌≤◌, ◌==◌, ℕ, zero, suc, Bool, true, false, not, List, [], ◌∷◌, ◌++◌, Some, inl, inr}
+use Rattle.std.proofs.Common.{◌≡◌, ◌∙◌, ◌<◌, ℕ, Bool, true, false, not, List, Some, inl, inr}
 use Rattle.std.proofs.Common.{get_or, length, map, slice_get, take, refl, sym, ap, subst, arith}
 use Rattle.std.proofs.lemmas.Bool.{cases_Bool, false≢true, true≢false, or_left, or_right}
 use Rattle.std.proofs.lemmas.List.{take_all}
 use Rattle.std.proofs.lemmas.Map.Keys.{any_passes_from_place}
 use Rattle.std.proofs.lemmas.Option.{get_or_from_slice_get, slice_get-get_or, slice_get_within}
 use Rattle.clr_order_search.specs.declared.open_needs.OpenNeed.{OpenNeed}
-use Rattle.clr_order_search.specs.OpenNeeds.{breaks_one, has}
+use Rattle.clr_order_search.specs.OpenNeeds.{has}
 use Rattle.clr_order_search.specs.Laws.{IsHelpedInTime}
 use Rattle.clr_order_search.specs.Orders.{IsOrder, IsWorkingOrder, NoneWorks, Works}
 use Rattle.clr_order_search.proofs.Circles.{broken_by, none_works}
@@ -16,8 +16,8 @@ use Rattle.clr_order_answers.specs.Answers.{AreWithin}
 use Rattle.clr_order_answers.specs.Laws.{UnhelpedLaw}
 use Rattle.clr_order_answers.specs.Members.{AreMembersWhere, concerns, is_concerned}
 use Rattle.clr_order_answers.specs.Pairs.{AreAllApart, AreHelpedInTime}
-use Rattle.clr_order_answers.specs.Renumbering.{AreNumberedBy, AreRenumbered, IsAmong, IsRenumbered, members_at}
-use Rattle.clr_order_answers.proofs.Lists.{AreOnce, at_mapped, has_either, has_left, has_right, mapped_at, once_joined, place_left}
+use Rattle.clr_order_answers.specs.Renumbering.{AreNumberedBy, AreRenumbered, IsRenumbered, members_at}
+use Rattle.clr_order_answers.proofs.Lists.{AreOnce, at_mapped, has_either, has_right, mapped_at, once_joined, place_left}
 use Rattle.clr_order_answers.proofs.Numbering.{renumbered_from, renumbered_to}
 use Rattle.clr_order_answers.proofs.Restricted.{before_restricted, of_restricted, once_restricted, place_is, place_there, restricted, to_restricted}
 

@@ -1,15 +1,15 @@
 -- Members that are listed one after another, and their places in a list.
-use Rattle.std.proofs.Common.{◌≡◌, ◌∙◌, ◌<◌, ◌≤◌, ◌+◌, ◌==◌, ◌⊎◌, ℕ, zero, suc, Bool, true, false, not, List, [], ◌∷◌, ◌++◌, Some, inl, inr}
+use Rattle.std.proofs.Common.{◌≡◌, ◌∙◌, ◌<◌, ◌+◌, ◌==◌, ℕ, zero, suc, Bool, true, false, List, [], ◌∷◌, ◌++◌, Some, inl, inr}
 use Rattle.std.proofs.Common.{get_or, length, length-append, slice_get, take, refl, sym, ap, subst, arith}
-use Rattle.std.proofs.lemmas.Bool.{cases_Bool, cases_lt, false≢true, true≢false, or_cases, or_left, or_right}
+use Rattle.std.proofs.lemmas.Bool.{cases_lt, false≢true, true≢false, or_cases, or_left}
 use Rattle.std.proofs.lemmas.Bool.Decides.{Decides-eqb}
 use Rattle.std.proofs.lemmas.List.{take_more}
 use Rattle.clr_order_search.specs.declared.open_needs.OpenNeed.{OpenNeed}
 use Rattle.clr_order_search.specs.OpenNeeds.{has}
-use Rattle.clr_order_search.proofs.Rests.{at_of, has_at, itself, same_of}
+use Rattle.clr_order_search.proofs.Rests.{itself, same_of}
 use Rattle.clr_order_answers.specs.Members.{AreMembersWhere, is_wanted}
 use Rattle.clr_order_answers.specs.Renumbering.{AreRenumbered, IsRenumbered, StandFor}
-use Rattle.clr_order_answers.proofs.Lists.{has_either, has_left, has_right, not_behind, once_joined}
+use Rattle.clr_order_answers.proofs.Lists.{has_either, has_left, has_right, once_joined}
 
 -- a list of one member
 pub alone : (y x : ℕ) → has (y ∷ []) x ≡ true → y ≡ x

@@ -1,8 +1,7 @@
 -- Of an order of all members those that a list has, by their places in it: who comes before whom stays.
-use Rattle.std.proofs.Common.{◌≡◌, ◌∙◌, ◌<◌, ◌≤◌, ◌==◌, ℕ, zero, suc, Bool, true, false, cond, List, [], ◌∷◌, Option, Some, None}
+use Rattle.std.proofs.Common.{◌≡◌, ◌∙◌, ◌≤◌, ◌==◌, ℕ, zero, suc, Bool, true, false, cond, List, [], ◌∷◌, Option, Some, None}
 use Rattle.std.proofs.Common.{option_map, slice_get, refl, sym, ap, subst, arith}
-use Rattle.std.proofs.lemmas.Bool.{cases_Bool, true≢false}
-use Rattle.clr_order_search.proofs.Rests.{has_at, itself, same_of}
+use Rattle.clr_order_search.proofs.Rests.{itself, same_of}
 use Rattle.clr_order_answers.proofs.Lists.{AreOnce, not_behind, once_behind, once_in_front}
 
 -- the place of a member in a list, if it is there

@@ -1,4 +1,4 @@
-use Rattle.std.proofs.Common.{◌≡◌, ◌∙◌, length, subst, sym}
+use Rattle.std.proofs.Common.{◌∙◌, length, subst, sym}
 use Rattle.clr_order_search.specs.Orders.{IsSearched, IsWorkingOrder}
 use Rattle.clr_order_answers.specs.Renumbering.{members_at}
 use Rattle.clr_order_answers.proofs.Found.{are_numbered, found_order, none_found}

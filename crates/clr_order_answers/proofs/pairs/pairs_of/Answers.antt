@@ -1,5 +1,4 @@
 use Rattle.std.proofs.Common.{Contains, subst}
-use Rattle.clr_order_answers.specs.declared.pairs.Pair.{Pair}
 use Rattle.clr_order_answers.proofs.pairs.pairs_of.Goals as goal
 
 pub returns : goal.returns

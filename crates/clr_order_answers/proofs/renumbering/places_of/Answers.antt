@@ -1,7 +1,5 @@
-use Rattle.std.proofs.Common.{◌≡◌, get_or, subst, take}
+use Rattle.std.proofs.Common.{subst}
 use Rattle.std.proofs.lemmas.List.{take_all}
-use Rattle.std.proofs.lemmas.Option.{slice_get-get_or}
-use Rattle.clr_order_search.proofs.Rests.{has_at}
 use Rattle.clr_order_answers.specs.Renumbering.{StandFor}
 use Rattle.clr_order_answers.proofs.Numbering.{no_places_yet, one_placed}
 use Rattle.clr_order_answers.proofs.renumbering.places_of.Goals as goal

@@ -1,4 +1,4 @@
-use Rattle.std.proofs.Common.{◌≡◌, subst}
+use Rattle.std.proofs.Common.{subst}
 use Rattle.std.proofs.lemmas.List.{take_all}
 use Rattle.clr_order_answers.specs.Renumbering.{AreRenumbered}
 use Rattle.clr_order_answers.proofs.Numbering.{one_renumbered}
