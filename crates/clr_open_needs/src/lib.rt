@@ -8,8 +8,8 @@
 //! - `helpers` [`Helps`] gives exactly the helpers of one possible need.
 #![tactic(auto)]
 
-mod helpers;
+mod helping;
 mod listing;
 
-pub use helpers::helpers;
+pub use helping::helpers;
 pub use listing::{OpenNeeds, open_needs};

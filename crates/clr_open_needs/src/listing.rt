@@ -6,7 +6,7 @@ ghost use Rattle.clr_needs.specs.Needs.{IsPossibleNeed};
 ghost use Rattle.clr_open_needs.specs.Listing.{AddsNeed, PutsNeed};
 ghost use Rattle.clr_open_needs.specs.OpenNeeds.{AreOpenNeeds, AreTouchedListed};
 
-use crate::helpers::helpers;
+use crate::helping::helpers;
 use clr_finders::RowFinder;
 use clr_foot::Scene;
 use clr_needs::Need;

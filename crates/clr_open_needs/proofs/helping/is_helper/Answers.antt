@@ -1,6 +1,6 @@
 use Rattle.clr_foot.specs.Scenes.{model_of, setting_of}
 use Rattle.clr_open_needs.proofs.HelperLaws.{takes_is_helper, told_helper}
-use Rattle.clr_open_needs.proofs.helpers.is_helper.Goals as goal
+use Rattle.clr_open_needs.proofs.helping.is_helper.Goals as goal
 
 pub returns-then-has_subject_with : goal.returns-then-has_subject_with
 returns-then-has_subject_with g c =

@@ -4,8 +4,8 @@ use Rattle.clr_needs.specs.Needs.{AreServers}
 use Rattle.clr_needs.proofs.ListedNumbers.{none_listed, one_left_out, one_listed}
 use Rattle.clr_open_needs.specs.OpenNeeds.{IsHelperOf, IsToldHelper}
 use Rattle.clr_open_needs.proofs.HelperLaws.{AreHelpersTo, all_help}
-use Rattle.clr_open_needs.proofs.helpers.helpers.Goals as goal
-use Rattle.clr_open_needs.proofs.helpers.helpers.Goals.{else-is_helper, then-is_helper+in_ok-push}
+use Rattle.clr_open_needs.proofs.helping.helpers.Goals as goal
+use Rattle.clr_open_needs.proofs.helping.helpers.Goals.{else-is_helper, then-is_helper+in_ok-push}
 
 pub loop-position-init : goal.loop-position-init
 loop-position-init g c =
