@@ -1,4 +1,4 @@
-use Rattle.std.proofs.Common.{◌≡◌, ℕ, None, OnOk, inr, subst}
+use Rattle.std.proofs.Common.{ℕ, None, OnOk, inr, subst}
 use Rattle.std.specs.declared.result.Result.{Result}
 use Rattle.std.specs.declared.result.Result.TheVariants.{Ok, Err}
 use Rattle.clr_foot.specs.Scenes.{model_of, setting_of}
