@@ -48,7 +48,7 @@ IsDeskAnswerWithin (ask.Report root names) office second layers print =
     IsPrintoutIn (IsHinted (IsReportPrint root names) (root ∷ names)) (opened_in office) print
 IsDeskAnswerWithin (ask.WorkOrder root names) office second layers print =
     IsPrintoutIn (IsHinted (IsOrderPrint root names) (root ∷ names)) (opened_in office) print
-IsDeskAnswerWithin (ask.Geographic asked) office second layers print = IsGeographicAnswer asked office layers print
+IsDeskAnswerWithin (ask.Geographic asked) office second layers print = IsGeographicAnswer asked office second layers print
 
 -- what is answered, where it is given whether a text is too long
 abbrev pub IsDeskAnswerIf : Bool → DeskAsk → List ℕ → List ℕ → List GivenLayer → PrintoutOrFault → Type 0

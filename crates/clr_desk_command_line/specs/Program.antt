@@ -61,8 +61,12 @@ office = with_rule (with_rule (with_rule (with_rule (new_app (codes "office")) (
 abbrev pub design_of_layers : App
 design_of_layers = with_rule (with_rule (database_command (codes "design")) (value (codes "NAME"))) layers
 
+-- what it is a difference to, and whether it may remove rows
+abbrev pub design_from : App
+design_from = with_rule (with_rule design_of_layers (option (codes "base"))) (option (codes "removes"))
+
 abbrev pub design : App
-design = with_rule (with_rule (with_rule design_of_layers (flag (codes "script"))) (option (codes "keys"))) round
+design = with_rule (with_rule (with_rule design_from (flag (codes "script"))) (option (codes "keys"))) round
 
 abbrev pub errors : App
 errors = with_rule (with_rule (database_command (codes "errors")) (flag (codes "geojson"))) system
@@ -72,6 +76,10 @@ accept = database_command (codes "accept")
 
 abbrev pub mended : App
 mended = database_command (codes "mended")
+
+abbrev pub reach : App
+reach = with_rule (with_rule (with_rule (with_rule (with_rule (new_app (codes "reach")) (value (codes "CUT"))) (value (codes "TABLE"))) name_arguments)
+    (flag (codes "groups"))) round
 
 -- the program with the commands that print a certificate or judge one
 abbrev pub certifying : App
@@ -101,6 +109,10 @@ exporting = with_subcommand (with_subcommand drawing geojson.top) layer.top
 abbrev pub importing : App
 importing = with_subcommand (with_subcommand exporting office.top) design.top
 
--- the whole program, with the commands about old errors
+-- with the commands about old errors
+abbrev pub mending : App
+mending = with_subcommand (with_subcommand (with_subcommand importing errors.top) accept.top) mended.top
+
+-- the whole program, with the command about cuts
 abbrev pub program : App
-program = with_subcommand (with_subcommand (with_subcommand importing errors.top) accept.top) mended.top
+program = with_subcommand mending reach.top

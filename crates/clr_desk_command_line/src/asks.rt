@@ -20,6 +20,8 @@ pub struct DesignAsk {
     pub first_key: u64,
     /// Whether coordinates finer than a millimetre are rounded.
     pub is_rounded: bool,
+    /// Whether it may remove rows.
+    pub may_remove: bool,
 }
 
 /// What is asked of an office text in the texts of geographic information systems.
@@ -39,6 +41,8 @@ pub enum GeographicAsk {
     ErrorFeatures(Option<Words>),
     /// The office with one more design.
     Design(DesignAsk),
+    /// The office with one more design, whose layers were copied from LIVE of a second office text.
+    DesignSince(DesignAsk),
     /// The script that makes this design.
     DesignScript(DesignAsk),
 }
@@ -77,4 +81,24 @@ pub enum DeskAsk {
     Report(Words, Names),
     /// What is asked in the texts of geographic information systems.
     Geographic(GeographicAsk),
+}
+
+/// A table that is held against a cut, as it is read from a stream.
+#[derive(Debug, Drop)]
+pub struct ReachAsk {
+    pub table: Words,
+    /// The designs of the cut, or none for all.
+    pub names: Names,
+    /// Whether the cut is to have what ties designs to one another, too.
+    pub is_for_groups: bool,
+    /// Whether coordinates finer than a millimetre are rounded.
+    pub is_rounded: bool,
+}
+
+/// What is asked: of texts alone, or of an office text and a stream.
+#[derive(Debug, Drop)]
+pub enum Asked {
+    OfTexts(DeskAsk),
+    /// Which rows of a table, that is read from a stream, a cut lacks; the office text is the cut.
+    Reach(ReachAsk),
 }

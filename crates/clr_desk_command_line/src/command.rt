@@ -2,12 +2,13 @@
 
 ghost use Rattle.std.specs.Prelude.{◌≡◌, IfOk};
 ghost use Rattle.clap.specs.Words.{app_of};
-ghost use Rattle.clr_desk_command_line.specs.Program.{drawing, program};
+ghost use Rattle.clr_desk_command_line.specs.Program.{drawing, importing, program};
 
 use crate::helps::{
     ABOUT, ACCEPT_PRINTS, CERTIFICATE_PRINTS, CHECK_PRINTS, CLASHES_PRINTS, DESIGN_PRINTS,
     ERRORS_PRINTS, FORMAT_PRINTS, GEOJSON_PRINTS, KEEP_PRINTS, LAYER_PRINTS, MAP_PRINTS,
-    MENDED_PRINTS, MERGE_PRINTS, OFFICE_PRINTS, REPORT_PRINTS, STATUSES, WHY_PRINTS, WORDS_PRINTS,
+    MENDED_PRINTS, MERGE_PRINTS, OFFICE_PRINTS, REACH_PRINTS, REPORT_PRINTS, STATUSES, WHY_PRINTS,
+    WORDS_PRINTS,
 };
 use clap::Command;
 use clr_command_line::{
@@ -129,7 +130,7 @@ const DESK: ProgramTable<'static> = ProgramTable {
     ],
 };
 
-/// The subcommands that come after those, which bring networks and designs in and out, and list errors.
+/// The subcommands that come after those, which bring networks and designs in and out.
 const OVER_NETWORKS: &[Subcommand<'static>] = &[
     Subcommand {
         name: "geojson",
@@ -176,6 +177,16 @@ const OVER_NETWORKS: &[Subcommand<'static>] = &[
             DATABASE,
             Argument::Value("NAME", "The name of the new design"),
             LAYERS,
+            Argument::ValueOption(
+                "base",
+                "COPIED",
+                "The file of the office text from which the layers were copied [default: DB]",
+            ),
+            Argument::ValueOption(
+                "removes",
+                "CHOICE",
+                "Whether the design may remove rows, yes or no [default: yes]",
+            ),
             Argument::Flag("script", "Print the script that makes the design"),
             Argument::ValueOption(
                 "keys",
@@ -185,6 +196,10 @@ const OVER_NETWORKS: &[Subcommand<'static>] = &[
             ROUND,
         ],
     },
+];
+
+/// The last subcommands, which are about errors.
+const OVER_ERRORS: &[Subcommand<'static>] = &[
     Subcommand {
         name: "errors",
         about: "Lists what is broken in LIVE, with the rows, their places and the rules",
@@ -207,6 +222,27 @@ const OVER_NETWORKS: &[Subcommand<'static>] = &[
         prints: MENDED_PRINTS,
         arguments: &[DATABASE],
     },
+    Subcommand {
+        name: "reach",
+        about: "Prints the rows of a table that a cut of the network lacks",
+        prints: REACH_PRINTS,
+        arguments: &[
+            Argument::Value(
+                "CUT",
+                "The file of an office text with the designs and some of the rows, which is JSON",
+            ),
+            Argument::Value(
+                "TABLE",
+                "The table, whose rows are read from standard input",
+            ),
+            DESIGNS,
+            Argument::Flag(
+                "groups",
+                "Print also what ties designs to one another, for `groups`",
+            ),
+            ROUND,
+        ],
+    },
 ];
 
 /// Returns the command line with the subcommands about plans.
@@ -216,10 +252,18 @@ fn plan_command<'a>(alloc: Global) -> Result<Command<'a>, AllocError>
     command_of(alloc, DESK)
 }
 
-/// Returns the whole command line. It is described by two tables: what a proof of one takes grows with the square of its subcommands.
-pub fn whole_command<'a>(alloc: Global) -> Result<Command<'a>, AllocError>
-    ensures { IfOk result (λ c. app_of c ≡ program) }
+/// Returns the command line with the subcommands about plans and about networks.
+fn network_command<'a>(alloc: Global) -> Result<Command<'a>, AllocError>
+    ensures { IfOk result (λ c. app_of c ≡ importing) }
 {
     let command = plan_command(alloc)?;
     with_subcommands(alloc, command, OVER_NETWORKS)
+}
+
+/// Returns the whole command line. It is described by three tables: what a proof of one takes grows with the square of its subcommands.
+pub fn whole_command<'a>(alloc: Global) -> Result<Command<'a>, AllocError>
+    ensures { IfOk result (λ c. app_of c ≡ program) }
+{
+    let command = network_command(alloc)?;
+    with_subcommands(alloc, command, OVER_ERRORS)
 }

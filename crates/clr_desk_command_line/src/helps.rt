@@ -124,12 +124,15 @@ Example:
 pub(crate) const DESIGN_PRINTS: &str =
     "It prints the office with one more design under LIVE, which has the rows of the layers in place of those of their
 tables, and nothing else, with status 0; with --script it prints the script for `clr_office run` that makes the design.
-A layer is CSV, as `clr_desk layer` prints it, with shapes as WKT in metres; a row whose KEY is empty gets the least key
-from N on that is free. Where a layer can't be read or the design can't be made it prints nothing, and on standard error
-the line that says so, with status 2 or 1.
+How many rows the design adds, changes and removes stands on standard error. A layer is CSV, as `clr_desk layer` prints
+it, with shapes as WKT in metres; a row whose KEY is empty gets the least key from N on that is free. What LIVE got
+since the layers were copied isn't in them, and the design would remove it: give the office that they were copied from
+as COPIED. The design is then the difference to that, and in conflict where LIVE changed the same since. With
+--removes no a design that removes a row is refused. Where a layer can't be read or the design can't be made it prints
+nothing, and on standard error the line that says so, with status 2 or 1.
 
 Example:
-  clr_desk design office.json Bypass main=main.csv valve=valve.csv > with_bypass.json";
+  clr_desk design office.json Bypass main=main.csv --base copied.json > with_bypass.json";
 
 pub(crate) const ERRORS_PRINTS: &str =
     "It prints each need that is broken in LIVE: whether it is known, the rule, the rows, and the place; with --geojson
@@ -152,3 +155,15 @@ and so does whatever else prints the office. The status is 0.
 
 Example:
   clr_desk mended office.json";
+
+pub(crate) const REACH_PRINTS: &str =
+    "It reads the rows of the table as CSV from standard input, as `clr_desk layer` prints them, and prints those that the
+cut lacks: rows that a design changes, and rows near what it brings or takes away. The cut is an office text with the
+designs and a part of the rows; rules may be broken in it. One row is read at a time, so the table may have any size.
+On standard error stand the rows that the cut has otherwise, and how many rows were read, printed, otherwise and had.
+Where a pass over each table prints nothing and all rows of the cut were had, a plan over the cut is the plan over the
+whole. Without names it takes all designs. The status is 0 where no row is printed and none is otherwise, 1 where one
+is, and 2 where a row can't be read.
+
+Example:
+  clr_desk reach cut.json main < main.csv > more.csv";

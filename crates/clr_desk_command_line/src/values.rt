@@ -1,6 +1,6 @@
 //! What `clap` found of options.
 
-ghost use Rattle.std.specs.Prelude.{◌≡◌, IfOk};
+ghost use Rattle.std.specs.Prelude.{◌≡◌, IfOk, is_some};
 ghost use Rattle.clap.specs.Words.{first_of, found_of, rows_of};
 ghost use Rattle.clr_desk_command_line.specs.Asks.{given_or, is_set, given_root};
 
@@ -50,4 +50,11 @@ pub(crate) fn is_set(matches: &ArgMatches, name: &str) -> bool
         Some(value) => value == "true",
         None => false,
     }
+}
+
+/// Returns whether an option has a value.
+pub(crate) fn has_value(matches: &ArgMatches, option: &str) -> bool
+    ensures { result ≡ is_some (first_of option.now (rows_of (found_of matches.now))) }
+{
+    matches.get_str(option).is_some()
 }

@@ -38,7 +38,10 @@ fault_word of_layer.NoKey = codes "16 NoKey"
 abbrev pub table_at : List GivenLayer → ℕ → List ℕ
 table_at layers at = option_map_or (λ layer. layer.table) (slice_get layers at) []
 
--- the line of the first layer with a fault: the name of its table, the fault, and the record that has it, or 0 where it is one of the whole layer
+-- the line of a layer with a fault: the name of its table, the fault, and the record that has it, or 0 where it is one of the whole layer
+abbrev pub table_fault_line : List ℕ → LayersFault → ℕ → List ℕ
+table_fault_line table fault number = codes "unreadable layer " ++ table ++ codes " " ++ fault_word fault ++ codes " at " ++ decimal number ++ codes "\n"
+
+-- the line of the first layer with a fault
 abbrev pub fault_line : List GivenLayer → FaultyLayer → List ℕ
-fault_line layers faulty =
-    codes "unreadable layer " ++ table_at layers faulty.layer ++ codes " " ++ fault_word faulty.fault ++ codes " at " ++ decimal faulty.number ++ codes "\n"
+fault_line layers faulty = table_fault_line (table_at layers faulty.layer) faulty.fault faulty.number

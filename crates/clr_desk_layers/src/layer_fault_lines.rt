@@ -1,7 +1,7 @@
 //! The line of a layer that can't be read.
 
 ghost use Rattle.std.specs.Prelude.{◌≡◌, ◌++◌, IfOk, OnOk};
-ghost use Rattle.clr_desk_layers.specs.LayerFaultLines.{fault_line, fault_word, table_at, text_fault_word};
+ghost use Rattle.clr_desk_layers.specs.LayerFaultLines.{fault_line, fault_word, table_at, table_fault_line, text_fault_word};
 
 use clr_layer_changes::{FaultyLayer, GivenLayer, LayerFault, LayersFault};
 use clr_lines::{add_count, row_fault_word};
@@ -54,6 +54,26 @@ fn table_at(layers: &[GivenLayer], at: usize) -> &str
     }
 }
 
+/// Returns the line of a layer with a fault: the name of its table, the fault's number and name, and the number of the record, or 0 where
+/// the fault is one of the whole layer.
+pub fn table_fault_line(
+    alloc: Global,
+    table: &str,
+    fault: LayersFault,
+    number: usize,
+) -> Result<Vec<u8>, AllocError>
+    ensures { IfOk result (λ line. line.items ≡ table_fault_line table.now fault number) }
+{
+    let mut line = Vec::from_slice(alloc, b"unreadable layer ")?;
+    line.extend_from_slice(table.as_bytes())?;
+    line.push(b' ')?;
+    add_fault(&mut line, fault)?;
+    line.extend_from_slice(b" at ")?;
+    add_count(&mut line, number)?;
+    line.push(b'\n')?;
+    Ok(line)
+}
+
 /// Returns the line of the first layer with a fault: the name of its table, the fault's number and name, and the number of the record.
 pub(crate) fn fault_line(
     alloc: Global,
@@ -62,12 +82,10 @@ pub(crate) fn fault_line(
 ) -> Result<Vec<u8>, AllocError>
     ensures { IfOk result (λ line. line.items ≡ fault_line layers.now faulty.now) }
 {
-    let mut line = Vec::from_slice(alloc, b"unreadable layer ")?;
-    line.extend_from_slice(table_at(layers, faulty.layer).as_bytes())?;
-    line.push(b' ')?;
-    add_fault(&mut line, faulty.fault)?;
-    line.extend_from_slice(b" at ")?;
-    add_count(&mut line, faulty.number)?;
-    line.push(b'\n')?;
-    Ok(line)
+    table_fault_line(
+        alloc,
+        table_at(layers, faulty.layer),
+        faulty.fault,
+        faulty.number,
+    )
 }

@@ -11,12 +11,12 @@ use Rattle.clr_steps.specs.Quiet.{MergeSet}
 use Rattle.clr_clearance.specs.declared.verdicts.Verdict.{Verdict}
 use Rattle.clr_clearance.specs.declared.verdicts.Verdict.TheVariants as verdict
 use Rattle.clr_clearance.specs.Plans.{merges}
-use Rattle.clr_clearance.specs.Verdicts.{IsVerdict}
-use Rattle.clr_clearance.proofs.OneAnswerLemmas.{one_start}
-use Rattle.clr_clearance.proofs.VerdictLemmas.{one_verdict}
+use Rattle.clr_ordered_clearance.specs.Verdicts.{IsVerdictInTurn}
+use Rattle.clr_ordered_clearance.proofs.VerdictLemmas.{one_verdict_in_turn}
 use Rattle.clr_cert.specs.declared.certificates.Certificate.{Certificate}
 use Rattle.clr_check.specs.Answers.{IsCheckAnswer, of_memory, of_verdict}
-use Rattle.clr_merge_sets.specs.Certificates.{entries_in, merge_set_of}
+use Rattle.clr_check.proofs.OneStart.{one_start_in_turn}
+use Rattle.clr_merge_sets.specs.Certificates.{entries_in, ordered_merge_set_of}
 use Rattle.clr_merge_sets.specs.MergeSetNames.{merge_set}
 use Rattle.clr_lines.specs.Verdicts.{verdict_text}
 use Rattle.clr_merge_sets.specs.declared.plans.Plan.{Plan}
@@ -63,9 +63,9 @@ one_planned o s all other (p, planned, is) (q, planned_other, is_other) found fo
 
 module _ (o : Office) (c : Certificate) where
   abbrev IsSaid : Verdict → Type 0
-  IsSaid v = IsCheckAnswer o (merge_set_of c) (entries_in c.entries) v
+  IsSaid v = IsCheckAnswer o (ordered_merge_set_of c) (entries_in c.entries) v
 
-  found_verdict : (v : Verdict) → IsSaid v → is_without_memory v ≡ false → IsVerdict o (merge_set_of c) (entries_in c.entries) v
+  found_verdict : (v : Verdict) → IsSaid v → is_without_memory v ≡ false → IsVerdictInTurn o (ordered_merge_set_of c) (entries_in c.entries) v
   found_verdict v (of_verdict is) found = is
   found_verdict v (of_memory none is) found = absurd (true≢false (sym (ap is_without_memory is) ∙ found))
 
@@ -74,21 +74,21 @@ module _ (o : Office) (c : Certificate) where
     of_verdicts v w one two is is_other =
         let first = found_verdict v one (sym (ap lost_of is) ∙ found) in
         let second = found_verdict w two (sym (ap lost_of is_other) ∙ found_other) in
-        is ∙ ap (verdict_outcome o c) (one_verdict o (merge_set_of c) (entries_in c.entries) v w first second) ∙ sym is_other
+        is ∙ ap (verdict_outcome o c) (one_verdict_in_turn o (ordered_merge_set_of c) (entries_in c.entries) v w first second) ∙ sym is_other
 
   pub one_check : IsOne (IsVerdictOutcome o c)
   one_check all other (v, judged, is) (w, judged_other, is_other) found found_other =
       of_verdicts all other found found_other v w judged.answer judged_other.answer is is_other
 
   -- a clear verdict and one that isn't clear
-  not_refused : (v : Verdict) → IsVerdict o (merge_set_of c) (entries_in c.entries) verdict.Clear → IsSaid v → ¬ (v ≡ verdict.Clear)
+  not_refused : (v : Verdict) → IsVerdictInTurn o (ordered_merge_set_of c) (entries_in c.entries) verdict.Clear → IsSaid v → ¬ (v ≡ verdict.Clear)
       → is_without_memory v ≡ false → ⊥
   not_refused v clear one not_clear found =
-      not_clear (one_verdict o (merge_set_of c) (entries_in c.entries) v verdict.Clear (found_verdict v one found) clear)
+      not_clear (one_verdict_in_turn o (ordered_merge_set_of c) (entries_in c.entries) v verdict.Clear (found_verdict v one found) clear)
 
   pub one_merge : (names : List Name) → IsOne (λ all. IsMergeOutcome o c names all)
   one_merge names all other (of_merges replies stopped left merged is) (of_merges others halted rest merged_other is_other) found found_other =
-      let same = one_start o (merge_set_of c) (merges names) replies others left rest stopped halted merged.start merged_other.start
+      let same = one_start_in_turn (ordered_merge_set_of c) o (merges names) replies others left rest stopped halted merged.start merged_other.start
       (sym (ap lost_of is) ∙ found) (sym (ap lost_of is_other) ∙ found_other) in
       is ∙ (λ i. merge_outcome (same.0 i) (same.2 i) (same.1 i)) ∙ sym is_other
   one_merge names all other (of_merges replies stopped left merged is) (clearances.of_verdict v refusal is_other) found found_other =

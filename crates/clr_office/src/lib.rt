@@ -13,15 +13,14 @@
 //!   (`clr_office: Answers`), and each fault is answered only where the texts have it, in its
 //!   order, want of memory aside. So: of `audit` the broken needs of LIVE; of `run` the script's
 //!   lines; of `plan` and `planunder` the lines of a plan that is `clr_plan: IsPlan`; of `check`
-//!   the line of the verdict on the certificate (`clr_clearance: IsVerdict`), with status 0 exactly
+//!   the line of the verdict on the certificate (`clr_ordered_clearance: IsVerdictInTurn`), with status 0 exactly
 //!   where it is Clear; of `merge`, where the verdict isn't Clear, its line, and else the replies,
 //!   the stop and the text of the office of a run as `perform_cleared` promises it: the merges
-//!   before the first that isn't quiet, none of a member answered Conflict or RuleBroken, and the
+//!   before the first that isn't quiet or comes before its turn, none of a member answered Conflict or RuleBroken, and the
 //!   root with the changes of the merged members over its first rows. Where a rule doesn't hold in
 //!   the office, that line in place of any of these but the audit.
-//! - What is printed says what it is worth. With the line `clear` of `check` the members are *safe*
-//!   in the office of the text (`clr_clearance: Safe`), the headline holds of them (`Headline`),
-//!   and the root with the changes of any of them breaks no need but those that it breaks; a plan that is printed as
+//! - What is printed says what it is worth. With the line `clear` of `check` all holds of the office of the text
+//!   that a clear verdict promises (`clr_ordered_clearance: IsClearedInTurn`); a plan that is printed as
 //!   cleared says that its members are safe, one that is printed as blocked that in its order a
 //!   merge is refused, and, memory aside and where the names fit, it is cleared exactly where they
 //!   are safe (`clr_office: Outcomes: IsPlanned`). So it is of each `plan` in a script, in the
