@@ -53,6 +53,7 @@ fn layers_of(alloc: Global, office: &[u8]) -> Option<Vec<GivenLayer>> {
 
 /// The texts of offices in the order of time: when the layers were copied, when the design was made, and when LIVE had moved on, with the design
 /// and without it.
+#[derive(Drop)]
 struct Times {
     copied: Vec<u8>,
     made: Vec<u8>,

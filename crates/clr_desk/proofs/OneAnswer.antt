@@ -53,7 +53,8 @@ use Rattle.clr_desk_errors.specs.Mended.{AreMended, IsMendedPrint, mended_text}
 use Rattle.clr_desk_prints.specs.Members.{members_or_children}
 use Rattle.clr_desk_prints.specs.NameHints.{with_lines}
 use Rattle.clr_desk_prints.specs.Printing.{PrintoutOrFault, printout_of}
-use Rattle.clr_desk.specs.Certificates.{IsPlanPrint, plan_print}
+use Rattle.clr_desk.specs.Certificates.{IsPlanPrint}
+use Rattle.clr_desk_orders.specs.PlanPrints.{plan_print}
 use Rattle.clr_desk.specs.Checks.{IsCheckPrint, check_print}
 use Rattle.clr_desk.specs.Choices as choices
 use Rattle.clr_desk.specs.Formats.{IsFormatPrint, IsInLines, in_lines, in_one_line}

@@ -78,6 +78,7 @@ one_within (ask.Keep root names) office second layers whole =
     one_in (IsHinted (IsChoicePrint root names) (root ∷ names))
     (λ o. one_hinted (IsChoicePrint root names) (root ∷ names) o (one_choice_print o root names)) (opened_in office)
 one_within (ask.Clashes root names) office second layers whole = absurd (false≢true whole)
+one_within (ask.InOrder asked root names) office second layers whole = absurd (false≢true whole)
 one_within (ask.Why kind) office second layers whole = absurd (false≢true whole)
 one_within (ask.WorkOrder root names) office second layers whole = absurd (false≢true whole)
 one_within (ask.Map root names) office second layers whole = absurd (false≢true whole)

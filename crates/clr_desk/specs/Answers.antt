@@ -17,6 +17,7 @@ use Rattle.clr_desk.specs.Choices.{IsChoicePrint}
 use Rattle.clr_desk.specs.Clashes.{IsClashesPrint}
 use Rattle.clr_desk.specs.Formats.{IsFormatPrint}
 use Rattle.clr_desk.specs.Geographic.{IsGeographicAnswer}
+use Rattle.clr_desk.specs.InOrder.{IsInOrderPrint}
 use Rattle.clr_desk.specs.Merges.{IsHintedMerge}
 use Rattle.clr_desk_prints.specs.NameHints.{IsHinted}
 use Rattle.clr_desk.specs.Orders.{IsOrderPrint}
@@ -41,6 +42,8 @@ IsDeskAnswerWithin ask.Errors office second layers print = IsPrintoutOfDraft (Is
 IsDeskAnswerWithin (ask.Keep root names) office second layers print = IsPrintoutIn (IsHinted (IsChoicePrint root names) (root ∷ names)) (opened_in office) print
 IsDeskAnswerWithin (ask.Clashes root names) office second layers print =
     IsPrintoutIn (IsHinted (IsClashesPrint root names) (root ∷ names)) (opened_in office) print
+IsDeskAnswerWithin (ask.InOrder asked root names) office second layers print =
+    IsPrintoutIn (IsHinted (IsInOrderPrint asked root names) (root ∷ names)) (opened_in office) print
 IsDeskAnswerWithin (ask.Why kind) office second layers print = IsWhyPrint kind office second print
 IsDeskAnswerWithin (ask.Map root names) office second layers print =
     IsPrintoutIn (IsHinted (IsMapPrint root names) (root ∷ names)) (opened_in office) print

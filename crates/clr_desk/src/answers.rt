@@ -13,6 +13,7 @@ use crate::choices::answer_keep;
 use crate::clashes::answer_clashes;
 use crate::formats::answer_format;
 use crate::geographic::answer_geographic;
+use crate::in_order::answer_in_order;
 use crate::merges::answer_merge;
 use crate::orders::answer_work_order;
 use crate::whys::answer_why;
@@ -47,6 +48,13 @@ fn answer_texts(
         DeskAsk::Keep(root, names) => answer_keep(alloc, office, root.as_str(), names.as_slice()),
         DeskAsk::Clashes(root, names) => answer_clashes(
             alloc,
+            office,
+            root.as_str(),
+            names.as_slice(),
+        ),
+        DeskAsk::InOrder(ask, root, names) => answer_in_order(
+            alloc,
+            ask,
             office,
             root.as_str(),
             names.as_slice(),

@@ -1,5 +1,5 @@
 //! The layers that are asked for, each with its text.
-ghost use Rattle.std.specs.Prelude.{◌≡◌, [], map, take, IfOk};
+ghost use Rattle.std.specs.Prelude.{◌≡◌, [], drop, map, take, IfOk};
 ghost use Rattle.std.specs.List.{zip};
 ghost use Rattle.clr_desk.specs.GivenLayers.{office_count, pair_of, pairs_in, tables_of};
 
@@ -57,6 +57,27 @@ fn with_texts(
     Ok(layers)
 }
 
+/// Takes the texts behind so many first ones, each with the table in its place. The first ones stay, and where there is no table, all texts do.
+fn take_behind(
+    alloc: Global,
+    tables: &[Words],
+    count: usize,
+    texts: &mut Vec<Vec<u8>>,
+) -> Result<Vec<GivenLayer>, AllocError>
+    ensures layers { IfOk result (λ layers. map pair_of layers.items ≡ zip tables.now (drop count (map (λ text. text.items) texts.old.items))) }
+    ensures first { take count texts.new.items ≡ take count texts.old.items }
+    ensures none { tables.now ≡ [] → texts.new ≡ texts.old }
+{
+    if tables.is_empty() {
+        return Ok(Vec::new(alloc));
+    }
+    if texts.len() < count {
+        return Ok(Vec::new(alloc));
+    }
+    let behind = texts.split_off(count)?;
+    with_texts(alloc, tables, behind)
+}
+
 /// Takes the layers that are asked for out of texts, each with its table: the text of the first layer stands right behind that of the office, or behind
 /// that of the office from which layers were copied where one is given, and the others follow in the order of their tables. The texts of offices stay,
 /// and where no layer is asked for, all texts do.
@@ -69,11 +90,5 @@ pub fn take_layers(
     ensures offices { take (office_count ask.now) texts.new.items ≡ take (office_count ask.now) texts.old.items }
     ensures none { tables_of ask.now ≡ [] → texts.new ≡ texts.old }
 {
-    let tables = tables_of(ask);
-    let count = office_count(ask);
-    if tables.is_empty() || texts.len() < count {
-        return Ok(Vec::new(alloc));
-    }
-    let behind = texts.split_off(count)?;
-    with_texts(alloc, tables, behind)
+    take_behind(alloc, tables_of(ask), office_count(ask), texts)
 }

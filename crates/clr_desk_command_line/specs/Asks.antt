@@ -1,6 +1,6 @@
 -- What a subcommand and its values ask for.
-use Rattle.std.specs.Prelude.{ℕ, ◌==◌, ◌||◌, not, Bool, true, false, List, [], ◌∷◌, ◌++◌, map, codes, Option, Some, None, if◌then◌else◌, is_some, option_and_then}
-use Rattle.std.specs.Prelude.{option_map, unwrap_or, unsigned_abs}
+use Rattle.std.specs.Prelude.{ℕ, ◌==◌, ◌||◌, not, Bool, true, false, List, [], ◌∷◌, ◌++◌, map, codes, Option, Some, None, if◌then◌else◌, is_some}
+use Rattle.std.specs.Prelude.{option_and_then, option_map, unwrap_or, unsigned_abs}
 use Rattle.std.specs.List.{after_first, before_first, list_all, list_any}
 use Rattle.std.specs.Option.{option_map_or}
 use Rattle.std.specs.Str.{bytes_eq}
@@ -8,15 +8,16 @@ use Rattle.clap.specs.Words.{Row, Text, all_of, first_of}
 use Rattle.clr_rows.specs.Names.{live_name}
 use Rattle.clr_rows.specs.Schemas.{is_key}
 use Rattle.clr_records.specs.Decimals.{number_of}
-use Rattle.clr_command_line.specs.Asks.{database_and, database_of, given_names, given_value}
-use Rattle.clr_desk_command_line.specs.declared.asks.Asked.{Asked}
-use Rattle.clr_desk_command_line.specs.declared.asks.Asked.TheVariants.{OfTexts, Reach}
+use Rattle.clr_command_line.specs.Asks.{database_and, database_of, given_names, given_value, is_set}
 use Rattle.clr_desk_command_line.specs.declared.asks.DeskAsk.{DeskAsk}
-use Rattle.clr_desk_command_line.specs.declared.asks.DeskAsk.TheVariants.{Certificate, Check, Merge, Format, Accept, Mended, Errors, Keep, Clashes, Why, WorkOrder}
-use Rattle.clr_desk_command_line.specs.declared.asks.DeskAsk.TheVariants.{Map, Report, Geographic}
+use Rattle.clr_desk_command_line.specs.declared.asks.DeskAsk.TheVariants.{Certificate, Check, Merge, Format, Accept, Mended, Errors, Keep, Clashes, Why}
+use Rattle.clr_desk_command_line.specs.declared.asks.DeskAsk.TheVariants.{Geographic, InOrder, Map, Report, WorkOrder}
 use Rattle.clr_desk_command_line.specs.declared.asks.DesignAsk.{DesignAsk}
 use Rattle.clr_desk_command_line.specs.declared.asks.GeographicAsk.{GeographicAsk}
-use Rattle.clr_desk_command_line.specs.declared.asks.GeographicAsk.TheVariants.{Features, Layer, Office, AcceptedOffice, ErrorFeatures, Design, DesignSince, DesignScript}
+use Rattle.clr_desk_command_line.specs.declared.asks.GeographicAsk.TheVariants.{Features, Layer, Office, AcceptedOffice, ErrorFeatures}
+use Rattle.clr_desk_command_line.specs.declared.asks.GeographicAsk.TheVariants.{Design, DesignSince, DesignScript}
+use Rattle.clr_desk_command_line.specs.declared.asks.OrderAsk.{OrderAsk}
+use Rattle.clr_desk_command_line.specs.declared.asks.OrderAsk.TheVariants as order
 use Rattle.clr_desk_command_line.specs.declared.asks.TextKind.TheVariants as kind
 
 -- the value that is given, or another
@@ -26,10 +27,6 @@ given_or otherwise id rows = unwrap_or (first_of id rows) otherwise
 -- the root that is given, or LIVE
 abbrev pub given_root : List Row → Text
 given_root rows = given_or live_name (codes "under") rows
-
--- an option without a value is given
-abbrev pub is_set : Text → List Row → Bool
-is_set name rows = option_map_or (λ value. bytes_eq value (codes "true")) (first_of name rows) false
 
 -- what `why` asks for, and its files: of the script if one is given, else of the certificate if one is given, else of the office
 abbrev pub why_of : List Row → DeskAsk × List Text
@@ -43,19 +40,35 @@ abbrev pub errors_of : List Row → DeskAsk × List Text
 errors_of rows =
     if is_set (codes "geojson") rows then (Geographic (ErrorFeatures (first_of (codes "crs") rows)), database_of rows) else (Errors, database_of rows)
 
+-- what `certificate` asks for, in the order of the names or in every order
+abbrev pub certificate_ask : (is_in_order : Bool) → Text → List Text → DeskAsk
+certificate_ask true root names = InOrder order.Certificate root names
+certificate_ask false root names = Certificate root names
+
+-- what `keep` asks for, in the order of the names or in every order
+abbrev pub keep_ask : (is_in_order : Bool) → Text → List Text → DeskAsk
+keep_ask true root names = InOrder order.Keep root names
+keep_ask false root names = Keep root names
+
+-- what `order` asks for: an order, or its certificate
+abbrev pub order_ask : (is_certificate : Bool) → OrderAsk
+order_ask true = order.OrderCertificate
+order_ask false = order.Order
+
 -- what is asked of members of a root
-unfoldable pub members_ask : Text → Text → List Text → Option DeskAsk
-members_ask name root names =
-    if bytes_eq name (codes "certificate") then Some (Certificate root names)
-    else (if bytes_eq name (codes "keep") then Some (Keep root names)
+unfoldable pub members_ask : Text → List Row → Text → List Text → Option DeskAsk
+members_ask name rows root names =
+    if bytes_eq name (codes "certificate") then Some (certificate_ask (is_set (codes "in-order") rows) root names)
+    else (if bytes_eq name (codes "keep") then Some (keep_ask (is_set (codes "in-order") rows) root names)
     else (if bytes_eq name (codes "clashes") then Some (Clashes root names)
+    else (if bytes_eq name (codes "order") then Some (InOrder (order_ask (is_set (codes "certificate") rows)) root names)
     else (if bytes_eq name (codes "words") then Some (WorkOrder root names)
     else (if bytes_eq name (codes "map") then Some (Map root names)
     else (if bytes_eq name (codes "report") then Some (Report root names)
-    else None)))))
+    else None))))))
 
 abbrev pub members_asked : Text → List Row → Option (DeskAsk × List Text)
-members_asked name rows = option_map (λ asked. (asked, database_of rows)) (members_ask name (given_root rows) (given_names rows))
+members_asked name rows = option_map (λ asked. (asked, database_of rows)) (members_ask name rows (given_root rows) (given_names rows))
 
 abbrev pub merge_ask : List Row → DeskAsk × List Text
 merge_ask rows = (Merge (given_names rows), database_and (codes "CERT") rows)
@@ -190,28 +203,9 @@ ask_by_name name rows =
     else (if bytes_eq name (codes "why") then Some (why_of rows)
     else or_others_asked (asked_of_office name) name rows)))
 
--- what `reach` asks for, and its file
-abbrev pub reach_of : List Row → Asked × List Text
-reach_of rows = (
-  Reach (record {
-    table = given_or [] (codes "TABLE") rows;
-    names = given_names rows;
-    is_for_groups = is_set (codes "groups") rows;
-    is_rounded = is_set (codes "round") rows;
-  }),
-  given_or [] (codes "CUT") rows ∷ [],
-)
-
-abbrev pub of_texts : Option (DeskAsk × List Text) → Option (Asked × List Text)
-of_texts asked = option_map (λ p. (OfTexts p.0, p.1)) asked
-
--- what a subcommand asks for, of texts or of a stream, and its files
-unfoldable pub asked_by_name : Text → List Row → Option (Asked × List Text)
-asked_by_name name rows = if bytes_eq name (codes "reach") then Some (reach_of rows) else of_texts (ask_by_name name rows)
-
 -- what the subcommand that words name asks for, if they name one
-abbrev pub ask_of : Option (Text × List Row) → Option (Asked × List Text)
-ask_of found = option_and_then (λ p. asked_by_name p.0 p.1) found
+abbrev pub ask_of : Option (Text × List Row) → Option (DeskAsk × List Text)
+ask_of found = option_and_then (λ p. ask_by_name p.0 p.1) found
 
 -- a subcommand reads layers
 abbrev pub reads_layers : Text → Bool
@@ -219,4 +213,4 @@ reads_layers name = bytes_eq name (codes "office") || bytes_eq name (codes "desi
 
 -- where a subcommand reads layers, each layer, the first key and the choice can be read, and no script is asked for where there is none
 abbrev pub is_readable : Option (Text × List Row) → Bool
-is_readable found = option_map_or (λ p. not (reads_layers p.0) || is_some (asked_by_name p.0 p.1)) found true
+is_readable found = option_map_or (λ p. not (reads_layers p.0) || is_some (ask_by_name p.0 p.1)) found true

@@ -20,17 +20,24 @@ root = option (codes "under")
 abbrev pub over_members : Text → App
 over_members name = with_rule (with_rule (database_command name) root) name_arguments
 
+-- such a subcommand that may be asked for the order of the names
+abbrev pub over_members_in_order : Text → App
+over_members_in_order name = with_rule (over_members name) (flag (codes "in-order"))
+
 abbrev pub certificate : App
-certificate = over_members (codes "certificate")
+certificate = over_members_in_order (codes "certificate")
 
 abbrev pub format : App
 format = database_command (codes "format")
 
 abbrev pub keep : App
-keep = over_members (codes "keep")
+keep = over_members_in_order (codes "keep")
 
 abbrev pub clashes : App
 clashes = over_members (codes "clashes")
+
+abbrev pub order : App
+order = with_rule (over_members (codes "order")) (flag (codes "certificate"))
 
 abbrev pub why : App
 why = with_rule (with_rule (database_command (codes "why")) (option (codes "script"))) (option (codes "certificate"))
@@ -77,10 +84,6 @@ accept = database_command (codes "accept")
 abbrev pub mended : App
 mended = database_command (codes "mended")
 
-abbrev pub reach : App
-reach = with_rule (with_rule (with_rule (with_rule (with_rule (new_app (codes "reach")) (value (codes "CUT"))) (value (codes "TABLE"))) name_arguments)
-    (flag (codes "groups"))) round
-
 -- the program with the commands that print a certificate or judge one
 abbrev pub certifying : App
 certifying = with_subcommand (with_subcommand (demanding (codes "clr_desk")) certificate.top) check.top
@@ -93,9 +96,13 @@ printing = with_subcommand (with_subcommand certifying merge.top) format.top
 abbrev pub choosing : App
 choosing = with_subcommand (with_subcommand printing keep.top) clashes.top
 
+-- with the command that finds an order
+abbrev pub ordering : App
+ordering = with_subcommand choosing order.top
+
 -- with the commands that explain
 abbrev pub explaining : App
-explaining = with_subcommand (with_subcommand choosing why.top) words.top
+explaining = with_subcommand (with_subcommand ordering why.top) words.top
 
 -- with the commands that draw
 abbrev pub drawing : App
@@ -109,10 +116,6 @@ exporting = with_subcommand (with_subcommand drawing geojson.top) layer.top
 abbrev pub importing : App
 importing = with_subcommand (with_subcommand exporting office.top) design.top
 
--- with the commands about old errors
-abbrev pub mending : App
-mending = with_subcommand (with_subcommand (with_subcommand importing errors.top) accept.top) mended.top
-
--- the whole program, with the command about cuts
+-- the whole program, with the commands about old errors
 abbrev pub program : App
-program = with_subcommand mending reach.top
+program = with_subcommand (with_subcommand (with_subcommand importing errors.top) accept.top) mended.top

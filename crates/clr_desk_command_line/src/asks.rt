@@ -47,6 +47,19 @@ pub enum GeographicAsk {
     DesignScript(DesignAsk),
 }
 
+/// What is asked of orders in which members can be merged.
+#[derive(Clone, Copy, Debug, Drop)]
+pub enum OrderAsk {
+    /// An order that works, and which member goes before which in it.
+    Order,
+    /// The certificate of such an order.
+    OrderCertificate,
+    /// The certificate of the members in the order of their names.
+    Certificate,
+    /// Which members can be merged in the order of their names, where each is taken that can be merged next behind those taken.
+    Keep,
+}
+
 /// What is asked of an office text, and of further texts where there are some.
 #[derive(Debug, Drop)]
 pub enum DeskAsk {
@@ -71,6 +84,8 @@ pub enum DeskAsk {
     /// The smallest sets of these children of a root that can't be merged in every order: the root, and
     /// the children, or none for all.
     Clashes(Words, Names),
+    /// What is asked of the orders of these children of a root: the root, and the children, or none for all.
+    InOrder(OrderAsk, Words, Names),
     /// Where the fault of a text of this kind is; the second text is the script or the certificate.
     Why(TextKind),
     /// The plan of these children of a root as a work order: the root, and the children, or none for all.
@@ -81,24 +96,4 @@ pub enum DeskAsk {
     Report(Words, Names),
     /// What is asked in the texts of geographic information systems.
     Geographic(GeographicAsk),
-}
-
-/// A table that is held against a cut, as it is read from a stream.
-#[derive(Debug, Drop)]
-pub struct ReachAsk {
-    pub table: Words,
-    /// The designs of the cut, or none for all.
-    pub names: Names,
-    /// Whether the cut is to have what ties designs to one another, too.
-    pub is_for_groups: bool,
-    /// Whether coordinates finer than a millimetre are rounded.
-    pub is_rounded: bool,
-}
-
-/// What is asked: of texts alone, or of an office text and a stream.
-#[derive(Debug, Drop)]
-pub enum Asked {
-    OfTexts(DeskAsk),
-    /// Which rows of a table, that is read from a stream, a cut lacks; the office text is the cut.
-    Reach(ReachAsk),
 }

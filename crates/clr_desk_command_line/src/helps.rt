@@ -11,7 +11,8 @@ or files can't be read, and 3 for want of memory.";
 pub(crate) const CERTIFICATE_PRINTS: &str =
     "It prints the certificate and nothing else, ready for `clr_desk check`, with status 0.
 Where the designs can't be merged in every order it prints nothing, and on standard error the lines of
-the plan, with status 1. Without names it takes all children of the root.
+the plan, with status 1. With --in-order they need only be merged in the order of their names, and the
+certificate says which of them go before which. Without names it takes all children of the root.
 
 Example:
   clr_desk certificate office.json Renewal Extension > certificate.csv";
@@ -44,8 +45,8 @@ Example:
 pub(crate) const KEEP_PRINTS: &str =
     "It goes through the names in their order, and takes each design that is cleared with those taken
 before it. It prints the certificate of those taken, and on standard error which they are, and for
-each design that is left the lines of its plan. Without names it goes through all children of the
-root in order of creation. The status is 0 where none is left, and 1 where one is.
+each design that is left the lines of its plan. With --in-order it takes each design that can be merged
+next behind those taken. Without names it goes through all children of the root in order of creation. The status is 0 where none is left, and 1 where one is.
 
 Example:
   clr_desk keep office.json Renewal Extension Bypass > certificate.csv";
@@ -57,6 +58,16 @@ and then the designs that are in none. Without names it looks at all children of
 
 Example:
   clr_desk clashes office.json Renewal Extension Bypass";
+
+pub(crate) const ORDER_PRINTS: &str =
+    "It prints an order in which the designs can be merged one after another, and a line for each design that has
+to go before another in it. With --certificate it prints the certificate of that order, ready for `clr_desk check`, and
+the lines on standard error. Where it finds no order it prints the designs that stand in the way, and the cause where it
+is one need. Without names it takes all children of the root. The status is 0 where an order is found, and 1 where none
+is.
+
+Example:
+  clr_desk order office.json Renewal Extension Hydrants";
 
 pub(crate) const WHY_PRINTS: &str =
     "It prints the fault of the office text, or of the script or certificate that is given, as `clr_office`
@@ -155,15 +166,3 @@ and so does whatever else prints the office. The status is 0.
 
 Example:
   clr_desk mended office.json";
-
-pub(crate) const REACH_PRINTS: &str =
-    "It reads the rows of the table as CSV from standard input, as `clr_desk layer` prints them, and prints those that the
-cut lacks: rows that a design changes, and rows near what it brings or takes away. The cut is an office text with the
-designs and a part of the rows; rules may be broken in it. One row is read at a time, so the table may have any size.
-On standard error stand the rows that the cut has otherwise, and how many rows were read, printed, otherwise and had.
-Where a pass over each table prints nothing and all rows of the cut were had, a plan over the cut is the plan over the
-whole. Without names it takes all designs. The status is 0 where no row is printed and none is otherwise, 1 where one
-is, and 2 where a row can't be read.
-
-Example:
-  clr_desk reach cut.json main < main.csv > more.csv";

@@ -1,5 +1,5 @@
 -- What is printed of the office of a text that was opened.
-use Rattle.std.proofs.Common.{◌≡◌, List, ℕ, None, Result, Ok, Err}
+use Rattle.std.proofs.Common.{◌≡◌, List, ℕ, None, Result, Ok, Err, ap}
 use Rattle.clr_steps.specs.Offices.{Office}
 use Rattle.clr_engine.specs.Drafts.{unheld_in}
 use Rattle.clr_readings.specs.Readings.{◌>>=◌}
@@ -11,14 +11,22 @@ use Rattle.clr_process_io.specs.declared.faults.RunFault.TheVariants as run_faul
 use Rattle.clr_desk_prints.specs.declared.prints.Print.{Print}
 use Rattle.clr_desk_prints.specs.Printing.{IsMadePrintout, IsPrintoutIn, PrintoutOrFault, of_office}
 
+-- a draft of the text, with the first need that it breaks and that isn't known
+abbrev opened_of : List ℕ → Office → Opened
+opened_of text p = Ok (p, unheld_in p (known_in text))
+
+draft_within : Opened → Result Office TextFault
+draft_within (Ok q) = Ok (q.0)
+draft_within (Err fault) = Err fault
+
 -- an opened office is the draft of the text
 pub draft_of_opened : (text : List ℕ) (o : Office) → opened_in text ≡ Ok (o, None) → draft_in text ≡ Ok o
-unfolding opened_in
+unfolding opened_in draft_within
 draft_of_opened text o is = by (draft_in text) is
   where
-    by : (read : Result Office TextFault) → (read >>= λ p. Ok (p, unheld_in p (known_in text))) ≡ Ok (o, None) → read ≡ Ok o
-    by (Ok p) e = cc
-    by (Err fault) e = absurd (cc)
+    by : (read : Result Office TextFault) → (read >>= opened_of text) ≡ Ok (o, None) → read ≡ Ok o
+    by (Ok p) e = ap draft_within e
+    by (Err fault) e = ap draft_within e
 
 -- what is made of an opened office is what is to be made of its text
 pub in_office : (P : Office → PrintoutOrFault → Type 0) (given : Opened) (o : Office) (result : Result Print RunFault) → given ≡ Ok (o, None)

@@ -12,7 +12,7 @@ none_past (x ∷ xs) zero e = absurd (none-some x (sym e))
 none_past (x ∷ xs) (suc n) e = omega (arith, none_past xs n e)
 
 -- the element at a number
-there : {A : Type 0} (xs : List A) (n : ℕ) (x : A) → n < length xs → x ≡ get_or xs n x → slice_get xs n ≡ Some x
+pub there : {A : Type 0} (xs : List A) (n : ℕ) (x : A) → n < length xs → x ≡ get_or xs n x → slice_get xs n ≡ Some x
 there [] n x lt is = absurd (omega (arith, lt))
 there (y ∷ xs) zero x lt is = ap Some (sym is)
 there (y ∷ xs) (suc n) x lt is = there xs n x (omega (arith, lt)) is
@@ -21,7 +21,7 @@ module _ (tables others : List TableDef) where
   pub one_more_same : (i : ℕ) (table : TableDef) → i < length tables → table ≡ get_or tables i table → slice_get others i ≡ Some table
       → take i tables ≡ take i others → take (i + 1) tables ≡ take (i + 1) others
   one_more_same i table lt is found same =
-      take_more_same tables others i table lt (slice_get_within others i table found) same (sym is ∙ get_or_from_slice_get others i table table found)
+      take_more_same tables others i table lt (slice_get_within others i table found) same (sym is ∙ sym (get_or_from_slice_get others i table table found))
 
   pub all_same : take (length tables) tables ≡ take (length tables) others → slice_get others (length tables) ≡ None → tables ≡ others
   all_same same none =

@@ -1,5 +1,5 @@
 -- The draft of an office text with one more design, which took over a copied content.
-use Rattle.std.proofs.Common.{◌≡◌, ◌∷◌, ◌++◌, [], ℕ, zero, suc, List, Ok, map, length, ap, arith, refl, subst, sym, ◌∙◌}
+use Rattle.std.proofs.Common.{◌≡◌, ◌∷◌, ◌++◌, [], ℕ, zero, suc, List, Ok, false, map, length, ap, arith, refl, subst, sym, ◌∙◌}
 use Rattle.std.specs.Prelude.{◌<◌}
 use Rattle.std.proofs.lemmas.List.{map-append}
 use Rattle.clr_rows.specs.Contents.{Content}
@@ -10,7 +10,8 @@ use Rattle.clr_rules.specs.declared.needs.Broken.{Broken}
 use Rattle.clr_rules.specs.declared.rules.Rule.{Rule}
 use Rattle.clr_workspaces.specs.Marks.{Name}
 use Rattle.clr_workspaces.specs.Workspaces.{Workspace, live_workspace, workspace_at}
-use Rattle.clr_deltas.specs.Deltas.{Delta, above_in, content_by_name, grow, leaf, top, whole_of, wholes, workspaces_over}
+use Rattle.clr_deltas.specs.Deltas.{Delta, above_in, content_by_name, grow, leaf, top, whole_mark, whole_of, wholes, workspaces_over}
+use Rattle.clr_deltas.specs.Differences.{seen_over}
 use Rattle.clr_deltas.specs.NamedDeltas.{stored_delta}
 use Rattle.clr_deltas.specs.declared.stored_parts.StoredPart.{StoredPart}
 use Rattle.clr_deltas.proofs.Places.{wholes-push}
@@ -23,6 +24,15 @@ use Rattle.clr_designs.specs.Designs.{design_of, with_design_over}
 use Rattle.clr_office_reading.specs.Offices.{OfficeText, office_in}
 use Rattle.clr_office_texts.specs.Drafts.{draft_in}
 use Rattle.clr_desk_layers.proofs.RelaidLemmas.{draft_read}
+
+-- a design under LIVE, told of what is stored of it
+pub whole_design : (live copied content : Content) (name : Name) (l : Delta) → l.name ≡ name → l.parent ≡ live_name → seen_over live l.base ≡ copied
+    → seen_over copied l.current ≡ content → l.marks ≡ [] → l.kept ≡ false → whole_of live l ≡ design_of name copied content
+unfolding whole_of
+whole_design live copied content name l named parent base current marks kept =
+    let seen = ap (λ (m : Content). seen_over m l.current) base ∙ current in
+    let all = ap (map (whole_mark (seen_over live l.base))) marks in
+    λ i. record { name = named i; parent = parent i; base = base i; current = seen i; marks = all i; kept = kept i }
 
 -- the content under a delta of LIVE
 above_live : (live : Content) (ws : List Workspace) (l : Delta) → l.parent ≡ live_name → above_in (live_workspace live ∷ ws) l ≡ live

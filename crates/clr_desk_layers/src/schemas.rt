@@ -5,6 +5,13 @@ ghost use Rattle.clr_desk_layers.specs.Since.{IsFirstOther};
 
 use clr_rows::{Kind, TableDef, Words};
 
+/// Returns whether two columns have the same name and the same kind.
+fn is_same_column(one: &(Words, Kind), other: &(Words, Kind)) -> bool
+    ensures { IsTrue result ↔ (one.now ≡ other.now) }
+{
+    one.0.same(&other.0) && one.1 == other.1
+}
+
 /// Returns whether columns have the same names and kinds in the same order.
 fn are_same_columns(one: &[(Words, Kind)], other: &[(Words, Kind)]) -> bool
     ensures { IsTrue result ↔ (one.now ≡ other.now) }
@@ -13,7 +20,7 @@ fn are_same_columns(one: &[(Words, Kind)], other: &[(Words, Kind)]) -> bool
         return false;
     }
     for i in 0..one.len() {
-        if !one[i].0.same(&other[i].0) || one[i].1 != other[i].1 {
+        if !is_same_column(&one[i], &other[i]) {
             return false;
         }
     }

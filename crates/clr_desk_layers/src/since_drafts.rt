@@ -45,16 +45,16 @@ fn stored_design(
 {
     let base = differences_between(alloc, live, copied)?;
     let current = differences_between(alloc, copied, content)?;
-    Ok(StoredPart {
-        name: Words::from_str(alloc, name)?,
-        delta: Delta {
-            parent: Words::from_str(alloc, LIVE)?,
-            base,
-            current,
-            marks: Vec::new(alloc),
-            kept: false,
-        },
-    })
+    let parent = Words::from_str(alloc, LIVE)?;
+    let named = Words::from_str(alloc, name)?;
+    let delta = Delta {
+        parent,
+        base,
+        current,
+        marks: Vec::new(alloc),
+        kept: false,
+    };
+    Ok(StoredPart { name: named, delta })
 }
 
 /// Returns the draft of an office text with one more design behind the workspaces, which took over a copied content, and has another. The text is read
@@ -80,7 +80,8 @@ pub(crate) fn draft_with_design(
         live,
         mut workspaces,
     } = parts;
-    workspaces.push(stored_design(alloc, &live, name, copied, content)?)?;
+    let part = stored_design(alloc, &live, name, copied, content)?;
+    workspaces.push(part)?;
     let Ok(tree) = Tree::of_deltas(alloc, live, workspaces) else {
         return Err(AllocError);
     };

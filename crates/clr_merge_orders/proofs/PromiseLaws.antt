@@ -31,7 +31,7 @@ use Rattle.clr_clearance.proofs.StaticLemmas.{numbered_is}
 use Rattle.clr_ordered_needs.specs.Positions.{goes_before_if_any}
 use Rattle.clr_ordered_needs.specs.States.{IsBrokenWith, IsOpen}
 use Rattle.clr_ordered_needs.specs.Turns.{ListsAll, is_earlier}
-use Rattle.clr_ordered_needs.proofs.Sequences.{first_among, later_there}
+use Rattle.clr_ordered_needs.proofs.Sequences.{later_there}
 use Rattle.clr_ordered_needs.proofs.StateLaws.{states_are_told}
 use Rattle.clr_ordered_clearance.specs.MergeSets.{CoversInTurn, goes_before, position_goes_before}
 use Rattle.clr_ordered_clearance.proofs.HeadlineLemmas.{headline_in_turn}
@@ -45,6 +45,16 @@ use Rattle.clr_merge_orders.specs.declared.merge_orders.MergeOrder.{MergeOrder}
 use Rattle.clr_merge_orders.specs.declared.merge_orders.MergeOrder.TheVariants as merge_order
 use Rattle.clr_merge_orders.specs.MergeOrders.{IsClearedBy, IsEachOrderRefused, IsMergeOrder, IsOrderOf, Promises, PromisesOrder, name_at, ordered_by}
 use Rattle.clr_merge_orders.proofs.MoreBefore.{covered_by_more}
+
+-- who is among the first members of a list is in it
+first_among : (same : ℕ → ℕ → Bool) (xs : List ℕ) (k : ℕ) (x : ℕ) → settings.has same (take k xs) x ≡ true → settings.has same xs x ≡ true
+first_among same [] zero x h = absurd (false≢true h)
+first_among same [] (suc k) x h = absurd (false≢true h)
+first_among same (y ∷ ys) zero x h = absurd (false≢true h)
+first_among same (y ∷ ys) (suc k) x h = elim (or_cases (same y x) (settings.has same (take k ys) x) h) [
+  | inl here ↦ or_left (same y x) (settings.has same ys x) here
+  | inr behind ↦ or_right (same y x) (settings.has same ys x) (first_among same ys k x behind)
+]
 
 -- an order of which the first merges are refused is refused
 refused_more : (o : Office) (first others : List Name) → is_order_refused o first ≡ true → is_order_refused o (first ++ others) ≡ true
@@ -91,7 +101,7 @@ module _ (o : Office) (s : MergeSet) where
         → IsBrokenWith c n a b (take k order) → is_order_refused o (members_at s order) ≡ true
     refused_at order k n a b lists is_open broken =
         let first = take k order in
-        let breaking = (states_are_told c).broken first n a b (λ x y q hx hy. apart q x y) do_change (λ x h. sym (lists.members x) ∙ first_among c order k x h)
+        let breaking = (states_are_told c).broken first n a b (λ x y q hx hy. apart q x y) do_change (λ x h. sym (lists.members x) ∙ first_among c.same order k x h)
         is_open broken in
         let refused = breaking_is_refused o s mergeable (members_at s first) (names_part o s first)
         (λ good. breaking (subst (λ (view : View). BreaksNoMore o.book (row_at (root_content o s)) view) (sym (rows_are first)) good)) in
@@ -116,7 +126,7 @@ module _ (o : Office) (s : MergeSet) where
         let first = named x (earlier_there order x y earlier) in
         let second = named y (later_there c order x y earlier) in
         let (p, there, is_x, is_y) = pair_by pairs x y goes in
-        let pair = (name_at s p.earlier, name_at s p.later) in
+        let pair : Name × Name = (name_at s p.earlier, name_at s p.later) in
         (λ i. goes_before_if_any (goes_before (ordered_by s pairs)) (first i) (second i))
         ∙ any_by (λ q. same_name q.0 (name_at s x) && same_name q.1 (name_at s y)) pair (map (λ q. (name_at s q.earlier, name_at s q.later)) pairs)
         (mapped_among (λ q. (name_at s q.earlier, name_at s q.later)) p pairs there)

@@ -62,11 +62,12 @@ earlier_by_place (z ∷ zs) once zero (suc late) x y e f less =
     let one : z ≡ x = cc in
     ap (λ b. cond b (settings.has (λ m n. m == n) zs y) (is_earlier (λ m n. m == n) zs x y)) (ap (λ w. w == x) one ∙ itself x)
     ∙ has_same zs y ∙ has_at zs late y f
-earlier_by_place (z ∷ zs) once (suc early) (suc late) x y e f less = by (z == x) refl
+earlier_by_place (z ∷ zs) once (suc early) (suc late) x y e f less =
+    by (z == x) (earlier_by_place zs (once_behind z zs once) early late x y e f (omega (arith, less)))
   where
-    by : (b : Bool) → (z == x) ≡ b → cond b (settings.has (λ m n. m == n) zs y) (is_earlier (λ m n. m == n) zs x y) ≡ true
-    by true same = has_same zs y ∙ has_at zs late y f
-    by false other = earlier_by_place zs (once_behind z zs once) early late x y e f (omega (arith, less))
+    by : (b : Bool) → is_earlier (λ m n. m == n) zs x y ≡ true → cond b (settings.has (λ m n. m == n) zs y) (is_earlier (λ m n. m == n) zs x y) ≡ true
+    by true more = has_same zs y ∙ has_at zs late y f
+    by false more = more
 
 module _ (rules : List Rule) (root : Content) (sets : List Changes) where
   abbrev c : Setting ℕ

@@ -29,7 +29,7 @@ use Rattle.clr_scene_orders.proofs.Sides.{Opens, blocks_of, helps_of, is_open, n
 
 -- who stands at a place of a list is in it
 pub contained_of : {X : Type 0} (xs : List X) (at : ℕ) (x : X) → slice_get xs at ≡ Some x → Contains xs x
-contained_of xs at x e = contained x xs (there xs at e)
+contained_of {X = X} xs at x e = contained x xs (there xs at e)
   where
     there : (ys : List X) (k : ℕ) → slice_get ys k ≡ Some x → Among x ys
     there [] k e = absurd (cc)
@@ -128,12 +128,13 @@ module _ (c : Setting ℕ) (found : OpenNeeds) (are : AreOpenNeeds c found) (pai
     where
       left_out : (ss : List OpenNeed) → are_served pairs ss ≡ false → (at : ℕ) × (s : OpenNeed) × (slice_get ss at ≡ Some s) × (is_served pairs s ≡ false)
       left_out [] e = absurd (true≢false e)
-      left_out (s ∷ ss) e = by (is_served pairs s) refl e
+      left_out (s ∷ ss) e = by (is_served pairs s) refl e (left_out ss)
         where
           by : (t : Bool) → is_served pairs s ≡ t → t && are_served pairs ss ≡ false
+              → (are_served pairs ss ≡ false → (at : ℕ) × (r : OpenNeed) × (slice_get ss at ≡ Some r) × (is_served pairs r ≡ false))
               → (at : ℕ) × (r : OpenNeed) × (slice_get (s ∷ ss) at ≡ Some r) × (is_served pairs r ≡ false)
-          by false f g = (zero, s, refl, f)
-          by true f g = let (at, r, h, k) = left_out ss g in (suc at, r, h, k)
+          by false f g more = (zero, s, refl, f)
+          by true f g more = let (at, r, h, k) = more g in (suc at, r, h, k)
 
 -- entries for the needs that are covered -----------------------------------------------------------------------------
 
@@ -160,9 +161,9 @@ module _ (before : Order ℕ) (c : Setting ℕ) (each : EachHasCover before c) w
               let once = subjects_once c n a x b y p q in
               inl (subst (λ l. SubjectsNeverMeet before l b) once.0 (subst (λ k. SubjectsNeverMeet before x k) once.1 never))
           here n (inr h) a b p = have n h a b p
-      more x y possible es have (inr (v, w, cover)) = ((m, (v, w)) ∷ es, here)
+      more x y possible es have (inr (v, w, cover)) = ((m, v, w) ∷ es, here)
         where
-          here : HaveEntries (m ∷ ms) ((m, (v, w)) ∷ es)
+          here : HaveEntries (m ∷ ms) ((m, v, w) ∷ es)
           here n (inl e) a b p =
               let q = subst (λ k. IsPossible c k x y) e possible in
               let once = subjects_once c n a x b y p q in

@@ -15,6 +15,7 @@ use std::io::{ErrorKind, Read};
 const MOST_RECORDS: usize = 100;
 
 /// Bytes that are given in pieces of a size, and then an error or the end.
+#[derive(Drop)]
 struct Pieces<'a> {
     rest: &'a [u8],
     size: usize,
@@ -43,7 +44,7 @@ fn fault_words(alloc: Global, fault: StreamFault) -> Option<String> {
 }
 
 /// Returns the text of the rows that are read, or the fault.
-fn text_of<R: Read>(alloc: Global, name: &str, rounded: bool, source: R) -> Option<String> {
+fn text_of<R: Read + Drop>(alloc: Global, name: &str, rounded: bool, source: R) -> Option<String> {
     let schema = schema_of(alloc, TABLES)?;
     let table = schema.table(name).unwrap_or(9);
     let mut stream = match LayerStream::open(alloc, &schema, table, rounded, source) {

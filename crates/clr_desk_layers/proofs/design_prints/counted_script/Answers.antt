@@ -5,8 +5,9 @@ use Rattle.clr_desk_layers.specs.Designs.{IsPrintOfScript}
 use Rattle.clr_desk_layers.proofs.CountedLemmas.{counts_are_printed}
 use Rattle.clr_desk_layers.proofs.design_prints.counted_script.Goals as goal
 
-pub script_unless_removing-requires : goal.script_unless_removing-requires
-script_unless_removing-requires c = tt
+pub script_unless_removing-requires-clause-edits : goal.script_unless_removing-requires-clause-edits
+script_unless_removing-requires-clause-edits c =
+    c.as_slice-edits.ensures ∙ c.in_ok-edits.ensures.edits ∙ ap (λ (m : Content). edits_between m c.args.content.now) c.live.ensures.value
 
 pub returns : goal.returns
 returns c =

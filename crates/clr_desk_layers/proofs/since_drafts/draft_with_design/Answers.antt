@@ -13,8 +13,8 @@ of_tree-requires c =
     let copied = c.args.copied.now in
     let content = c.args.content.now in
     let made = with_part c.args.text.now o is parts.schema parts.book parts.known parts.live parts.workspaces.items c.in-Ok.ensures.value
-    c.push.new.self.items c.in_ok-stored_design.part name copied content c.in-Ok-of_deltas.tree.list c.in-Ok-of_deltas.ensures.made
-    c.in_ok-push.ensures.items c.in_ok-stored_design.ensures.under c.in_ok-stored_design.ensures.whole in
+    c.push.new.self.items c.in_ok-part.part name copied content c.in-Ok-of_deltas.tree.list c.in-Ok-of_deltas.ensures.made
+    c.in_ok-push.ensures.items c.in_ok-part.ensures.under c.in_ok-part.ensures.whole in
     subst IsFitting (sym made) (since_fits o name copied content fit copied_fits fits)
 
 pub returns : goal.returns
@@ -24,6 +24,6 @@ returns c o is =
     let copied = c.args.copied.now in
     let content = c.args.content.now in
     let made = with_part c.args.text.now o is parts.schema parts.book parts.known parts.live parts.workspaces.items c.in-Ok.ensures.value
-    c.push.new.self.items c.in_ok-stored_design.part name copied content c.in-Ok-of_deltas.tree.list c.in-Ok-of_deltas.ensures.made
-    c.in_ok-push.ensures.items c.in_ok-stored_design.ensures.under c.in_ok-stored_design.ensures.whole in
+    c.push.new.self.items c.in_ok-part.part name copied content c.in-Ok-of_deltas.tree.list c.in-Ok-of_deltas.ensures.made
+    c.in_ok-push.ensures.items c.in_ok-part.ensures.under c.in_ok-part.ensures.whole in
     c.of_tree.ensures ∙ made

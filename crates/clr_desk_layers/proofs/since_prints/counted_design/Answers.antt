@@ -5,8 +5,8 @@ use Rattle.clr_desk_layers.specs.Designs.{IsPrintOfDesign}
 use Rattle.clr_desk_layers.proofs.CountedLemmas.{counts_are_printed}
 use Rattle.clr_desk_layers.proofs.since_prints.counted_design.Goals as goal
 
-pub design_unless_removing-requires : goal.design_unless_removing-requires
-design_unless_removing-requires c = tt
+pub design_unless_removing-requires-clause-edits : goal.design_unless_removing-requires-clause-edits
+design_unless_removing-requires-clause-edits c = c.as_slice-edits.ensures ∙ c.in_ok-edits.ensures.edits
 
 pub returns : goal.returns
 returns c =

@@ -16,8 +16,8 @@ returns-in-Ok c =
     c.in_ok-content.field-0 c.schema.ensures.value refl taken c.in_ok-content.ensures.content c.counted_design.result c.in-Ok.content c.in-Ok.is
     c.counted_design.ensures
 
-pub returns-in-Err : goal.returns-in-Err
-returns-in-Err c =
+pub returns : goal.returns
+returns c =
     let o = c.args.office.now in
     let copied = c.args.copied.now in
     let taken = c.in_ok-taken.ensures ∙ ap (λ (live : Content). united live copied) c.live.ensures.value in

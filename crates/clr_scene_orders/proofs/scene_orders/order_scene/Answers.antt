@@ -62,8 +62,8 @@ returns-in-Stuck g c =
       each_list_breaks m.rules m.root m.sets found are a.3,
     )
 
-pub returns-in-TooMany : goal.returns-in-TooMany
-returns-in-TooMany g c =
+pub returns : goal.returns
+returns g c =
     let m = model_of g.V.RowView.content c.args.scene.now in
     let found = c.in_ok-found.found in
     let are = c.in_ok-found.ensures.needs in
