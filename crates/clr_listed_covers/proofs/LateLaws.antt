@@ -23,7 +23,8 @@ before_or_behind i j = grind arith
 pub position_there : (count k : ℕ) → k < count → slice_get (range_with_len 0 count) k ≡ Some k
 position_there count k less =
     let long = length-range_with_len 0 count in
-    slice_get-get_or (range_with_len 0 count) k 0 (omega (arith, less, long)) ∙ ap Some (get_or-range_with_len 0 count k 0 less ∙ (let same : 0 + k ≡ k = omega arith in same))
+    let same : 0 + k ≡ k = omega arith in
+    slice_get-get_or (range_with_len 0 count) k 0 (omega (arith, less, long)) ∙ ap Some (get_or-range_with_len 0 count k 0 less ∙ same)
 
 -- who stands at a place
 pub record IsPosition (count k x : ℕ) : Type 0 where

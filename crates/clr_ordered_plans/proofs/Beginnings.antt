@@ -39,7 +39,8 @@ refused_more o (n ∷ ns) others h =
 
 -- the first members -----------------------------------------------------------------------------------
 
-behind_first : (n : Name) (ns : List Name) (k a : ℕ) → filter_map (slice_get (n ∷ ns)) (range_with_len (suc a) k) ≡ filter_map (slice_get ns) (range_with_len a k)
+behind_first : (n : Name) (ns : List Name) (k a : ℕ) → filter_map (slice_get (n ∷ ns)) (range_with_len (suc a) k)
+    ≡ filter_map (slice_get ns) (range_with_len a k)
 behind_first n ns zero a = refl
 behind_first n ns (suc k) a =
     let next : suc a + 1 ≡ suc (a + 1) = omega arith in

@@ -186,7 +186,8 @@ module _ (o : Office) (s : MergeSet) where
       (clear_in_turn o (ordered_merge_set_of c) (entries_in c.entries)).1 (
         record {
           mergeable = subst (AreMergeable o) (sym same) (mergeable_of o s h.free h.apart);
-          covered = subst (λ (t : MergeSet). AreCovered (position_goes_before (ordered_merge_set_of c)) (setting_by_position o t) (entries_in c.entries)) (sym same)
+          covered = subst (λ (t : MergeSet). AreCovered (position_goes_before (ordered_merge_set_of c)) (setting_by_position o t) (entries_in c.entries))
+              (sym same)
               h.covered;
         },
         h.listed,
@@ -255,7 +256,8 @@ module _ (o : Office) (s : MergeSet) where
       let as_every = without_pairs o s c cleared.merge_set none in
       let covers : CoversInTurn o (without_order s) (entries_in c.entries) = record {
         mergeable = mergeable_of o s cleared.free cleared.apart;
-        covered = subst (λ (q : OrderedMergeSet). AreCovered (position_goes_before q) (setting_by_position o s) (entries_in c.entries)) as_every cleared.covered;
+        covered = subst (λ (q : OrderedMergeSet). AreCovered (position_goes_before q) (setting_by_position o s) (entries_in c.entries)) as_every
+            cleared.covered;
       } in
       absurd (plans.safe_plan o s order.items cause (safe_law o s (entries_in c.entries) (((every_order o s).covers (entries_in c.entries)).0 covers)) h)
 

@@ -211,4 +211,6 @@ of_cover o s whole free (listed.Covered pairs entries) told cert (same, before, 
 of_cover o s whole free (listed.Broken need count) told cert h = absurd h
 
 pub readable_in_order : (o : Office) (s : MergeSet) (p : Plan) → IsWhole o → IsListedPlan o s p → IsReadableWhereCleared o p
-readable_in_order o s p whole h c e = let of : IsOfListed o s (plan.Cleared c) = subst (IsListedPlan o s) e h in of_cover o s whole of.free of.cover of.told c of.is_plan
+readable_in_order o s p whole h c e =
+    let of : IsOfListed o s (plan.Cleared c) = subst (IsListedPlan o s) e h in
+    of_cover o s whole of.free of.cover of.told c of.is_plan

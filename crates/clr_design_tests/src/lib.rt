@@ -1,8 +1,0 @@
-//! Tests of designs that are brought as layers over an office from which LIVE has moved on: the same offices as by commands in the order of
-//! time, and conflicts just where both changed a row, in offices that dice make.
-#![tactic(auto)]
-
-#[cfg(test)]
-mod edits;
-#[cfg(test)]
-mod made_since;
