@@ -20,6 +20,10 @@ pub enum Ask {
     Plan(Names),
     /// Whether these children of a root can be merged in every order: the root, and the children.
     PlanUnder(Words, Names),
+    /// Whether these children of LIVE can be merged in this order.
+    PlanInOrder(Names),
+    /// Whether these children of a root can be merged in this order: the root, and the children.
+    PlanInOrderUnder(Words, Names),
     /// Whether a certificate clears its members; the second text is the certificate.
     Check,
     /// The merges of these workspaces in this order, by a certificate that clears its members; the

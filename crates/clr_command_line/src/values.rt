@@ -1,7 +1,7 @@
 //! What `clap` found in words: values, names and files.
 ghost use Rattle.std.specs.Prelude.{◌≡◌, IfOk, map};
 ghost use Rattle.clap.specs.Words.{found_of, rows_of};
-ghost use Rattle.clr_command_line.specs.Asks.{database_and, database_of, given_names, given_value};
+ghost use Rattle.clr_command_line.specs.Asks.{database_and, database_of, given_names, given_value, is_set};
 
 use clap::ArgMatches;
 use clr_rows::{Names, Words};
@@ -14,6 +14,16 @@ pub(crate) fn value(alloc: Global, matches: &ArgMatches, id: &str) -> Result<Wor
     match matches.get_str(id) {
         Some(text) => Words::from_str(alloc, text),
         None => Ok(Words::new(String::new(alloc))),
+    }
+}
+
+/// Returns whether an option without a value is given.
+pub fn is_set(matches: &ArgMatches, name: &str) -> bool
+    ensures { result ≡ is_set name.now (rows_of (found_of matches.now)) }
+{
+    match matches.get_str(name) {
+        Some(value) => value == "true",
+        None => false,
     }
 }
 

@@ -3,13 +3,18 @@ use Rattle.std.proofs.Common.{◌≡◌, ◌∙◌, ◌+◌, ℕ, Bool, true, fa
 use Rattle.std.proofs.Common.{arith, subst}
 use Rattle.std.proofs.lemmas.List.{map-append}
 use Rattle.std.proofs.lemmas.Grind.{flat_map-append}
-use Rattle.std.proofs.lemmas.List.Elements.{All-cons, All-nil}
+use Rattle.std.proofs.lemmas.List.Elements.{All-cons, All-nil, filter-append}
+use Rattle.std.proofs.lemmas.Cmp.{eq_by_cmp_equiv}
+use Rattle.std.proofs.lemmas.Map.Keys.{IsDistinct-push}
 use Rattle.std.proofs.lemmas.List.Folds.{list_all-append}
 use Rattle.std.specs.Prelude.{is_some, ◌&&◌, if◌then◌else◌}
-use Rattle.std.specs.List.{flat_map, list_all}
+use Rattle.std.specs.List.{IsDistinct, filter, flat_map, list_all, list_any}
+use Rattle.std.specs.Ordering.{eq_by_cmp}
 use Rattle.clr_rows.specs.declared.cells.CellId.{CellId}
 use Rattle.clr_rows.specs.declared.tables.TableDef.{TableDef}
+use Rattle.clr_rows.specs.Cells.{cell_cmp}
 use Rattle.clr_rows.specs.Held.{Held}
+use Rattle.clr_rows.proofs.CellOrder.{cell_cmp_total}
 use Rattle.clr_deltas.specs.Differences.{Differences}
 use Rattle.clr_needs.specs.Settings.{Setting}
 use Rattle.clr_rules.specs.declared.rules.Rule.{Rule}
@@ -23,7 +28,7 @@ use Rattle.clr_cut_passes.specs.Passes.{AreCountsOf, AreStandings, CountsOneMore
 use Rattle.clr_layer_text.specs.declared.rows.LayerRow.{LayerRow}
 use Rattle.clr_layer_text.specs.Layers.{cell_of, row_line}
 use Rattle.clr_cut_streams.specs.declared.told.Told.{Told}
-use Rattle.clr_cut_streams.specs.Told.{HasTold, has_key, held_in, is_shown, line_if_other, line_if_shown, one_more_if, other_line, others, shown, taken}
+use Rattle.clr_cut_streams.specs.Told.{HasTold, cells_of_cut, has_key, held_in, is_shown, line_if_other, line_if_shown, one_more_if, other_line, others, shown, taken}
 
 module _ (aim : Aim) (c : Setting ℕ) (table : ℕ) where
   abbrev Stand : List LayerRow → List Standing → Type 0
@@ -75,15 +80,34 @@ module _ (aim : Aim) (c : Setting ℕ) (table : ℕ) where
   if_other tables q Lacks = refl
   if_other tables q Beyond = refl
 
+  -- the cells of one row more
+  pub cells_more : (rows : List LayerRow) (r : LayerRow) → cells_of_cut c table (rows ++ r ∷ [])
+      ≡ cells_of_cut c table rows ++ (if is_some (c.root (cell_of table r.key)) then cell_of table r.key ∷ [] else [])
+  cells_more rows r = ap (filter there) (map-append (λ (s : LayerRow). cell_of table s.key) rows (r ∷ []))
+      ∙ filter-append there (map (λ (s : LayerRow). cell_of table s.key) rows) (cell_of table r.key ∷ [])
+    where
+      there : CellId → Bool
+      there q = is_some (c.root q)
+
+  once_more : (rows : List LayerRow) (r : LayerRow) → IsDistinct (eq_by_cmp cell_cmp) (cells_of_cut c table rows)
+      → list_any (eq_by_cmp cell_cmp (cell_of table r.key)) (cells_of_cut c table rows) ≡ false
+      → IsDistinct (eq_by_cmp cell_cmp) (cells_of_cut c table (rows ++ r ∷ []))
+  once_more rows r apart new = rw (cells_more rows r) (by (is_some (c.root (cell_of table r.key))))
+    where
+      by : (b : Bool) → IsDistinct (eq_by_cmp cell_cmp) (cells_of_cut c table rows ++ (if b then cell_of table r.key ∷ [] else []))
+      by true = IsDistinct-push (eq_by_cmp_equiv cell_cmp_total) (cells_of_cut c table rows) (cell_of table r.key) apart new
+      by false = rw append-nil apart
+
   pub one_told : (listed : Differences) (tables : List TableDef) (rows : List LayerRow) (text notes : List ℕ) (told next : Told) (r : LayerRow) (x : Standing)
       → HasTold aim c listed tables table rows text notes told
       → IsStanding aim c (held_in table r) x
       → CountsOneMoreRow aim c told.counts (held_in table r) next.counts
       → is_some r.key ≡ true
+      → list_any (eq_by_cmp cell_cmp (cell_of table r.key)) (cells_of_cut c table rows) ≡ false
       → next.printed ≡ one_more_if (is_shown listed (cell_of table r.key) x) told.printed
       → HasTold aim c listed tables table (rows ++ r ∷ []) (text ++ line_if_shown (is_shown listed (cell_of table r.key) x) r)
       (notes ++ line_if_other tables (cell_of table r.key) x) next
-  one_told listed tables rows text notes told next r x so_far stands counted key printed =
+  one_told listed tables rows text notes told next r x so_far stands counted key new printed =
       let xs = so_far.standings in
       let held = map-append (held_in table) rows (r ∷ []) in
       record {
@@ -91,6 +115,7 @@ module _ (aim : Aim) (c : Setting ℕ) (table : ℕ) where
         are = one_stands rows xs r x so_far.are stands;
         counts = subst (λ (l : List Held). AreCountsOf aim c l next.counts) (sym held) (counted (map (held_in table) rows) so_far.counts);
         keyed = list_all-append has_key rows (r ∷ []) ∙ rw (so_far.keyed, key) refl;
+        once = once_more rows r so_far.once new;
         lines = ap (λ front. front ++ line_if_shown (is_shown listed (cell_of table r.key) x) r) so_far.lines
             ∙ lines_more row_line (is_shown listed) rows xs r x so_far.are;
         remarks = (λ i. so_far.remarks i ++ if_other tables (cell_of table r.key) x i)

@@ -1,6 +1,6 @@
 //! What a pass over a layer has told so far, and one row more.
 
-ghost use Rattle.std.specs.Prelude.{◌≡◌, ◌++◌, [], IfOk, OnOk};
+ghost use Rattle.std.specs.Prelude.{◌≡◌, ◌++◌, [], true, IfErr, IfOk, OnErr, OnOk};
 ghost use Rattle.std.specs.Io.KnownBytes.{Appends};
 ghost use Rattle.clr_rules.specs.Books.{FitsBook};
 ghost use Rattle.clr_foot.specs.Scenes.{IsReady};
@@ -9,6 +9,8 @@ ghost use Rattle.clr_cut_rows.specs.Standings.{IsStanding};
 ghost use Rattle.clr_cut_passes.specs.Counts.{counts_of};
 ghost use Rattle.clr_cut_passes.specs.Passes.{CountsOneMoreRow};
 ghost use Rattle.clr_layer_text.specs.Layers.{IsFitting, cell_of};
+ghost use Rattle.clr_cut_streams.specs.declared.faults.PassFault.TheVariants as pass_fault;
+ghost use Rattle.clr_cut_streams.specs.Faults.{IsTellingFault};
 ghost use Rattle.clr_cut_streams.specs.Told.{held_in, is_shown, line_if_other, line_if_shown, one_more_if, other_line};
 
 use crate::faults::PassFault;
@@ -74,7 +76,10 @@ fn count_if(is_shown: bool, printed: u64) -> u64
 }
 
 fn put<W: Sink>(writer: &mut W, line: &[u8]) -> Result<(), PassFault>
-    ensures { OnOk result (Appends (W.contents writer.old) (W.contents writer.new) line.now) }
+    ensures bytes { OnOk result (Appends (W.contents writer.old) (W.contents writer.new) line.now) }
+    ensures goes_on { OnOk result (W.failed writer.new ≡ W.failed writer.old) }
+    ensures fails { OnErr result (W.failed writer.new ≡ true) }
+    ensures fault { IfErr result (λ e. e ≡ pass_fault.WriteFailed) }
 {
     match writer.put(line) {
         Ok(()) => Ok(()),
@@ -120,7 +125,10 @@ fn line_if_other(
 
 /// Writes a line where there is one.
 fn put_line<W: Sink>(writer: &mut W, line: &[u8]) -> Result<(), PassFault>
-    ensures { OnOk result (Appends (W.contents writer.old) (W.contents writer.new) line.now) }
+    ensures bytes { OnOk result (Appends (W.contents writer.old) (W.contents writer.new) line.now) }
+    ensures goes_on { OnOk result (W.failed writer.new ≡ W.failed writer.old) }
+    ensures fails { OnErr result (W.failed writer.new ≡ true) }
+    ensures fault { IfErr result (λ e. e ≡ pass_fault.WriteFailed) }
 {
     if line.is_empty() {
         return Ok(());
@@ -151,6 +159,8 @@ pub(crate) fn tell_row<V: RowView, F: RowFinder, W: Sink, N: Sink>(
         (line_if_other cut.now.schema.now (cell_of table row.now.key) x)) }
     ensures printed { IfOk result (λ x. told.new.printed
         ≡ one_more_if (is_shown cut.now.listed.now (cell_of table row.now.key) x) told.old.printed) }
+    ensures goes_on { OnOk result ((W.failed writer.new ≡ W.failed writer.old) × (N.failed notes.new ≡ N.failed notes.old)) }
+    ensures fault { IfErr result (IsTellingFault (W.failed writer.new) (N.failed notes.new)) }
 {
     let cell = CellId {
         table,

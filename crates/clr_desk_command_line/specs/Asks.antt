@@ -8,7 +8,7 @@ use Rattle.clap.specs.Words.{Row, Text, all_of, first_of}
 use Rattle.clr_rows.specs.Names.{live_name}
 use Rattle.clr_rows.specs.Schemas.{is_key}
 use Rattle.clr_records.specs.Decimals.{number_of}
-use Rattle.clr_command_line.specs.Asks.{database_and, database_of, given_names, given_value}
+use Rattle.clr_command_line.specs.Asks.{database_and, database_of, given_names, given_value, is_set}
 use Rattle.clr_desk_command_line.specs.declared.asks.Asked.{Asked}
 use Rattle.clr_desk_command_line.specs.declared.asks.Asked.TheVariants.{OfTexts, Reach}
 use Rattle.clr_desk_command_line.specs.declared.asks.DeskAsk.{DeskAsk}
@@ -26,10 +26,6 @@ given_or otherwise id rows = unwrap_or (first_of id rows) otherwise
 -- the root that is given, or LIVE
 abbrev pub given_root : List Row → Text
 given_root rows = given_or live_name (codes "under") rows
-
--- an option without a value is given
-abbrev pub is_set : Text → List Row → Bool
-is_set name rows = option_map_or (λ value. bytes_eq value (codes "true")) (first_of name rows) false
 
 -- what `why` asks for, and its files: of the script if one is given, else of the certificate if one is given, else of the office
 abbrev pub why_of : List Row → DeskAsk × List Text

@@ -17,9 +17,9 @@ ghost use Rattle.clr_desk_command_line.specs.Asks.{
 
 use crate::asks::{DesignAsk, GeographicAsk};
 use crate::named_layers::layers;
-use crate::values::{given_or, given_value, has_value, is_set};
+use crate::values::{given_or, given_value, has_value};
 use clap::ArgMatches;
-use clr_command_line::database;
+use clr_command_line::{database, is_set};
 use clr_records::read_number;
 use clr_rows::{GREATEST_KEY, Names, Words};
 use std::alloc::{AllocError, Global};

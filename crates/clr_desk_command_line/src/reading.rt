@@ -26,10 +26,10 @@ use crate::asks::{Asked, DeskAsk, GeographicAsk, ReachAsk, TextKind};
 use crate::command::whole_command;
 use crate::complaints::complaint;
 use crate::layer_reading::geographic_ask;
-use crate::values::{given_or, given_value, has_value, is_set, root};
+use crate::values::{given_or, given_value, has_value, root};
 use clap::ArgMatches;
 use clap::error::ErrorKind;
-use clr_command_line::{AskFault, database, database_with, names};
+use clr_command_line::{AskFault, database, database_with, is_set, names};
 use clr_rows::{Names, Words};
 use std::alloc::{AllocError, Global};
 

@@ -2,7 +2,7 @@
 
 ghost use Rattle.std.specs.Prelude.{◌≡◌, IfOk, is_some};
 ghost use Rattle.clap.specs.Words.{first_of, found_of, rows_of};
-ghost use Rattle.clr_desk_command_line.specs.Asks.{given_or, is_set, given_root};
+ghost use Rattle.clr_desk_command_line.specs.Asks.{given_or, given_root};
 
 use clap::ArgMatches;
 use clr_rows::{LIVE, Words};
@@ -40,16 +40,6 @@ pub(crate) fn root(alloc: Global, matches: &ArgMatches) -> Result<Words, AllocEr
     ensures { IfOk result (λ root. root ≡ given_root (rows_of (found_of matches.now))) }
 {
     given_or(alloc, matches, "under", LIVE)
-}
-
-/// Returns whether an option without a value is given.
-pub(crate) fn is_set(matches: &ArgMatches, name: &str) -> bool
-    ensures { result ≡ is_set name.now (rows_of (found_of matches.now)) }
-{
-    match matches.get_str(name) {
-        Some(value) => value == "true",
-        None => false,
-    }
 }
 
 /// Returns whether an option has a value.

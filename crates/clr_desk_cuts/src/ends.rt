@@ -5,9 +5,9 @@ ghost use Rattle.clr_desk_cuts.specs.Reach.{end_line, end_status, passed_line, p
 
 use clr_clearance::Verdict;
 use clr_cut_streams::Told;
-use clr_desk_layers::{no_table_line, table_fault_line};
 use clr_engine::Office;
 use clr_layer_changes::LayersFault;
+use clr_layer_faults::{no_table_line, table_fault_line};
 use clr_lines::verdict_line;
 use clr_rows::LIVE;
 use std::alloc::{AllocError, Global};

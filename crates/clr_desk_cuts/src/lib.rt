@@ -6,10 +6,12 @@
 #![tactic(auto)]
 
 mod ends;
+mod inquiries;
 mod listed;
 mod members;
 mod opening;
 mod options;
+mod passing;
 mod reach;
 
 pub use clr_reach::Aim;

@@ -10,6 +10,7 @@ use clr_office_reading::read_office;
 use std::alloc::{AllocError, Global};
 
 /// Adds the cells of differences, with a row or without.
+#[tactic(auto, unfolding(crate::specs::Listed::with_entries))]
 fn add_cells(cells: &mut Differences, differences: &Differences) -> Result<(), AllocError>
     ensures { OnOk result (cells.new ≡ with_entries cells.old (finite.entries differences.now)) }
 {
@@ -20,6 +21,7 @@ fn add_cells(cells: &mut Differences, differences: &Differences) -> Result<(), A
 }
 
 /// Adds the cells of workspaces, those of their bases and those of their rows.
+#[tactic(auto, unfolding(crate::specs::Listed::with_deltas))]
 fn add_workspaces(cells: &mut Differences, workspaces: &[StoredPart]) -> Result<(), AllocError>
     ensures { OnOk result (cells.new ≡ with_deltas cells.old (map stored_delta workspaces.now)) }
 {

@@ -1,131 +1,26 @@
 //! A table that is held against the cut of an office text, one record at a time.
 
-ghost use Rattle.std.specs.Prelude.{◌≡◌, map, None, Some, IfOk, IfSome, OnOk, slice_get};
-ghost use Rattle.std.specs.Io.KnownBytes.{Appends};
-ghost use Rattle.clr_foot.specs.Scenes.{IsReady};
-ghost use Rattle.clr_clearance.specs.MergeSets.{change_sets, setting_by_position};
-ghost use Rattle.clr_cut_rows.specs.Searches.{aim_of, model_of, setting_in};
-ghost use Rattle.clr_rows.specs.Schemas.{table_named};
+ghost use Rattle.std.specs.Prelude.{◌≡◌, false, map, Some, IfErr, IfOk, slice_get};
+ghost use Rattle.clr_clearance.specs.MergeSets.{change_sets};
+ghost use Rattle.clr_desk_cuts.specs.Inquiries.{asked_by};
 ghost use Rattle.clr_desk_cuts.specs.Members.{AreTogether, live_set};
-ghost use Rattle.clr_desk_cuts.specs.Reach.{HasPassed, IsReachAnswer, IsReachEnd, rows_of_table};
+ghost use Rattle.clr_desk_cuts.specs.Reach.{IsDeviceFault, IsPassedEnd, IsReachAnswer, IsReachEnd};
 
 use crate::ends::ReachEnd;
-use crate::members::{member_fault, references};
+use crate::inquiries::{Inquiry, rows_of_table, table_of};
+use crate::members::member_fault;
 use crate::opening::{OpenedCut, open_cut};
 use crate::options::ReachOptions;
-use clr_change::ChangeSet;
+use crate::passing::pass;
+use clr_asked_members::members_asked;
 use clr_clearance::Verdict;
-use clr_cut_rows::CutRows;
-use clr_cut_streams::{CutText, PassFault, Told, pass_over};
-use clr_desk_prints::members_asked;
-use clr_engine::{Office, SpotIndex};
-use clr_layer_streams::LayerStream;
-use clr_layer_text::header_line;
+use clr_cut_streams::PassFault;
 use clr_merge_sets::{read_changes, texts_of_names};
 use clr_process_io::{MOST_INPUT_BYTES, RunFault};
-use clr_reach::Aim;
-use clr_rows::{LIVE, Schema, Sheet, TableDef, Words};
+use clr_rows::{LIVE, Words};
 use clr_streams::Sink;
-use std::alloc::{AllocError, Global};
+use std::alloc::Global;
 use std::io::Read;
-
-/// A table that is held against a cut, and the designs of the cut with what each changes.
-struct Inquiry<'a> {
-    opened: &'a OpenedCut,
-    options: ReachOptions,
-    table: u16,
-    def: &'a TableDef,
-    names: &'a [&'a str],
-    changes: &'a [ChangeSet],
-}
-
-/// Counts the rows of a table.
-fn rows_of_table(rows: &Sheet, table: u16) -> usize
-    ensures { result ≡ rows_of_table rows.now table }
-{
-    let mut count = 0usize;
-    for (cell, _) in rows.iter() {
-        if cell.table == table {
-            count = count.saturating_add(1);
-        }
-    }
-    count
-}
-
-/// Returns the number of the table of a name, and the table, if there is one.
-fn table_of<'a>(schema: &'a Schema, name: &str) -> Option<(u16, &'a TableDef)>
-    ensures found { IfSome result (λ found. (table_named schema.entry.now name.now ≡ Some found.0) × (slice_get schema.entry.now found.0 ≡ Some found.1.now)) }
-    ensures none { result ≡ None → table_named schema.entry.now name.now ≡ None }
-{
-    let at = schema.table(name)?;
-    let def = schema.def(at)?;
-    Some((at, def))
-}
-
-/// Returns the rows of LIVE, with what designs change there.
-fn cut_rows<'a>(
-    alloc: Global,
-    office: &'a Office,
-    aim: Aim,
-    names: &[&str],
-    changes: &'a [ChangeSet],
-) -> Result<CutRows<'a, Sheet, SpotIndex>, AllocError>
-    requires changes { changes.now ≡ change_sets office.now (live_set (map (λ name. name.now) names.now)) }
-    requires together { AreTogether office.now (live_set (map (λ name. name.now) names.now)) }
-    ensures aim { IfOk result (λ cut. aim_of cut ≡ aim) }
-    ensures setting { IfOk result (λ cut. setting_in (λ rows. rows) cut
-        ≡ setting_by_position office.entry.now (live_set (map (λ name. name.now) names.now))) }
-    ensures ready { IfOk result (λ cut. IsReady (λ finder. finder.settled) (model_of (λ rows. rows) cut)) }
-{
-    let _sound = office.len();
-    let _names = names;
-    let finder = office.finder(0).unwrap();
-    let sets = references(alloc, changes)?;
-    CutRows::new(alloc, aim, office.book(), office.live(), finder, sets)
-}
-
-fn put<W: Sink>(writer: &mut W, text: &[u8]) -> Result<(), PassFault>
-    ensures { OnOk result (Appends (W.contents writer.old) (W.contents writer.new) text.now) }
-{
-    match writer.put(text) {
-        Ok(()) => Ok(()),
-        Err(_) => Err(PassFault::WriteFailed),
-    }
-}
-
-/// Goes over the rows of the table. The header is written first.
-fn pass<R: Read + Drop, W: Sink, N: Sink>(
-    alloc: Global,
-    inquiry: &Inquiry<'_>,
-    source: R,
-    writer: &mut W,
-    notes: &mut N,
-) -> Result<Told, PassFault>
-    requires changes { inquiry.now.changes.now ≡ change_sets inquiry.now.opened.now.office (live_set (map (λ name. name.now) inquiry.now.names.now)) }
-    requires together { AreTogether inquiry.now.opened.now.office (live_set (map (λ name. name.now) inquiry.now.names.now)) }
-    requires stands { slice_get inquiry.now.opened.now.office.schema inquiry.now.table ≡ Some inquiry.now.def.now }
-    ensures { IfOk result (HasPassed inquiry.now.opened.now.office inquiry.now.opened.now.listed inquiry.now.options
-        (map (λ name. name.now) inquiry.now.names.now) inquiry.now.table (R.remaining source) (record {
-          text_held = W.contents writer.old;
-          text_holds = W.contents writer.new;
-          notes_held = N.contents notes.old;
-          notes_hold = N.contents notes.new;
-        })) }
-{
-    let office = &inquiry.opened.office;
-    let schema = office.schema();
-    let aim = inquiry.options.aim;
-    let rows = cut_rows(alloc, office, aim, inquiry.names, inquiry.changes)?;
-    let cut = CutText {
-        schema,
-        rows: &rows,
-        listed: &inquiry.opened.listed,
-    };
-    let rounded = inquiry.options.rounded;
-    let mut stream = LayerStream::open(alloc, schema, inquiry.table, rounded, source)?;
-    put(writer, header_line(alloc, inquiry.def)?.as_slice())?;
-    pass_over(alloc, &cut, &mut stream, writer, notes)
-}
 
 /// Goes over the rows of the table, and returns how that ends.
 fn pass_end<R: Read + Drop, W: Sink, N: Sink>(
@@ -134,7 +29,29 @@ fn pass_end<R: Read + Drop, W: Sink, N: Sink>(
     source: R,
     writer: &mut W,
     notes: &mut N,
-) -> Result<ReachEnd, RunFault> {
+) -> Result<ReachEnd, RunFault>
+    requires changes { inquiry.now.changes.now ≡ change_sets inquiry.now.opened.now.office (live_set (map (λ name. name.now) inquiry.now.names.now)) }
+    requires together { AreTogether inquiry.now.opened.now.office (live_set (map (λ name. name.now) inquiry.now.names.now)) }
+    requires stands { slice_get inquiry.now.opened.now.office.schema inquiry.now.table ≡ Some inquiry.now.def.now }
+    requires writer { W.failed writer.old ≡ false }
+    requires notes { N.failed notes.old ≡ false }
+    ensures end { IfOk result (IsPassedEnd (asked_by inquiry.now) (R.remaining source) (record {
+      text_held = W.contents writer.old;
+      text_holds = W.contents writer.new;
+      text_failed = W.failed writer.new;
+      notes_held = N.contents notes.old;
+      notes_hold = N.contents notes.new;
+      notes_failed = N.failed notes.new;
+    })) }
+    ensures fault { IfErr result (IsDeviceFault (record {
+      text_held = W.contents writer.old;
+      text_holds = W.contents writer.new;
+      text_failed = W.failed writer.new;
+      notes_held = N.contents notes.old;
+      notes_hold = N.contents notes.new;
+      notes_failed = N.failed notes.new;
+    })) }
+{
     match pass(alloc, inquiry, source, writer, notes) {
         Ok(told) => {
             let live = inquiry.opened.office.live();
@@ -158,11 +75,23 @@ fn reach_end<R: Read + Drop, W: Sink, N: Sink>(
     writer: &mut W,
     notes: &mut N,
 ) -> Result<ReachEnd, RunFault>
-    ensures { IfOk result (IsReachEnd opened.now.office opened.now.listed options table.now (map (λ name. name.now) names.now) (R.remaining source) (record {
+    requires writer { W.failed writer.old ≡ false }
+    requires notes { N.failed notes.old ≡ false }
+    ensures end { IfOk result (IsReachEnd opened.now.office opened.now.listed options table.now (map (λ name. name.now) names.now) (R.remaining source) (record {
       text_held = W.contents writer.old;
       text_holds = W.contents writer.new;
+      text_failed = W.failed writer.new;
       notes_held = N.contents notes.old;
       notes_hold = N.contents notes.new;
+      notes_failed = N.failed notes.new;
+    })) }
+    ensures fault { IfErr result (IsDeviceFault (record {
+      text_held = W.contents writer.old;
+      text_holds = W.contents writer.new;
+      text_failed = W.failed writer.new;
+      notes_held = N.contents notes.old;
+      notes_hold = N.contents notes.new;
+      notes_failed = N.failed notes.new;
     })) }
 {
     let office = &opened.office;
@@ -209,11 +138,15 @@ pub fn answer_reach<R: Read + Drop, W: Sink, N: Sink>(
     writer: &mut W,
     notes: &mut N,
 ) -> Result<u8, RunFault>
+    requires writer { W.failed writer.old ≡ false }
+    requires notes { N.failed notes.old ≡ false }
     ensures { IsReachAnswer office.now options table.now names.now (R.remaining source) (record {
       text_held = W.contents writer.old;
       text_holds = W.contents writer.new;
+      text_failed = W.failed writer.new;
       notes_held = N.contents notes.old;
       notes_hold = N.contents notes.new;
+      notes_failed = N.failed notes.new;
     }) result }
 {
     if office.len() > MOST_INPUT_BYTES {

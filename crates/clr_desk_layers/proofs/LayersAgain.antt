@@ -15,8 +15,9 @@ use Rattle.clr_layer_changes.proofs.LayersAgain.{layers_of_live as same_content}
 use Rattle.clr_layer_changes.proofs.UnitedLemmas.{united_itself}
 use Rattle.clr_layer_text.specs.TableRows.{IsTableLayer}
 use Rattle.clr_desk_layers.specs.Designs.{IsDesignPrintOver, IsPrintOfDesign, IsPrintOfLayers, IsPrintOfLive, IsPrintOfScript, of_content, of_fault, text_print}
-use Rattle.clr_desk_layers.specs.Layers.{IsPrintOfTable, no_table_word, no_workspace_word, of_layer, of_no_table, of_no_workspace, of_table}
+use Rattle.clr_desk_layers.specs.Layers.{IsPrintOfTable, no_workspace_word, of_layer, of_no_table, of_no_workspace, of_table}
 use Rattle.clr_desk_layers.specs.Layers.{of_wkt_column, unfit_print, wkt_column_word}
+use Rattle.clr_layer_faults.specs.UnfitLines.{no_table_word}
 use Rattle.clr_desk_prints.specs.Printing.{PrintoutOrFault}
 use Rattle.clr_desk_layers.specs.Counted.{IsCounted}
 use Rattle.clr_desk_layers.specs.ReadBack.{IsPrintedOfLive, PrintedLayersLaw, SameBaseLaw}

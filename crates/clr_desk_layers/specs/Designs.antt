@@ -24,7 +24,7 @@ use Rattle.clr_office_reports.specs.Outcomes.{dump_text}
 use Rattle.clr_desk_prints.specs.Printing.{PrintoutOrFault, printout_of}
 use Rattle.clr_desk_errors.specs.Accepting.{IsAcceptedPrint}
 use Rattle.clr_desk_layers.specs.Counted.{IsCounted}
-use Rattle.clr_desk_layers.specs.LayerFaultLines.{fault_line}
+use Rattle.clr_desk_layers.specs.FaultyLayers.{fault_line}
 
 -- the text of an office, ended by `\n`, which is read as the same office, and in which each broken need is known
 pub record IsOfficeText (o : Office) (text : List ℕ) : Type 0 where

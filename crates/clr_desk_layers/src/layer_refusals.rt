@@ -2,25 +2,15 @@
 ghost use Rattle.std.specs.Prelude.{◌≡◌, IfOk};
 ghost use Rattle.clr_desk_layers.specs.Counted.{removal_print};
 ghost use Rattle.clr_desk_layers.specs.Since.{other_schema_word};
-ghost use Rattle.clr_desk_layers.specs.Layers.{no_table_word, no_workspace_word, unfit_line, unfit_print, wkt_column_word};
+ghost use Rattle.clr_desk_layers.specs.Layers.{no_workspace_word, unfit_print, wkt_column_word};
+ghost use Rattle.clr_layer_faults.specs.UnfitLines.{no_table_word};
 ghost use Rattle.clr_desk_prints.specs.Printing.{printed};
 
 use clr_desk_prints::Print;
+use clr_layer_faults::unfit_line;
 use clr_lines::add_cell;
 use clr_rows::{CellId, Schema};
 use std::alloc::{AllocError, Global};
-
-/// Returns the line that says why there is no layer or no design, by a number and a word for it, and the name that the word speaks of.
-fn unfit_line(alloc: Global, why: &[u8], name: &[u8]) -> Result<Vec<u8>, AllocError>
-    ensures { IfOk result (λ line. line.items ≡ unfit_line why.now name.now) }
-{
-    let mut line = Vec::from_slice(alloc, b"unfit ")?;
-    line.extend_from_slice(why)?;
-    line.push(b' ')?;
-    line.extend_from_slice(name)?;
-    line.push(b'\n')?;
-    Ok(line)
-}
 
 /// Returns the print of what can't be a layer or a design: no text, and the line that says why as its only note, which counts as a refusal.
 fn unfit_print(alloc: Global, why: &[u8], name: &[u8]) -> Result<Print, AllocError>
@@ -28,13 +18,6 @@ fn unfit_print(alloc: Global, why: &[u8], name: &[u8]) -> Result<Print, AllocErr
 {
     let line = unfit_line(alloc, why, name)?;
     Ok(Print::new(Vec::new(alloc), line, true, false))
-}
-
-/// Returns the line that says that no table has this name.
-pub fn no_table_line(alloc: Global, name: &str) -> Result<Vec<u8>, AllocError>
-    ensures { IfOk result (λ line. line.items ≡ unfit_line no_table_word name.now) }
-{
-    unfit_line(alloc, b"8 NoTable", name)
 }
 
 /// Returns what is printed where no table has this name.

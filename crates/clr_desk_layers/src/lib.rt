@@ -26,6 +26,4 @@ pub use designs::{
     answer_accepted_office, answer_design, answer_design_script, answer_design_since, answer_office,
 };
 pub use laws::{a_base_may_be_the_office_itself, printed_layers_change_nothing};
-pub use layer_fault_lines::table_fault_line;
-pub use layer_refusals::no_table_line;
 pub use layers::answer_layer;

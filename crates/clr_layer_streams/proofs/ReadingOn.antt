@@ -1,13 +1,13 @@
 -- One record more is read of a layer, or there is none.
 use Rattle.std.proofs.Common.{◌≡◌, ◌∙◌, ◌+◌, ℕ, Bool, List, [], ◌∷◌, ◌++◌, Option, Some, None, Result, Ok, Err, true, false, length, min, inr, refl, sym}
-use Rattle.std.proofs.Common.{ap, arith, length-append, subst}
+use Rattle.std.proofs.Common.{ap, append-nil, arith, length-append, subst}
 use Rattle.std.specs.Bool.{OnFalse}
-use Rattle.std.specs.Prelude.{slice_get, if◌then◌else◌}
+use Rattle.std.specs.Prelude.{option_map, slice_get, if◌then◌else◌}
 use Rattle.csv.specs.Machine.{Read, next_record}
-use Rattle.csv.specs.Reading.{NextIs, ReadRecord, ReadsNext, default_config, records, strip_bom}
+use Rattle.csv.specs.Reading.{NextIs, ReadRecord, Reached, ReadsNext, TookRecord, default_config, pending_of, records, strip_bom}
 use Rattle.csv.specs.declared.parser.State.{State}
 use Rattle.csv.specs.declared.parser.State.TheVariants as st
-use Rattle.csv.proofs.ReadFacts.{rows-end, rows-more}
+use Rattle.csv.proofs.ReadFacts.{reached-more, rows-end, rows-more}
 use Rattle.clr_readings.specs.Readings.{◌>>=◌, Fails}
 use Rattle.clr_rows.specs.declared.tables.TableDef.{TableDef}
 use Rattle.clr_records.specs.Records.{at_record, in_turn}
@@ -21,7 +21,7 @@ use Rattle.clr_layer_streams.specs.declared.faults.StreamFault.{StreamFault}
 use Rattle.clr_layer_streams.specs.declared.faults.StreamFault.TheVariants.{OutOfMemory, Record}
 use Rattle.clr_layer_streams.specs.declared.streams.LayerStream.{LayerStream}
 use Rattle.clr_layer_streams.specs.Faults.{record_fault}
-use Rattle.clr_layer_streams.specs.Streams.{AreAllRows, HasRead, IsFaultOfFirst, IsHeaderFault, form_of, greatest, number_behind}
+use Rattle.clr_layer_streams.specs.Streams.{AreAllRows, AreFirstRows, BeginsWith, HasRead, IsFaultOfFirst, IsHeaderFault, form_of, greatest, number_behind}
 
 -- items read in turn, and one more
 in_turn_more : {X A E : Type 0} (f : ℕ → X → Result A E) (n : ℕ) (xs : List X) (x : X) (found : List A) (a : A) → in_turn f n xs ≡ Ok found
@@ -47,6 +47,17 @@ in_turn_more {X} {A} {E} f n (y ∷ ys) x found a e h = by (f n y) e (λ bs is. 
 
 number_more : {A : Type 0} (found : List A) (a : A) → number_behind (min (length found + 1) greatest) ≡ min (length (found ++ a ∷ []) + 1) greatest
 number_more found a = let long = length-append found (a ∷ []) in omega (arith, long)
+
+-- one record more behind those that a text begins with
+begins_more : (bytes left : List ℕ) (s s2 : State) (list : List (List (List ℕ))) (fields : List (List ℕ)) (after : Option (List ℕ))
+    → Reached default_config st.StartRecord (strip_bom bytes) list s left → ReadsNext default_config s (Some left) after true fields s2
+    → BeginsWith bytes (list ++ fields ∷ [])
+begins_more bytes left s s2 list fields None reached reads = absurd reads
+begins_more bytes left s s2 list fields (Some rest) reached reads = by (next_record default_config s [] [] left) refl reads
+  where
+    by : (o : Option Read) → next_record default_config s [] [] left ≡ o → NextIs o true fields s2 rest → BeginsWith bytes (list ++ fields ∷ [])
+    by None is next = absurd cc
+    by (Some p) is next = (p.1, p.2, rw next.1 (reached-more default_config st.StartRecord s (strip_bom bytes) left list p reached is))
 
 module _ {R : Type 0} (remaining : R → Option (List ℕ)) (bytes : List ℕ) (rows : List LayerRow) (old new : LayerStream R)
     (so_far : HasRead remaining bytes rows old) (config : old.reader.config ≡ default_config) where
@@ -78,19 +89,49 @@ module _ {R : Type 0} (remaining : R → Option (List ℕ)) (bytes : List ℕ) (
       ) in
       rw (read, so_far.headings) so_far.read
 
+-- what was read so far is what a text begins with
+pub read_first : {R : Type 0} (remaining : R → Option (List ℕ)) (bytes : List ℕ) (rows : List LayerRow) (stream : LayerStream R)
+    → HasRead remaining bytes rows stream → AreFirstRows (form_of stream) bytes rows []
+read_first remaining bytes rows stream so_far = record {
+  names = so_far.names;
+  others = so_far.others;
+  begins = rw append-nil (stream.reader.state, so_far.left, so_far.reached);
+  headings = so_far.headings;
+  read = so_far.read;
+}
+
+-- a record that was taken stands behind what was read so far
+pub taken_behind : {R : Type 0} (remaining : R → Option (List ℕ)) (bytes : List ℕ) (rows : List LayerRow) (old new : LayerStream R) (fields : List (List ℕ))
+    → HasRead remaining bytes rows old → old.reader.config ≡ default_config → TookRecord remaining old.reader new.reader fields
+    → AreFirstRows (form_of old) bytes rows (fields ∷ [])
+taken_behind remaining bytes rows old new fields so_far config took = record {
+  names = so_far.names;
+  others = so_far.others;
+  begins = begins_more bytes so_far.left old.reader.state new.reader.state (so_far.names ∷ so_far.others) fields
+      (pending_of (remaining new.reader.rdr) new.reader) so_far.reached (rw (config, so_far.source) at took);
+  headings = so_far.headings;
+  read = so_far.read;
+}
+
 -- a first record that is no header of the table
-pub header_fault : (tables : List TableDef) (table : ℕ) (bytes : List ℕ) (fields : List (List ℕ)) (fault : LayerFault) (found : StreamFault)
-    (after : Option (List ℕ)) (s2 : State) → ReadsNext default_config st.StartRecord (Some (strip_bom bytes)) after true fields s2
-    → Fails layer_lacks_memory fault (fields_of_table fields (slice_get tables table)) → found ≡ record_fault 1 fault → IsHeaderFault tables table bytes found
-header_fault tables table bytes fields fault found None s2 reads failed is = absurd reads
-header_fault tables table bytes fields fault found (Some ys) s2 reads failed is =
-    subst (IsHeaderFault tables table bytes) (sym is) (by (layer_lacks_memory fault) failed)
+pub header_fault : (tables : List TableDef) (table : ℕ) (known : Option (List ℕ)) (fields : List (List ℕ)) (fault : LayerFault) (found : StreamFault)
+    (after : Option (List ℕ)) (s2 : State) → ReadsNext default_config st.StartRecord (option_map strip_bom known) after true fields s2
+    → Fails layer_lacks_memory fault (fields_of_table fields (slice_get tables table)) → found ≡ record_fault 1 fault → IsHeaderFault tables table known found
+header_fault tables table known fields fault found after s2 reads failed is =
+    subst (IsHeaderFault tables table known) (sym is) (by (layer_lacks_memory fault) failed)
   where
-    one : (o : Option Read) → NextIs o true fields s2 ys → fields_of_table fields (slice_get tables table) ≡ Err fault → IsFaultOfFirst tables table o fault
-    one None next f = absurd cc
-    one (Some p) next f = inr (rw next.1 at f)
+    one : (o : Option Read) (ys : List ℕ) → NextIs o true fields s2 ys → fields_of_table fields (slice_get tables table) ≡ Err fault
+        → IsFaultOfFirst tables table o fault
+    one None ys next f = absurd cc
+    one (Some p) ys next f = inr (rw next.1 at f)
+
+    first : (bytes : List ℕ) (after : Option (List ℕ)) → ReadsNext default_config st.StartRecord (Some (strip_bom bytes)) after true fields s2
+        → fields_of_table fields (slice_get tables table) ≡ Err fault
+        → IsFaultOfFirst tables table (next_record default_config st.StartRecord [] [] (strip_bom bytes)) fault
+    first bytes None h f = absurd h
+    first bytes (Some ys) h f = one (next_record default_config st.StartRecord [] [] (strip_bom bytes)) ys h f
 
     by : (b : Bool) → OnFalse b (fields_of_table fields (slice_get tables table) ≡ Err fault)
-        → IsHeaderFault tables table bytes (if b then OutOfMemory else Record 1 fault)
+        → IsHeaderFault tables table known (if b then OutOfMemory else Record 1 fault)
     by true f = tt
-    by false f = (refl, one (next_record default_config st.StartRecord [] [] (strip_bom bytes)) reads f)
+    by false f = (refl, λ bytes k. first bytes after (rw k at reads) f)

@@ -1,9 +1,10 @@
 -- Layers that are read one record at a time: what was read of one so far, and what the next record gives.
-use Rattle.std.specs.Prelude.{◌≡◌, ◌⊎◌, ◌+◌, ◌-◌, ◌^◌, ℕ, min, Bool, true, List, [], ◌∷◌, ◌++◌, length, ⊤, Option, Some, None, Ok, Err, slice_get}
+use Rattle.std.specs.Prelude.{◌≡◌, ◌⊎◌, ◌+◌, ◌-◌, ◌^◌, ℕ, min, Bool, false, true, List, [], ◌∷◌, ◌++◌, length, ⊤, Option, Some, None, Ok, Err, slice_get}
 use Rattle.csv.specs.Machine.{Read, next_record}
 use Rattle.csv.specs.Reading.{Reached, Ready, TookRecord, default_config, has_failed, is_flexible, reader_config, reader_state, reader_trim, records, source_of}
 use Rattle.csv.specs.Reading.{strip_bom}
 use Rattle.csv.specs.Records.{AllText}
+use Rattle.csv.specs.declared.parser.State.{State}
 use Rattle.csv.specs.declared.parser.State.TheVariants as st
 use Rattle.csv.specs.declared.reader.Reader.{Reader}
 use Rattle.csv.specs.declared.reader.Trim.TheVariants as trim
@@ -23,6 +24,10 @@ greatest = 2 ^ 64 - 1
 
 abbrev pub number_behind : ℕ → ℕ
 number_behind n = min (n + 1) greatest
+
+-- the number of the record behind a header and these rows
+abbrev pub record_behind : List LayerRow → ℕ
+record_behind rows = min (length rows + 2) greatest
 
 -- the reader takes each record as it is, with whatever number of fields, and hasn't failed
 pub record IsReading {R : Type 0} (reader : Reader R) : Type 0 where
@@ -57,6 +62,18 @@ pub record HasRead {R : Type 0} (remaining : R → Option (List ℕ)) (bytes : L
   pub read : rows_from stream.schema.now stream.table stream.rounded (seen_headings stream.headings) 2 others ≡ Ok rows
   pub number : stream.number ≡ min (length rows + 1) greatest
 
+-- a text begins with these records
+abbrev pub BeginsWith : List ℕ → List (List (List ℕ)) → Type 0
+BeginsWith bytes list = (s : State) × (left : List ℕ) × Reached default_config st.StartRecord (strip_bom bytes) list s left
+
+-- a text begins with a header, the records of these rows, and those others behind them
+pub record AreFirstRows (form : LayerForm) (bytes : List ℕ) (rows : List LayerRow) (behind : List (List (List ℕ))) : Type 0 where
+  pub names : List (List ℕ)
+  pub others : List (List (List ℕ))
+  pub begins : BeginsWith bytes (names ∷ (others ++ behind))
+  pub headings : fields_of_table names (slice_get form.tables form.table) ≡ Ok form.at
+  pub read : rows_from form.tables form.table form.rounded form.at 2 others ≡ Ok rows
+
 -- these are the rows of all records of a text
 abbrev pub AreAllRows : LayerForm → List ℕ → List LayerRow → Type 0
 AreAllRows form bytes rows = layer_rows_of form.tables form.table form.rounded (records default_config (strip_bom bytes)) ≡ Ok rows
@@ -83,9 +100,10 @@ abbrev pub IsFaultOfFirst : List TableDef → ℕ → Option Read → LayerFault
 IsFaultOfFirst tables table None fault = fault ≡ NoColumn
 IsFaultOfFirst tables table (Some p) fault = (¬ (AllText p.0) × (fault ≡ NotCsv)) ⊎ (fields_of_table p.0 (slice_get tables table) ≡ Err fault)
 
--- why a text has no header of a table's layer
-abbrev pub IsHeaderFault : List TableDef → ℕ → List ℕ → StreamFault → Type 0
-IsHeaderFault tables table bytes OutOfMemory = ⊤
-IsHeaderFault tables table bytes Unreadable = ⊤
-IsHeaderFault tables table bytes (Record number fault) =
-    (number ≡ 1) × IsFaultOfFirst tables table (next_record default_config st.StartRecord [] [] (strip_bom bytes)) fault
+-- why there is no header of a table's layer; where the source tells its bytes, it is the fault of the first record
+abbrev pub IsHeaderFault : List TableDef → ℕ → Option (List ℕ) → StreamFault → Type 0
+IsHeaderFault tables table known OutOfMemory = ⊤
+IsHeaderFault tables table known Unreadable = ⊤
+IsHeaderFault tables table known (Record number fault) = (number ≡ 1)
+    × ((bytes : List ℕ) → known ≡ Some bytes
+    → IsFaultOfFirst tables table (next_record default_config st.StartRecord [] [] (strip_bom bytes)) fault)

@@ -45,7 +45,8 @@ impl<'a, R: Read + Drop> LayerStream<'a, R> {
         ensures schema { IfOk result (λ stream. (form_of stream).tables ≡ schema.entry.now) }
         ensures table { IfOk result (λ stream. (form_of stream).table ≡ table) }
         ensures rounded { IfOk result (λ stream. (form_of stream).rounded ≡ rounded) }
-        ensures fault { (bytes : List ℕ) → R.remaining source ≡ Some bytes → IfErr result (IsHeaderFault schema.entry.now table bytes) }
+        ensures number { IfOk result (λ stream. stream.number ≡ 1) }
+        ensures fault { IfErr result (IsHeaderFault schema.entry.now table (R.remaining source)) }
     {
         let mut reader = ReaderBuilder::new()
             .has_headers(false)
@@ -85,6 +86,7 @@ impl<'a, R: Read + Drop> LayerStream<'a, R> {
         ensures fits { IfOk result (λ row. IfSome row (IsFitting (form_of self.old).tables (form_of self.old).table)) }
         ensures reading { OnOk result (CanGoOn self.new) }
         ensures form { form_of self.new ≡ form_of self.old }
+        ensures number { self.new.number ≡ number_behind self.old.number }
         ensures fault { IfErr result (IsFaultOfNext R.remaining self.old self.new) }
     {
         self.number = self.number.saturating_add(1);

@@ -33,12 +33,13 @@ returns-in-Ok-clause-begun g c = λ bytes known.
     }
 
 pub returns-clause-fault : goal.returns-clause-fault
-returns-clause-fault g c = λ bytes known.
+returns-clause-fault g c =
     let made = c.from_reader-reader.ensures in
     let flexible = c.flexible.ensures in
     let named = c.has_headers.ensures in
     let reads = rw c.in-Ok-true.field-0-test at (c.in-Ok-true.ensures.reads (rw (flexible, named) at made.trim ∙ c.new.ensures.trim)
     (inr (inr (rw (flexible, named) at made.has_headers, made.headers)))) in
-    header_fault c.args.schema.now c.args.table bytes (fields_of c.read_record.new.row) c.in-Err-find_headings.fault c.record_fault.result _ _
-    (rw (rw (flexible, named) at made.config ∙ c.new.ensures.config, made.state, made.source, known) at reads.0)
+    header_fault c.args.schema.now c.args.table (g.R.Read.remaining c.args.source) (fields_of c.read_record.new.row) c.in-Err-find_headings.fault
+    c.record_fault.result _ _
+    (rw (rw (flexible, named) at made.config ∙ c.new.ensures.config, made.state, made.source) at reads.0)
     (rw c.def.ensures.value at c.in-Err-find_headings.ensures) c.record_fault.ensures
