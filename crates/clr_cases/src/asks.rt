@@ -7,13 +7,14 @@
 //! | `check` | the verdict on a certificate |
 //! | `read` | with which fault the text of a certificate is read |
 //! | `plan ROOT NAME..` | a plan; where it is cleared, its certificate is the text |
+//! | `planinorder ROOT NAME..` | the same in the order of the names |
 //! | `cleared` | what commands are answered under a certificate, and the rows of the root after them |
 //! | `where clear` | what commands are answered all at once, where a certificate is clear, and the rows of LIVE |
 //! | `office after` | what commands are answered under a certificate, where they leave the office of a text |
 
 use crate::cases::Case;
 use crate::checks::{check_line, fault_line};
-use crate::plans::plan_lines;
+use crate::plans::{lines_in_order, plan_lines};
 use crate::runs::{cleared_lines, lines_where_clear, lines_with_office};
 use crate::steps::script_lines;
 use clr_engine::Office;
@@ -32,6 +33,9 @@ pub fn answer(alloc: Global, office: &mut Office, text: &str, case: &Case<'_>) -
         "cleared" => cleared_lines(alloc, office, asked),
         "where clear" => lines_where_clear(alloc, office, asked),
         "office after" => lines_with_office(alloc, office, (text, case.script), asked),
-        words => plan_lines(alloc, office, words.strip_prefix("plan ")?, asked),
+        words => match words.strip_prefix("planinorder ") {
+            Some(names) => lines_in_order(alloc, office, names, asked),
+            None => plan_lines(alloc, office, words.strip_prefix("plan ")?, asked),
+        },
     }
 }

@@ -1,14 +1,31 @@
 //! What is planned in an office, as lines.
 
-use clr_cert::Certificate;
+use clr_cert::{Certificate, Precedence};
 use clr_check::{Verdict, check};
 use clr_engine::Office;
 use clr_lines::verdict_line;
 use clr_office_test_kit::{certificate_of, members_of};
+use clr_ordered_plans::plan_in_order;
 use clr_plan::{Plan, plan};
 use std::alloc::Global;
 
-/// Returns whether two certificates name the same root and members and have the same entries.
+/// Returns whether the same two members stand in two precedences, in the same turn.
+fn is_same_precedence(one: &Precedence, other: &Precedence) -> bool {
+    one.earlier.as_str() == other.earlier.as_str() && one.later.as_str() == other.later.as_str()
+}
+
+/// Returns whether two certificates have the same precedences.
+fn are_in_same_turn(one: &Certificate, other: &Certificate) -> bool {
+    let pairs = one.before.as_slice();
+    let others = other.before.as_slice();
+    pairs.len() == others.len()
+        && pairs
+            .iter()
+            .zip(others)
+            .all(|(pair, other)| is_same_precedence(pair, other))
+}
+
+/// Returns whether two certificates name the same root and members and have the same precedences and entries.
 fn are_same(one: &Certificate, other: &Certificate) -> bool {
     let names = one.members.as_slice();
     let others = other.members.as_slice();
@@ -18,6 +35,7 @@ fn are_same(one: &Certificate, other: &Certificate) -> bool {
             .iter()
             .zip(others)
             .all(|(name, other)| name.as_str() == other.as_str())
+        && are_in_same_turn(one, other)
         && one.entries.as_slice() == other.entries.as_slice()
 }
 
@@ -57,17 +75,36 @@ fn blocked_lines(
     Some(lines)
 }
 
+/// Returns the lines of a plan of a root and members, where the text is that of the certificate.
+fn lines_of_plan(
+    alloc: Global,
+    office: &Office,
+    root: &str,
+    members: &[&str],
+    plan: &Plan,
+    text: &str,
+) -> Option<Vec<u8>> {
+    match plan {
+        Plan::Cleared(certificate) => cleared_line(alloc, office, certificate, text),
+        Plan::Blocked { order, cause } => {
+            let cause = verdict_line(alloc, office.schema(), members, root, cause).ok()?;
+            blocked_lines(alloc, order.as_slice(), members, cause.as_slice())
+        }
+        Plan::Unfit(verdict) => verdict_line(alloc, office.schema(), members, root, verdict).ok(),
+        Plan::OutOfMemory => None,
+    }
+}
+
 /// Returns what is planned for a root and members, whose names stand in a line, where the text is that of the certificate.
 pub fn plan_lines(alloc: Global, office: &Office, names: &str, text: &str) -> Option<Vec<u8>> {
     let (root, members) = members_of(alloc, names)?;
-    let members = members.as_slice();
-    match plan(alloc, office, root, members) {
-        Plan::Cleared(certificate) => cleared_line(alloc, office, &certificate, text),
-        Plan::Blocked { order, cause } => {
-            let cause = verdict_line(alloc, office.schema(), members, root, &cause).ok()?;
-            blocked_lines(alloc, order.as_slice(), members, cause.as_slice())
-        }
-        Plan::Unfit(verdict) => verdict_line(alloc, office.schema(), members, root, &verdict).ok(),
-        Plan::OutOfMemory => None,
-    }
+    let plan = plan(alloc, office, root, members.as_slice());
+    lines_of_plan(alloc, office, root, members.as_slice(), &plan, text)
+}
+
+/// Returns the same in the order in which the members stand in the line.
+pub fn lines_in_order(alloc: Global, office: &Office, names: &str, text: &str) -> Option<Vec<u8>> {
+    let (root, members) = members_of(alloc, names)?;
+    let plan = plan_in_order(alloc, office, root, members.as_slice());
+    lines_of_plan(alloc, office, root, members.as_slice(), &plan, text)
 }

@@ -11,9 +11,11 @@ use Rattle.clr_records.proofs.RecordsAgain.{IsPlain, ascii_records_again}
 use Rattle.clr_records.proofs.Turns.{joined}
 use Rattle.clr_cert.specs.declared.certificates.Certificate.{Certificate}
 use Rattle.clr_cert.specs.declared.certificates.Entry.{Entry}
-use Rattle.clr_cert.specs.declared.items.Item.TheVariants.{Root, Member, Need}
+use Rattle.clr_cert.specs.declared.certificates.Precedence.{Precedence}
+use Rattle.clr_cert.specs.declared.items.Item.TheVariants.{Root, Member, Before, Need}
 use Rattle.clr_cert.specs.Certificates.{certificate_from, certificate_in, certificate_of, is_live, item_of}
-use Rattle.clr_cert.specs.Texts.{IsReadBack, certificate_records, certificate_text, entry_fields, member_fields, name_fields, root_records}
+use Rattle.clr_cert.specs.Texts.{IsReadBack, IsWellFormedPrecedence, before_fields, certificate_records, certificate_text, entry_fields, member_fields}
+use Rattle.clr_cert.specs.Texts.{name_fields, root_records}
 use Rattle.clr_cert.proofs.EntryAgain.{name_ascii}
 
 member_again : (tables : List TableDef) (rooted : Bool) (name : List ℕ) → is_good_name name ≡ true → item_of tables rooted (member_fields name)
@@ -26,28 +28,45 @@ root_again : (tables : List TableDef) (name : List ℕ) → is_live name ≡ fal
 unfolding item_of field_at
 root_again tables name other good = rw (other, good) refl
 
+before_again : (tables : List TableDef) (rooted : Bool) (p : Precedence) → IsWellFormedPrecedence p → item_of tables rooted (before_fields p) ≡ Ok (Before p)
+unfolding item_of field_at
+before_again tables rooted p good = rw (good.earlier, good.later) refl
+
 need_again : (tables : List TableDef) (rooted : Bool) (e : Entry) → IsReadBack tables e → item_of tables rooted (entry_fields tables e) ≡ Ok (Need e)
 unfolding item_of field_at
 need_again tables rooted e is = rw is.entry refl
 
 entries_again : (tables : List TableDef) (rooted : Bool) (n : ℕ) (es : List Entry) → All (IsReadBack tables) es
-    → certificate_from tables rooted n (map (entry_fields tables) es) ≡ Ok (record { root = live_name; members = []; entries = es })
+    → certificate_from tables rooted n (map (entry_fields tables) es) ≡ Ok (record { root = live_name; members = []; before = []; entries = es })
 unfolding certificate_from
 entries_again tables rooted n [] all = refl
 entries_again tables rooted n (e ∷ es) all =
     rw (need_again tables rooted e (all 0 e (omega arith)), entries_again tables (rooted || false) (n + 1) es (λ k d lt. all (suc k) d (omega arith))) refl
 
-members_again : (tables : List TableDef) (rooted : Bool) (n : ℕ) (names : List (List ℕ)) (es : List Entry) → All (λ name. is_good_name name ≡ true) names
+precedences_again : (tables : List TableDef) (rooted : Bool) (n : ℕ) (ps : List Precedence) (es : List Entry) → All IsWellFormedPrecedence ps
     → All (IsReadBack tables) es
-    → certificate_from tables rooted n (map member_fields names ++ map (entry_fields tables) es)
-    ≡ Ok (record { root = live_name; members = names; entries = es })
+    → certificate_from tables rooted n (map before_fields ps ++ map (entry_fields tables) es)
+    ≡ Ok (record { root = live_name; members = []; before = ps; entries = es })
 unfolding certificate_from
-members_again tables rooted n [] es good all = entries_again tables rooted n es all
-members_again tables rooted n (name ∷ names) es good all =
+precedences_again tables rooted n [] es good all = entries_again tables rooted n es all
+precedences_again tables rooted n (p ∷ ps) es good all =
+    rw (
+      before_again tables rooted p (good 0 p (omega arith)),
+      precedences_again tables (rooted || false) (n + 1) ps es (λ k d lt. good (suc k) d (omega arith)) all,
+    ) refl
+
+members_again : (tables : List TableDef) (rooted : Bool) (n : ℕ) (names : List (List ℕ)) (ps : List Precedence) (es : List Entry)
+    → All (λ name. is_good_name name ≡ true) names
+    → All IsWellFormedPrecedence ps
+    → All (IsReadBack tables) es
+    → certificate_from tables rooted n (map member_fields names ++ (map before_fields ps ++ map (entry_fields tables) es))
+    ≡ Ok (record { root = live_name; members = names; before = ps; entries = es })
+unfolding certificate_from
+members_again tables rooted n [] ps es good turns all = precedences_again tables rooted n ps es turns all
+members_again tables rooted n (name ∷ names) ps es good turns all =
     rw (
       member_again tables rooted name (good 0 name (omega arith)),
-      members_again tables (rooted
-          || false) (n + 1) names es (λ k d lt. good (suc k) d (omega arith)) all,
+      members_again tables (rooted || false) (n + 1) names ps es (λ k d lt. good (suc k) d (omega arith)) turns all,
     ) refl
 
 -- the records are in ASCII, each with a field ------------------------------------------------------
@@ -62,9 +81,6 @@ name_plain word name ascii good = record {
   each = (ascii, (name_ascii name good, (IsAscii-nil, (IsAscii-nil, (IsAscii-nil, (IsAscii-nil, tt))))));
 }
 
-entry_plain : (tables : List TableDef) (e : Entry) → IsReadBack tables e → IsPlain IsAscii (entry_fields tables e)
-entry_plain tables e is = record { some = refl; each = is.ascii }
-
 root_word : is_good_name (codes "root") ≡ true
 unfolding is_good_name
 root_word = refl
@@ -72,6 +88,22 @@ root_word = refl
 member_word : is_good_name (codes "member") ≡ true
 unfolding is_good_name
 member_word = refl
+
+before_word : is_good_name (codes "before") ≡ true
+unfolding is_good_name
+before_word = refl
+
+before_plain : (p : Precedence) → IsWellFormedPrecedence p → IsPlain IsAscii (before_fields p)
+before_plain p good = record {
+  some = refl;
+  each = (
+    name_ascii (codes "before") before_word,
+    (name_ascii p.earlier good.earlier, (name_ascii p.later good.later, (IsAscii-nil, (IsAscii-nil, (IsAscii-nil, tt))))),
+  );
+}
+
+entry_plain : (tables : List TableDef) (e : Entry) → IsReadBack tables e → IsPlain IsAscii (entry_fields tables e)
+entry_plain tables e is = record { some = refl; each = is.ascii }
 
 root_plain : (root : List ℕ) → is_good_name root ≡ true → AllByRecursion (IsPlain IsAscii) (root_records root)
 root_plain root good = by (is_live root) refl
@@ -83,22 +115,25 @@ root_plain root good = by (is_live root) refl
 -- the whole certificate ---------------------------------------------------------------------------
 
 module _ (tables : List TableDef) (c : Certificate) (root : is_good_name c.root ≡ true) (good : All (λ name. is_good_name name ≡ true) c.members)
-    (all : All (IsReadBack tables) c.entries) where
+    (turns : All IsWellFormedPrecedence c.before) (all : All (IsReadBack tables) c.entries) where
   certificate_again : certificate_of tables (certificate_records tables c) ≡ Ok c
   unfolding certificate_from certificate_records
   certificate_again = by (is_live c.root) refl
     where
       by : (live : Bool) → is_live c.root ≡ live → certificate_of tables (certificate_records tables c) ≡ Ok c
-      by true e = rw (e, members_again tables false 1 c.members c.entries good all, (bytes_eq-Decides c.root live_name).0 e) refl
-      by false e = rw (e, root_again tables c.root e root, members_again tables true 2 c.members c.entries good all) refl
+      by true e = rw (e, members_again tables false 1 c.members c.before c.entries good turns all, (bytes_eq-Decides c.root live_name).0 e) refl
+      by false e = rw (e, root_again tables c.root e root, members_again tables true 2 c.members c.before c.entries good turns all) refl
 
   records_plain : AllByRecursion (IsPlain IsAscii) (certificate_records tables c)
   unfolding certificate_records
   records_plain =
-      joined (IsPlain IsAscii) (root_records c.root) (map member_fields c.members ++ map (entry_fields tables) c.entries) (root_plain c.root root)
-      (joined (IsPlain IsAscii) (map member_fields c.members) (map (entry_fields tables) c.entries) (mapped (IsPlain IsAscii) member_fields _ c.members
-      (λ name is. name_plain (codes "member") name (name_ascii (codes "member") member_word) is) good)
-      (mapped (IsPlain IsAscii) (entry_fields tables) (IsReadBack tables) c.entries (entry_plain tables) all))
+      joined (IsPlain IsAscii) (root_records c.root) (map member_fields c.members ++ (map before_fields c.before ++ map (entry_fields tables) c.entries))
+      (root_plain c.root root)
+      (joined (IsPlain IsAscii) (map member_fields c.members) (map before_fields c.before ++ map (entry_fields tables) c.entries)
+      (mapped (IsPlain IsAscii) member_fields _ c.members (λ name is. name_plain (codes "member") name (name_ascii (codes "member") member_word) is) good)
+      (joined (IsPlain IsAscii) (map before_fields c.before) (map (entry_fields tables) c.entries)
+      (mapped (IsPlain IsAscii) before_fields _ c.before before_plain turns)
+      (mapped (IsPlain IsAscii) (entry_fields tables) (IsReadBack tables) c.entries (entry_plain tables) all)))
 
   -- the text of a certificate is read as the certificate
   pub read_again : certificate_in tables (certificate_text tables c) ≡ Ok c

@@ -22,7 +22,7 @@ use Rattle.clr_cert.specs.declared.certificates.Entry.{Entry}
 use Rattle.clr_cert.specs.declared.faults.CertFault.{CertFault}
 use Rattle.clr_cert.specs.declared.faults.CertFault.TheVariants as fault
 use Rattle.clr_cert.specs.declared.items.Item.{Item}
-use Rattle.clr_cert.specs.declared.items.Item.TheVariants.{Root, Member, Need}
+use Rattle.clr_cert.specs.declared.items.Item.TheVariants.{Root, Member, Before, Need}
 use Rattle.clr_cert.specs.declared.limits.TheConstants.{GREATEST_PART}
 use Rattle.clr_cert.specs.Certificates.{
   certificate_from,
@@ -30,12 +30,15 @@ use Rattle.clr_cert.specs.Certificates.{
   is_live,
   is_root_item,
   item_of,
+  is_empty_behind_two,
   record_name_of,
+  record_names_of,
   nothing_said,
   record_root_of,
+  says_before,
   with_item,
 }
-use Rattle.clr_cert.specs.Texts.{IsInSchema, IsWellFormed, IsWellFormedEntry, IsPart}
+use Rattle.clr_cert.specs.Texts.{IsInSchema, IsWellFormed, IsWellFormedEntry, IsWellFormedPrecedence, IsPart}
 use Rattle.clr_cert.specs.Versions.{
   cell_and_rest,
   slash_cut_of,
@@ -187,6 +190,7 @@ entry_named tables fields entry e =
 abbrev IsWellFormedItem : List TableDef → Item → Type 0
 IsWellFormedItem tables (Root name) = is_good_name name ≡ true
 IsWellFormedItem tables (Member name) = is_good_name name ≡ true
+IsWellFormedItem tables (Before p) = IsWellFormedPrecedence p
 IsWellFormedItem tables (Need entry) = IsWellFormedEntry tables entry
 
 name_good : (fields : List (List ℕ)) (name : List ℕ) → record_name_of fields ≡ Some name → is_good_name name ≡ true
@@ -196,6 +200,19 @@ name_good fields name e = by (is_good_name (field_of fields 1)) _ refl e
     by true true good e = let same : field_of fields 1 ≡ name = cc in subst (λ (n : List ℕ). is_good_name n ≡ true) same good
     by true false good e = absurd cc
     by false b good e = absurd cc
+
+names_good : (tables : List TableDef) (fields : List (List ℕ)) (names : List ℕ × List ℕ) → record_names_of fields ≡ Some names
+    → IsWellFormedItem tables (says_before names)
+names_good tables fields names e = by (is_good_name (field_of fields 1)) (is_good_name (field_of fields 2)) (is_empty_behind_two fields) refl refl e
+  where
+    by : (a b d : Bool) → is_good_name (field_of fields 1) ≡ a → is_good_name (field_of fields 2) ≡ b
+        → cond (a && b && d) (Some (field_of fields 1, field_of fields 2)) None ≡ Some names → IsWellFormedItem tables (says_before names)
+    by true true true one two e =
+        let same : (field_of fields 1, field_of fields 2) ≡ names = cc in
+        subst (λ (n : List ℕ × List ℕ). IsWellFormedItem tables (says_before n)) same (record { earlier = one; later = two })
+    by true true false one two e = absurd cc
+    by true false d one two e = absurd cc
+    by false b d one two e = absurd cc
 
 root_good : (rooted : Bool) (fields : List (List ℕ)) (name : List ℕ) → record_root_of rooted fields ≡ Some name → is_good_name name ≡ true
 root_good rooted fields name e = by (rooted || is_live (field_of fields 1)) e
@@ -213,19 +230,22 @@ item_named : (tables : List TableDef) (rooted : Bool) (fields : List (List ℕ))
     → IsWellFormedItem tables item
 unfolding item_of
 item_named tables rooted fields item e = by _ (bytes_eq (field_of fields 0) (codes "root")) (bytes_eq (field_of fields 0) (codes "member"))
-    (bytes_eq (field_of fields 0) (codes "need")) e
+    (bytes_eq (field_of fields 0) (codes "before")) (bytes_eq (field_of fields 0) (codes "need")) e
   where
-    by : (a b c d : Bool) → cond a (cond b (or_fault fault.BadReference (option_map Root (record_root_of rooted fields)))
+    by : (a b c d k : Bool) → cond a (cond b (or_fault fault.BadReference (option_map Root (record_root_of rooted fields)))
         (cond c (or_fault fault.BadReference (option_map Member (record_name_of fields)))
-        (cond d (or_fault fault.BadReference (option_map Need (entry_of tables fields))) (Err fault.BadKind)))) (Err fault.FieldCount) ≡ Ok item
+        (cond d (or_fault fault.BadReference (option_map says_before (record_names_of fields)))
+        (cond k (or_fault fault.BadReference (option_map Need (entry_of tables fields))) (Err fault.BadKind))))) (Err fault.FieldCount) ≡ Ok item
         → IsWellFormedItem tables item
-    by false b c d e = absurd cc
-    by true true c d e = from_so Root (record_root_of rooted fields) item (λ name e1 same. subst (IsWellFormedItem tables) same
+    by false b c d k e = absurd cc
+    by true true c d k e = from_so Root (record_root_of rooted fields) item (λ name e1 same. subst (IsWellFormedItem tables) same
         (root_good rooted fields name e1)) e
-    by true false true d e = from_so Member (record_name_of fields) item (λ name e1 same. subst (IsWellFormedItem tables) same (name_good fields name e1)) e
-    by true false false true e = from_so Need (entry_of tables fields) item (λ entry e1 same. subst (IsWellFormedItem tables) same
+    by true false true d k e = from_so Member (record_name_of fields) item (λ name e1 same. subst (IsWellFormedItem tables) same (name_good fields name e1)) e
+    by true false false true k e = from_so says_before (record_names_of fields) item (λ names e1 same. subst (IsWellFormedItem tables) same
+        (names_good tables fields names e1)) e
+    by true false false false true e = from_so Need (entry_of tables fields) item (λ entry e1 same. subst (IsWellFormedItem tables) same
         (entry_named tables fields entry e1)) e
-    by true false false false e = absurd cc
+    by true false false false false e = absurd cc
 
 -- certificates -------------------------------------------------------------------------------------
 
@@ -235,16 +255,24 @@ each_of P x xs one all (suc k) d lt = all k d (omega arith)
 
 with_named : (tables : List TableDef) (item : Item) (c : Certificate) → IsWellFormedItem tables item → IsWellFormed tables c
     → IsWellFormed tables (with_item item c)
-with_named tables (Root name) c one all = record { root = one; members = all.members; entries = all.entries }
+with_named tables (Root name) c one all = record { root = one; members = all.members; before = all.before; entries = all.entries }
 with_named tables (Member name) c one all = record {
   root = all.root;
   members = each_of (λ (n : List ℕ). is_good_name n
       ≡ true) name c.members one all.members;
+  before = all.before;
+  entries = all.entries;
+}
+with_named tables (Before p) c one all = record {
+  root = all.root;
+  members = all.members;
+  before = each_of IsWellFormedPrecedence p c.before one all.before;
   entries = all.entries;
 }
 with_named tables (Need entry) c one all = record {
   root = all.root;
   members = all.members;
+  before = all.before;
   entries = each_of (IsWellFormedEntry tables) entry c.entries one
       all.entries;
 }
@@ -254,7 +282,12 @@ unfolding is_good_name
 live_good = refl
 
 nothing_named : (tables : List TableDef) → IsWellFormed tables nothing_said
-nothing_named tables = record { root = live_good; members = λ k d lt. absurd (omega arith); entries = λ k d lt. absurd (omega arith) }
+nothing_named tables = record {
+  root = live_good;
+  members = λ k d lt. absurd (omega arith);
+  before = λ k d lt. absurd (omega arith);
+  entries = λ k d lt. absurd (omega arith);
+}
 
 numbered_ok : {A : Type 0} (n : ℕ) (read : Result A CertFault) (x : A) → at_record n read ≡ Ok x → read ≡ Ok x
 numbered_ok n (Ok y) x e = cc

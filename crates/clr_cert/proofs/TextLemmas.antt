@@ -1,5 +1,5 @@
 -- Writing one record after another, as loops do.
-use Rattle.std.proofs.Common.{◌≡◌, ℕ, ◌+◌, ◌<◌, Bool, true, false, List, [], ◌∷◌, ◌++◌, map, length, get_or, take, refl, sym, subst, ◌∙◌, append_assoc}
+use Rattle.std.proofs.Common.{◌≡◌, ℕ, ◌+◌, ◌<◌, Bool, true, false, List, [], ◌∷◌, ◌++◌, map, length, get_or, take, refl, subst, ◌∙◌, append_assoc}
 use Rattle.std.proofs.Common.{append-nil, arith, add-one, ltb}
 use Rattle.std.proofs.Math.Seq.{take-suc}
 use Rattle.std.proofs.lemmas.Bool.Decides.{nat_tests}
@@ -9,7 +9,7 @@ use Rattle.csv.specs.Writing.{default_writer, row_text}
 use Rattle.clr_rows.specs.declared.tables.TableDef.{TableDef}
 use Rattle.clr_cert.specs.declared.certificates.Certificate.{Certificate}
 use Rattle.clr_records.specs.Writing.{records_text}
-use Rattle.clr_cert.specs.Texts.{certificate_records, certificate_text, entry_fields, member_fields, root_records}
+use Rattle.clr_cert.specs.Texts.{before_fields, certificate_records, certificate_text, entry_fields, member_fields, root_records}
 
 -- the text of the records so far, and of one more
 pub text_more : {X : Type 0} (f : X → List (List ℕ)) (xs : List X) (i : ℕ) (d : X) (front so_far now : List ℕ) → i < length xs → so_far ≡ front
@@ -38,15 +38,16 @@ each_more P xs i d lt one before k e below = by (ltb k i) refl
         let same : i ≡ k = grind (arith, nat_tests) in
         subst (λ n. P (get_or xs n e)) same (subst P (get_or_default xs i d e lt) one)
 
--- the text of a certificate: its root, its members and its entries
+-- the text of a certificate: its root, its members, its precedences and its entries
 pub text_whole : (tables : List TableDef) (c : Certificate)
-    → certificate_text tables c ≡ records_text (root_records c.root) ++ records_text (map member_fields c.members)
+    → certificate_text tables c ≡ records_text (root_records c.root) ++ records_text (map member_fields c.members) ++ records_text (map before_fields c.before)
     ++ records_text (map (entry_fields tables) c.entries)
 unfolding certificate_records
 text_whole tables c =
     rw (
-      flat_map-append (row_text default_writer) (root_records c.root) (map member_fields c.members ++ map (entry_fields tables) c.entries),
-      flat_map-append
-          (row_text default_writer) (map member_fields c.members) (map (entry_fields tables) c.entries),
+      flat_map-append (row_text default_writer) (root_records c.root) (map member_fields c.members ++ (map before_fields c.before
+          ++ map (entry_fields tables) c.entries)),
+      flat_map-append (row_text default_writer) (map member_fields c.members) (map before_fields c.before ++ map (entry_fields tables) c.entries),
+      flat_map-append (row_text default_writer) (map before_fields c.before) (map (entry_fields tables) c.entries),
     )
-    (sym (append_assoc (records_text (root_records c.root)) (records_text (map member_fields c.members)) (records_text (map (entry_fields tables) c.entries))))
+    (simp append_assoc)

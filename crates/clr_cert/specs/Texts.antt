@@ -11,6 +11,7 @@ use Rattle.clr_needs.specs.declared.needs.VersionId.{VersionId}
 use Rattle.clr_records.specs.Writing.{records_text}
 use Rattle.clr_cert.specs.declared.certificates.Certificate.{Certificate}
 use Rattle.clr_cert.specs.declared.certificates.Entry.{Entry}
+use Rattle.clr_cert.specs.declared.certificates.Precedence.{Precedence}
 use Rattle.clr_cert.specs.declared.limits.TheConstants.{GREATEST_PART}
 use Rattle.clr_cert.specs.Certificates.{is_live}
 use Rattle.clr_cert.specs.Versions.{entry_of, slash}
@@ -45,6 +46,10 @@ name_fields word name = word ∷ name ∷ [] ∷ [] ∷ [] ∷ [] ∷ []
 abbrev pub member_fields : List ℕ → List (List ℕ)
 member_fields name = name_fields (codes "member") name
 
+-- the record of a precedence
+abbrev pub before_fields : Precedence → List (List ℕ)
+before_fields p = codes "before" ∷ p.earlier ∷ p.later ∷ [] ∷ [] ∷ [] ∷ []
+
 -- the record of an entry
 abbrev pub entry_fields : List TableDef → Entry → List (List ℕ)
 entry_fields tables e =
@@ -55,9 +60,10 @@ entry_fields tables e =
 abbrev pub root_records : List ℕ → List (List (List ℕ))
 root_records name = if is_live name then [] else name_fields (codes "root") name ∷ []
 
--- the records of a certificate: its root, its members in order, and its entries in order
+-- the records of a certificate: its root, its members in order, its precedences in order, and its entries in order
 unfoldable pub certificate_records : List TableDef → Certificate → List (List (List ℕ))
-certificate_records tables c = root_records c.root ++ (map member_fields c.members ++ map (entry_fields tables) c.entries)
+certificate_records tables c =
+    root_records c.root ++ (map member_fields c.members ++ (map before_fields c.before ++ map (entry_fields tables) c.entries))
 
 -- the text of a certificate
 abbrev pub certificate_text : List TableDef → Certificate → List ℕ
@@ -80,10 +86,16 @@ pub record IsWellFormedEntry (tables : List TableDef) (e : Entry) : Type 0 where
   pub one : IsInSchema tables e.one
   pub two : IfSome e.two (IsInSchema tables)
 
+-- both names are good
+pub record IsWellFormedPrecedence (p : Precedence) : Type 0 where
+  pub earlier : is_good_name p.earlier ≡ true
+  pub later : is_good_name p.later ≡ true
+
 -- the names are good, and the schema names each cell
 pub record IsWellFormed (tables : List TableDef) (c : Certificate) : Type 0 where
   pub root : is_good_name c.root ≡ true
   pub members : All (λ name. is_good_name name ≡ true) c.members
+  pub before : All IsWellFormedPrecedence c.before
   pub entries : All (IsWellFormedEntry tables) c.entries
 
 -- writing ------------------------------------------------------------------------------------

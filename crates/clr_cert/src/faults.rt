@@ -16,7 +16,7 @@ pub enum CertFault {
     NotCsv = 1,
     /// A record with another number of fields than six.
     FieldCount = 2,
-    /// A record begins with none of the three words.
+    /// A record begins with none of the four words.
     BadKind = 3,
     /// A name, a rule, a subject or a witness of a form that isn't allowed, a field that must be
     /// empty and isn't, a root record that names LIVE, or a second root record.

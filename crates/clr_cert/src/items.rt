@@ -2,11 +2,12 @@
 
 ghost use Rattle.std.specs.Prelude.{◌≡◌, IfOk, option_map};
 ghost use Rattle.csv.specs.Records.{fields_of};
-ghost use Rattle.clr_cert.specs.Certificates.{is_empty_behind, is_root_item, item_by_word, item_of, record_name_of, record_root_of};
+ghost use Rattle.clr_cert.specs.Certificates.{is_empty_behind, is_empty_behind_two, is_root_item, item_by_word, item_of};
+ghost use Rattle.clr_cert.specs.Certificates.{record_name_of, record_names_of, record_root_of};
 ghost use Rattle.clr_readings.specs.Readings.{Gives};
 ghost use Rattle.clr_cert.specs.Faults.{cert_lacks_memory};
 
-use crate::certificates::Entry;
+use crate::certificates::{Entry, Precedence};
 use crate::faults::CertFault;
 use crate::limits::RECORD_FIELDS;
 use crate::versions::read_entry;
@@ -20,6 +21,7 @@ use std::alloc::{AllocError, Global};
 pub(crate) enum Item {
     Root(Words),
     Member(Words),
+    Before(Precedence),
     Need(Entry),
 }
 
@@ -35,10 +37,14 @@ impl Item {
 fn ends_empty(fields: &StringRecord) -> bool
     ensures { result ≡ is_empty_behind (fields_of fields.now) }
 {
-    field(fields, 2).is_empty()
-        && field(fields, 3).is_empty()
-        && field(fields, 4).is_empty()
-        && field(fields, 5).is_empty()
+    field(fields, 2).is_empty() && ends_empty_behind_two(fields)
+}
+
+/// Returns whether all fields of a record behind its two names are empty.
+fn ends_empty_behind_two(fields: &StringRecord) -> bool
+    ensures { result ≡ is_empty_behind_two (fields_of fields.now) }
+{
+    field(fields, 3).is_empty() && field(fields, 4).is_empty() && field(fields, 5).is_empty()
 }
 
 /// Returns the name in a record, if it is good and the fields behind it are empty.
@@ -47,6 +53,15 @@ fn name(fields: &StringRecord) -> Option<&str>
 {
     let name = field(fields, 1);
     (good_name(name) && ends_empty(fields)).then_some(name)
+}
+
+/// Returns the two names in a record, if they are good and the fields behind them are empty.
+fn names(fields: &StringRecord) -> Option<(&str, &str)>
+    ensures { option_map (λ names. (names.0.now, names.1.now)) result ≡ record_names_of (fields_of fields.now) }
+{
+    let (earlier, later) = (field(fields, 1), field(fields, 2));
+    let are_right = good_name(earlier) && good_name(later) && ends_empty_behind_two(fields);
+    are_right.then_some((earlier, later))
 }
 
 /// Returns the root that a record names, if it may name one. `rooted` says whether a root record
@@ -81,6 +96,13 @@ fn item_of_six(
         "member" => {
             let name = name(fields).ok_or(CertFault::BadReference)?;
             Ok(Item::Member(Words::from_str(alloc, name)?))
+        }
+        "before" => {
+            let (earlier, later) = names(fields).ok_or(CertFault::BadReference)?;
+            Ok(Item::Before(Precedence {
+                earlier: Words::from_str(alloc, earlier)?,
+                later: Words::from_str(alloc, later)?,
+            }))
         }
         "need" => {
             let entry = read_entry(schema, fields).ok_or(CertFault::BadReference)?;

@@ -1,5 +1,5 @@
-//! Certificates of a clearance: the entries that show that members can be merged in every order,
-//! read from CSV and written as CSV.
+//! Certificates of a clearance: the entries that show that members can be merged in every order, or
+//! in every order in which some go before others, read from CSV and written as CSV.
 //!
 //! - `read_certificate` [`value`, `named`] gives the certificate that the records mean, or the
 //!   first fault with its record's number, memory aside. What is read has good names, cells that
@@ -20,7 +20,7 @@ mod reading;
 mod versions;
 mod writing;
 
-pub use certificates::{Certificate, Entries, Entry};
+pub use certificates::{Certificate, Entries, Entry, Precedence, Precedences};
 pub use faults::CertFault;
 pub use limits::{GREATEST_PART, limits_of_certificates};
 pub use reading::read_certificate;

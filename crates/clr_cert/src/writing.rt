@@ -7,11 +7,11 @@ ghost use Rattle.clr_rows.specs.Beginnings.{IsBegun};
 ghost use Rattle.clr_rows.specs.Schemas.{schema_fault};
 ghost use Rattle.clr_cert.specs.Certificates.{certificate_in};
 ghost use Rattle.clr_records.specs.Writing.{IsBetween, records_text, written_by};
-ghost use Rattle.clr_cert.specs.Texts.{IsReadBackWhereNamed, IsWellFormed, certificate_text, entry_fields, member_fields, name_fields};
+ghost use Rattle.clr_cert.specs.Texts.{IsReadBackWhereNamed, IsWellFormed, before_fields, certificate_text, entry_fields, member_fields, name_fields};
 ghost use Rattle.clr_cert.specs.Texts.{fresh_word, entry_part_text, root_records};
 ghost use Rattle.clr_cert.specs.Texts.{entry_second_text, entry_subject_text, two_text, version_text};
 
-use crate::certificates::{Certificate, Entry};
+use crate::certificates::{Certificate, Entry, Precedence};
 use clr_needs::VersionId;
 use clr_rows::{LIVE, Schema, Words};
 use csv::{Writer, WriterBuilder};
@@ -172,6 +172,39 @@ fn add_members(writer: &mut Writer<Vec<u8>>, members: &[Words]) -> Result<(), Al
     Ok(())
 }
 
+fn add_precedence(writer: &mut Writer<Vec<u8>>, precedence: &Precedence) -> Result<(), AllocError>
+    requires { IsBetween writer.old }
+    ensures between { OnOk result (IsBetween writer.new) }
+    ensures written { OnOk result (written_by writer.new ≡ written_by writer.old ++ row_text default_writer (before_fields precedence.now)) }
+{
+    let empty = b"".as_slice();
+    add_record(
+        writer,
+        &[
+            b"before".as_slice(),
+            precedence.earlier.as_str().as_bytes(),
+            precedence.later.as_str().as_bytes(),
+            empty,
+            empty,
+            empty,
+        ],
+    )
+}
+
+fn add_precedences(
+    writer: &mut Writer<Vec<u8>>,
+    precedences: &[Precedence],
+) -> Result<(), AllocError>
+    requires { IsBetween writer.old }
+    ensures between { OnOk result (IsBetween writer.new) }
+    ensures written { OnOk result (written_by writer.new ≡ written_by writer.old ++ records_text (map before_fields precedences.now)) }
+{
+    for precedence in precedences {
+        add_precedence(writer, precedence)?;
+    }
+    Ok(())
+}
+
 fn add_entry(
     alloc: Global,
     writer: &mut Writer<Vec<u8>>,
@@ -221,11 +254,12 @@ fn add_entries(
 }
 
 /// Returns the text of a certificate, a CSV record of six fields on each line, ended by `\n`: the
-/// root where it isn't LIVE, the members in order, and the entries in order. The name of a table
+/// root where it isn't LIVE, the members in order, the precedences in order, and the entries in
+/// order. The name of a table
 /// that the schema hasn't is empty. Reading the text gives the same certificate where the names are
 /// good, the schema names each cell, and parts are 1 to 31, and 1 where there is no second subject.
 /// For example, the text of a certificate without members and entries is empty where the root is LIVE. A member `W1`
-/// is written as the line `member,W1,,,,`.
+/// is written as the line `member,W1,,,,`, and that `W1` goes before `W2` as `before,W1,W2,,,`.
 pub fn write_certificate(
     alloc: Global,
     schema: &Schema,
@@ -237,6 +271,7 @@ pub fn write_certificate(
     let mut writer = WriterBuilder::new().from_writer(Vec::new(alloc));
     add_root(&mut writer, certificate.root.as_str())?;
     add_members(&mut writer, certificate.members.as_slice())?;
+    add_precedences(&mut writer, certificate.before.as_slice())?;
     add_entries(alloc, &mut writer, schema, certificate.entries.as_slice())?;
     match writer.into_inner() {
         Ok(text) => Ok(text),

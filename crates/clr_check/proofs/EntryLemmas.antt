@@ -13,7 +13,8 @@ use Rattle.std.proofs.lemmas.List.Sorted.{ranks_by, sorted_far}
 use Rattle.clr_rules.proofs.Elements.{Among, among, contained}
 use Rattle.clr_rules.proofs.BrokenLemmas.{lt_is}
 use Rattle.clr_needs.specs.declared.needs.Need.{Need}
-use Rattle.clr_needs.specs.Covers.{HasEntry, WitnessesCover}
+use Rattle.clr_ordered_needs.specs.Covers.{HasEntry, WitnessesCover}
+use Rattle.clr_ordered_needs.specs.Turns.{Order}
 use Rattle.clr_needs.specs.Orders.{need_cmp}
 use Rattle.clr_needs.specs.Settings.{Setting, Lived}
 use Rattle.clr_merge_sets.specs.Certificates.{entries_in}
@@ -123,33 +124,33 @@ module _ (total : IsTotalOrder need_cmp) (entries : List Entry) (rises : RiseByN
 
 -- of entries ---------------------------------------------------------------------------------------
 
-module _ (c : Setting ℕ) (n : Need) (a : Lived ℕ) (b : Option (Lived ℕ)) where
+module _ (before : Order ℕ) (c : Setting ℕ) (n : Need) (a : Lived ℕ) (b : Option (Lived ℕ)) where
   -- an entry of the list covers the need
   abbrev pub IsCovering : List Entry → Entry → Type 0
-  IsCovering entries e = Among e entries × (e.need ≡ n) × WitnessesCover c n a b e.one e.two
+  IsCovering entries e = Among e entries × (e.need ≡ n) × WitnessesCover before c n a b e.one e.two
 
-  pub has_entry : (entries : List Entry) (e : Entry) → IsCovering entries e → HasEntry c n a b (entries_in entries)
+  pub has_entry : (entries : List Entry) (e : Entry) → IsCovering entries e → HasEntry before c n a b (entries_in entries)
   has_entry [] e (h, same, covers) = absurd h
   has_entry (f ∷ fs) e (inl is, same, covers) = inl (
     ap (λ (x : Entry). x.need) is
         ∙ same,
-    subst (λ (x : Entry). WitnessesCover c n a b x.one x.two) (sym is) covers,
+    subst (λ (x : Entry). WitnessesCover before c n a b x.one x.two) (sym is) covers,
   )
   has_entry (f ∷ fs) e (inr h, same, covers) = inr (has_entry fs e (h, same, covers))
 
-  pub entry_of : (entries : List Entry) → HasEntry c n a b (entries_in entries) → (e : Entry) × IsCovering entries e
+  pub entry_of : (entries : List Entry) → HasEntry before c n a b (entries_in entries) → (e : Entry) × IsCovering entries e
   entry_of [] h = absurd h
   entry_of (f ∷ fs) (inl (same, covers)) = (f, (inl refl, same, covers))
   entry_of (f ∷ fs) (inr h) = let (e, rest) = entry_of fs h in (e, (inr rest.0, rest.1, rest.2))
 
   module _ (entries sorted found : List Entry) (same : (e : Entry) → (Contains sorted e → Contains entries e) × (Contains entries e → Contains sorted e))
       (those : (e : Entry) → (Contains found e → IsEntryOf sorted n e) × (IsEntryOf sorted n e → Contains found e)) where
-    pub covered_has : HasCover c n a b found → HasEntry c n a b (entries_in entries)
+    pub covered_has : HasCover before c n a b found → HasEntry before c n a b (entries_in entries)
     covered_has (e, h, covers) =
         let there = (those e).0 h in
         has_entry entries e (among e entries ((same e).0 there.0), there.1, covers)
 
-    pub has_covered : HasEntry c n a b (entries_in entries) → HasCover c n a b found
+    pub has_covered : HasEntry before c n a b (entries_in entries) → HasCover before c n a b found
     has_covered h =
         let (e, rest) = entry_of entries h in
         (e, (those e).1 ((same e).1 (contained e entries rest.0), rest.1), rest.2)

@@ -2,4 +2,8 @@ pub mod AnswerLemmas
 pub mod CoverLemmas
 pub mod EntryLemmas
 pub mod JudgeLemmas
+pub mod LifeLemmas
+pub mod OneStart
+pub mod RunLemmas
 pub mod Said
+pub mod TurnLemmas

@@ -1,4 +1,6 @@
 pub mod Answers
 pub mod Cases
 pub mod Entries
+pub mod Lives
 pub mod TextChecks
+pub mod Turns

@@ -10,7 +10,7 @@ use clr_cert::Certificate;
 use clr_engine::{Command, Office};
 
 /// Returns whether a name is that of a member.
-fn is_member(certificate: &Certificate, name: &str) -> bool
+pub(crate) fn is_member(certificate: &Certificate, name: &str) -> bool
     ensures { result ≡ has certificate.now.members name.now }
 {
     for member in certificate.members.as_slice() {

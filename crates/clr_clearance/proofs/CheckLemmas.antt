@@ -41,7 +41,7 @@ module _ (c : Setting ℕ) where
   pub one_lived : (v : VersionId) (a d : Lived ℕ) → version c v ≡ Some a → version c v ≡ Some d → a ≡ d
   one_lived v a d e f = let both : Some a ≡ Some d = sym e ∙ f in cc
 
-  one_beside : (v : VersionId) (a d : Lived ℕ) (w : Option VersionId) (b e : Option (Lived ℕ)) → IsBesideIfAny c v a w b → IsBesideIfAny c v d w e → b ≡ e
+  pub one_beside : (v : VersionId) (a d : Lived ℕ) (w : Option VersionId) (b e : Option (Lived ℕ)) → IsBesideIfAny c v a w b → IsBesideIfAny c v d w e → b ≡ e
   one_beside v a d None None None h k = refl
   one_beside v a d None None (Some e) h k = absurd k
   one_beside v a d None (Some b) e h k = absurd h
@@ -55,12 +55,12 @@ module _ (c : Setting ℕ) where
       (subst (λ x. HasEntry c n x b entries) (one_lived n.first a d possible.first_is other.first_is) has)
 
 -- where a list rises, what comes before an element stands earlier
-record IsEarlier (needs : List Need) (at : ℕ) (m : Need) : Type 0 where
-  before : ℕ
-  less : before < at
-  is : slice_get needs before ≡ Some m
+pub record IsEarlier (needs : List Need) (at : ℕ) (m : Need) : Type 0 where
+  pub before : ℕ
+  pub less : before < at
+  pub is : slice_get needs before ≡ Some m
 
-earlier : (needs : List Need) (at : ℕ) (n m : Need) → IsStrictlySortedBy need_cmp needs → slice_get needs at ≡ Some n → Among m needs → need_cmp m n ≡ Less
+pub earlier : (needs : List Need) (at : ℕ) (n m : Need) → IsStrictlySortedBy need_cmp needs → slice_get needs at ≡ Some n → Among m needs → need_cmp m n ≡ Less
     → IsEarlier needs at m
 unfolding IsStrictlySortedBy
 earlier [] at n m rises e there less = absurd there
@@ -74,7 +74,7 @@ earlier (x ∷ xs) (suc at) n m rises e (inr there) less =
     let lesser = rest.less in
     record { before = suc rest.before; less = omega (arith, lesser); is = rest.is }
 
-among_at : (needs : List Need) (at : ℕ) (n : Need) → slice_get needs at ≡ Some n → Among n needs
+pub among_at : (needs : List Need) (at : ℕ) (n : Need) → slice_get needs at ≡ Some n → Among n needs
 among_at [] at n e = absurd (cc)
 among_at (x ∷ xs) zero n e = inl (let one : x ≡ n = cc in one)
 among_at (x ∷ xs) (suc at) n e = inr (among_at xs at n e)

@@ -62,7 +62,7 @@ pub neither : {X : Type 0} (a b : Option X) → option_or a b ≡ None → (a �
 neither None b e = (refl, e)
 neither (Some x) b e = absurd (cc)
 
-no_map : {X Y : Type 0} (f : X → Y) (r : Option X) → option_map f r ≡ None → r ≡ None
+pub no_map : {X Y : Type 0} (f : X → Y) (r : Option X) → option_map f r ≡ None → r ≡ None
 no_map f None e = refl
 no_map f (Some x) e = absurd (cc)
 
@@ -262,11 +262,11 @@ module _ (o : Office) (merge_set : MergeSet) where
 
 -- no test that fails says clear -------------------------------------------------------------------------------
 
-abbrev is_clear : Verdict → Bool
+abbrev pub is_clear : Verdict → Bool
 is_clear verdict.Clear = true
 is_clear _ = false
 
-abbrev IsNoClear : Option Verdict → Type 0
+abbrev pub IsNoClear : Option Verdict → Type 0
 IsNoClear None = Unit {0}
 IsNoClear (Some v) = is_clear v ≡ false
 

@@ -20,7 +20,7 @@ use Rattle.clr_rules.specs.Needs.{BreaksNoMore, Holds, View}
 use Rattle.clr_needs.proofs.CoverLaws.{covered_breaks_no_more}
 use Rattle.clr_needs.proofs.Merges.{root_is}
 use Rattle.clr_needs.proofs.PositionLaws.{say_the_same}
-use Rattle.clr_steps.specs.Names.{same_name}
+use Rattle.clr_steps.specs.Names.{has, same_name}
 use Rattle.clr_steps.specs.Offices.{Office, workspace, content_of}
 use Rattle.clr_steps.specs.Quiet.{MergeSet, is_root, is_member, root_content}
 use Rattle.clr_steps.specs.Readings.{changes_in, conflicts_in}
@@ -152,13 +152,18 @@ is_merge_of o merge_set keeps names content part rows = record { rows = rows; no
     no_more = subst (λ (view : View). BreaksNoMore o.book (row_at (root_content o merge_set)) view) (λ i cell. sym (rows cell) i)
         (of_root o merge_set (rows_with o merge_set names) (keeps [] names (λ n h. absurd (false≢true h)) part))
 
+-- no other member is in conflict with the rows that members give
+pub others_free : (o : Office) (merge_set : MergeSet) → AreMergeable o merge_set → (names : List Name) (name : Name) (w : Workspace)
+    → AreAmong (setting_of o merge_set) names merge_set.members → is_member merge_set name ≡ true → has names name ≡ false → workspace o name ≡ Some w
+    → AgreesWith (rows_with o merge_set names) w.base w.current
+others_free o merge_set mergeable names name w part member out e cell changed =
+    let changes : is_some (changed_by o name cell) ≡ true = ap is_some (changed_by-standing o name w cell e) ∙ some_is_changed w.base w.current cell
+    ∙ changed in
+    untaken o merge_set names name cell mergeable.apart part member out changes ∙ member_agrees o merge_set name w mergeable member e cell changed
+
 pub static_law : StaticLaw
 static_law o merge_set entries covers = record {
   no_more = no_more_broken o merge_set entries covers;
   keeps = held_law o merge_set (no_more_broken o merge_set entries covers);
-  free = λ names name w part member out e cell changed.
-      (let changes : is_some (changed_by o name cell) ≡ true = ap is_some (changed_by-standing o name w cell e) ∙ some_is_changed w.base w.current cell
-      ∙ changed in
-      untaken o merge_set names name cell covers.mergeable.apart part member out changes ∙ member_agrees o merge_set name w covers.mergeable member e cell
-      changed);
+  free = others_free o merge_set covers.mergeable;
 }

@@ -5,11 +5,12 @@ use clr_rows::CellId;
 
 /// What a check says of a root, of members that are to be merged into it, and of the entries of a
 /// certificate: clear, or the first test that fails. Each test is made over the whole list before
-/// the next. Members are named by position.
+/// the next. Members and precedences are named by position.
 #[derive(Clone, Copy, Debug, PartialEq, Eq)]
 pub enum Verdict {
-    /// In every order, between other work, no merge of a member meets a conflict or breaks a rule,
-    /// until a command is given that isn't quiet.
+    /// In every order in which no member is merged before one that is to be merged before it, between
+    /// other work, no merge of a member meets a conflict or breaks a rule, until a command is given
+    /// that isn't quiet.
     Clear,
     /// No memory was found. This verdict may come in place of any from `Conflict` on, or of a clear
     /// one.
@@ -18,6 +19,10 @@ pub enum Verdict {
     NotKept,
     /// The first member whose name stands earlier in the list.
     RepeatedMember(usize),
+    /// The first precedence of the certificate, by position, whose earlier name doesn't stand before
+    /// its later one in the list of members: one of them is no member's, they are one name, or they
+    /// stand the other way round.
+    NotBefore(usize),
     /// The first member whose name is that of no workspace.
     NoWorkspace(usize),
     /// The first member that isn't a child of the root.

@@ -1,11 +1,15 @@
 -- The command line: subcommands, each with its values.
 use Rattle.std.specs.Prelude.{codes}
 use Rattle.clap.specs.Words.{App, Rule, Text, new_app, with_rule, with_subcommand}
-use Rattle.clr_command_line.specs.Tables.{demanding, value, values}
+use Rattle.clr_command_line.specs.Tables.{demanding, flag, value, values}
 
 -- names at the end, none or more
 abbrev pub name_arguments : Rule
 name_arguments = values (codes "NAME")
+
+-- the option by which members are merged in the order in which they are named
+abbrev pub in_order : Rule
+in_order = flag (codes "in-order")
 
 -- a subcommand over an office text
 abbrev pub database_command : Text → App
@@ -18,10 +22,10 @@ abbrev pub run_subcommand : App
 run_subcommand = with_rule (database_command (codes "run")) (value (codes "SCRIPT"))
 
 abbrev pub plan : App
-plan = with_rule (database_command (codes "plan")) name_arguments
+plan = with_rule (with_rule (database_command (codes "plan")) in_order) name_arguments
 
 abbrev pub plan_under : App
-plan_under = with_rule (with_rule (database_command (codes "planunder")) (value (codes "ROOT"))) name_arguments
+plan_under = with_rule (with_rule (with_rule (database_command (codes "planunder")) (value (codes "ROOT"))) in_order) name_arguments
 
 abbrev pub check : App
 check = with_rule (database_command (codes "check")) (value (codes "CERT"))

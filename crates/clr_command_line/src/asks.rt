@@ -9,6 +9,15 @@ use clap::error::ErrorKind;
 use clr_rows::{Names, Words};
 use std::alloc::{AllocError, AllocFailed};
 
+/// The orders in which members are to be merged.
+#[derive(Clone, Copy, Debug, PartialEq, Eq)]
+pub enum Orders {
+    /// Every order.
+    Every,
+    /// The order in which they are named.
+    AsNamed,
+}
+
 /// What words ask of an office text, and of a second text where there is one.
 #[derive(Debug, Drop)]
 pub enum Ask {
@@ -16,10 +25,10 @@ pub enum Ask {
     Audit,
     /// What the steps of a script print; the second text is the script.
     Run,
-    /// Whether these children of LIVE can be merged in every order.
-    Plan(Names),
-    /// Whether these children of a root can be merged in every order: the root, and the children.
-    PlanUnder(Words, Names),
+    /// Whether these children of LIVE can be merged in these orders.
+    Plan(Orders, Names),
+    /// Whether these children of a root can be merged in these orders: the root, and the children.
+    PlanUnder(Orders, Words, Names),
     /// Whether a certificate clears its members; the second text is the certificate.
     Check,
     /// The merges of these workspaces in this order, by a certificate that clears its members; the

@@ -30,7 +30,8 @@ const PLAN_PRINTS: &str = "It prints one of these:
   cleared N  and the lines of a certificate with N needs, with status 0; without names it is cleared
   blocked N  and the names of N workspaces: merged in this order, one of them is refused;
              then the cause, with status 1
-  unfit      and what is wrong with a name, with status 1";
+  unfit      and what is wrong with a name, with status 1
+With --in-order it is cleared where no merge is refused when they are merged as they are named.";
 
 const CHECK_PRINTS: &str =
     "It prints `clear`, with status 0, or the first test that the certificate fails, with status 1.";
@@ -50,12 +51,17 @@ const SCRIPT: Argument<'static> = Argument::Value(
     "SCRIPT",
     "The file of the script, a CSV record for each step: create, remove, apply, mark, unmark, rollto, \
      rollall, refresh, merge, resolve, hold, release, show, changes, conflicts, audit, workspaces, \
-     dump, plan, planunder, independence, independenceunder",
+     dump, plan, planunder, planinorder, planinorderunder, independence, independenceunder",
 );
 
 const ROOT: Argument<'static> = Argument::Value(
     "ROOT",
     "The workspace above them, which keeps every rule",
+);
+
+const IN_ORDER: Argument<'static> = Argument::Flag(
+    "in-order",
+    "Ask only for the order in which they are named",
 );
 
 const PLANNED: Argument<'static> = Argument::Values("NAME", "The workspaces that are to be merged");
@@ -88,13 +94,13 @@ const OFFICE: ProgramTable<'static> = ProgramTable {
             name: "plan",
             about: "Says whether children of LIVE can be merged in every order, and prints a certificate if so",
             prints: PLAN_PRINTS,
-            arguments: &[DATABASE, PLANNED],
+            arguments: &[DATABASE, IN_ORDER, PLANNED],
         },
         Subcommand {
             name: "planunder",
             about: "Says whether children of another workspace can be merged into it in every order",
             prints: PLAN_PRINTS,
-            arguments: &[DATABASE, ROOT, PLANNED],
+            arguments: &[DATABASE, ROOT, IN_ORDER, PLANNED],
         },
         Subcommand {
             name: "check",

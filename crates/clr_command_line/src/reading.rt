@@ -2,25 +2,31 @@
 
 ghost use Rattle.std.specs.Prelude.{◌≡◌, Some, IfOk, IfErr, codes, is_some, map, true};
 ghost use Rattle.clap.specs.Words.{found_of, rows_of, subcommand_of, takes};
-ghost use Rattle.clr_command_line.specs.Asks.{IsMemory, ask_of, ask_by_name, given_names, given_value};
-ghost use Rattle.clr_command_line.specs.declared.asks.Ask.TheVariants.{PlanUnder};
+ghost use Rattle.clr_command_line.specs.Asks.{IsMemory, ask_of, ask_by_name, plan_ask, plan_under_ask};
 ghost use Rattle.clr_command_line.specs.Program.{program};
 
 use crate::asks::{Ask, AskFault};
 use crate::command::whole_command;
-use crate::values::{database, database_with, names, value};
+use crate::values::{database, database_with, names, orders, value};
 use clap::ArgMatches;
 use clr_rows::Words;
 use std::alloc::{AllocError, Global};
 
+/// Returns what `plan` asks for.
+fn plan(alloc: Global, matches: &ArgMatches) -> Result<Ask, AllocError>
+    ensures { IfOk result (λ ask. ask ≡ plan_ask (rows_of (found_of matches.now))) }
+{
+    let names = names(alloc, matches)?;
+    Ok(Ask::Plan(orders(matches), names))
+}
+
 /// Returns what `planunder` asks for.
 fn plan_under(alloc: Global, matches: &ArgMatches) -> Result<Ask, AllocError>
-    ensures { IfOk result (λ ask. ask
-        ≡ PlanUnder (given_value (codes "ROOT") (rows_of (found_of matches.now))) (given_names (rows_of (found_of matches.now)))) }
+    ensures { IfOk result (λ ask. ask ≡ plan_under_ask (rows_of (found_of matches.now))) }
 {
     let root = value(alloc, matches, "ROOT")?;
     let names = names(alloc, matches)?;
-    Ok(Ask::PlanUnder(root, names))
+    Ok(Ask::PlanUnder(orders(matches), root, names))
 }
 
 /// Returns what a subcommand asks for, and its files.
@@ -36,7 +42,7 @@ fn ask_of_subcommand(
     let (ask, files) = match name {
         "audit" => (Ask::Audit, database(alloc, matches)),
         "run" => (Ask::Run, database_with(alloc, matches, "SCRIPT")),
-        "plan" => (Ask::Plan(names(alloc, matches)?), database(alloc, matches)),
+        "plan" => (plan(alloc, matches)?, database(alloc, matches)),
         "planunder" => (plan_under(alloc, matches)?, database(alloc, matches)),
         "check" => (Ask::Check, database_with(alloc, matches, "CERT")),
         "merge" => (
@@ -52,7 +58,7 @@ fn ask_of_subcommand(
 /// the files that it is asked of: that of the office text, and then that of the script or the
 /// certificate where there is one. The subcommands are `audit DB`, `run DB SCRIPT`, `plan DB NAME..`,
 /// `planunder DB ROOT NAME..`, `check DB CERT` and `merge DB CERT NAME..`, each with none or more
-/// names.
+/// names. In `plan` and `planunder` the option `--in-order` asks for the order of the names alone.
 ///
 /// Fails with `Refused` where the words name no subcommand or another count of values than it has,
 /// or ask for help, as `help`, `--help` and `-h`, or for the version, as `--version` and `-V`; and

@@ -1,8 +1,9 @@
 //! What `clap` found in words: values, names and files.
 ghost use Rattle.std.specs.Prelude.{◌≡◌, IfOk, map};
 ghost use Rattle.clap.specs.Words.{found_of, rows_of};
-ghost use Rattle.clr_command_line.specs.Asks.{database_and, database_of, given_names, given_value};
+ghost use Rattle.clr_command_line.specs.Asks.{database_and, database_of, given_names, given_orders, given_value, is_set};
 
+use crate::asks::Orders;
 use clap::ArgMatches;
 use clr_rows::{Names, Words};
 use std::alloc::{AllocError, Global};
@@ -14,6 +15,28 @@ pub(crate) fn value(alloc: Global, matches: &ArgMatches, id: &str) -> Result<Wor
     match matches.get_str(id) {
         Some(text) => Words::from_str(alloc, text),
         None => Ok(Words::new(String::new(alloc))),
+    }
+}
+
+/// Returns whether an option without a value is given.
+pub fn is_set(matches: &ArgMatches, name: &str) -> bool
+    ensures { result ≡ is_set name.now (rows_of (found_of matches.now)) }
+{
+    match matches.get_str(name) {
+        Some(value) => value == "true",
+        None => false,
+    }
+}
+
+/// Returns the orders that are asked for: that of the names where the option `in-order` is given, and
+/// else every order.
+pub(crate) fn orders(matches: &ArgMatches) -> Orders
+    ensures { result ≡ given_orders (rows_of (found_of matches.now)) }
+{
+    if is_set(matches, "in-order") {
+        Orders::AsNamed
+    } else {
+        Orders::Every
     }
 }
 

@@ -35,7 +35,7 @@ use Rattle.clr_designs.proofs.PerformLemmas.{not_refused}
 -- one more workspace at the end ------------------------------------------------------------------
 
 module _ (name : Name) (leaf : Workspace) (named : same_name name leaf.name ≡ true) where
-  found_last : (ws : List Workspace) → find_name name ws ≡ None → find_name name (ws ++ leaf ∷ []) ≡ Some leaf
+  pub found_last : (ws : List Workspace) → find_name name ws ≡ None → find_name name (ws ++ leaf ∷ []) ≡ Some leaf
   found_last [] none = ap (λ b. cond b (Some leaf) None) named
   found_last (w ∷ ws) none = by (same_name name w.name) none (found_last ws)
     where
@@ -70,11 +70,11 @@ module _ (o : Office) (name : Name) (may : design_refusal o name ≡ None) where
   unfolding refusal
   free = third_passed (not (stands o live_name)) (not (is_good_name name)) (stands o name) (is_full o || is_deep o live_name) may
 
-  not_live : is_live name ≡ false
+  pub not_live : is_live name ≡ false
   unfolding stands
   not_live = (or_parts (is_live name) (is_some (find_name name o.workspaces)) free).0
 
-  not_found : find_name name o.workspaces ≡ None
+  pub not_found : find_name name o.workspaces ≡ None
   unfolding stands
   not_found = nothing (find_name name o.workspaces) (or_parts (is_live name) (is_some (find_name name o.workspaces)) free).1
 

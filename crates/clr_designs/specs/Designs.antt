@@ -30,9 +30,13 @@ design_commands name edits = Create name live_name ∷ Apply name edits ∷ []
 abbrev pub design_of : Name → Content → Content → Workspace
 design_of name live content = record { name = name; parent = live_name; base = live; current = content; marks = []; kept = false }
 
--- an office with the workspace of a design behind the others; LIVE and the others are as they were
+-- an office with the workspace of a design behind the others, which took over a copied content; LIVE and the others are as they were
+abbrev pub with_design_over : Office → Name → Content → Content → Office
+with_design_over o name copied content = with_workspaces o (o.workspaces ++ design_of name copied content ∷ [])
+
+-- the same with a design that took over LIVE's content
 abbrev pub with_design : Office → Name → Content → Office
-with_design o name content = with_workspaces o (o.workspaces ++ design_of name o.live content ∷ [])
+with_design o name content = with_design_over o name o.live content
 
 -- why a design of this name can't be made: its workspace can't be created
 abbrev pub design_refusal : Office → Name → Option Reply

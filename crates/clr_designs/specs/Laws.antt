@@ -11,7 +11,8 @@ use Rattle.clr_steps.specs.Invariants.{OfficeFits}
 use Rattle.clr_steps.specs.Offices.{Office}
 use Rattle.clr_layer_changes.specs.Changes.{edits_between}
 use Rattle.clr_designs.specs.ReadBack.{Fits}
-use Rattle.clr_designs.specs.Designs.{AreDone, design_refusal, with_design}
+use Rattle.clr_designs.specs.Designs.{AreDone, design_refusal, with_design, with_design_over}
+use Rattle.clr_designs.specs.Since.{IsMadeSince}
 
 -- the edits that lead from one content to another fit the schema, if both contents do
 abbrev pub EditsFitLaw : Type 0
@@ -23,3 +24,10 @@ abbrev pub DesignLaw : Type 0
 DesignLaw = (o : Office) (name : Name) (content : Content)
     → IsSound (live_workspace o.live ∷ o.workspaces) → OfficeFits o → FitsSchema o.schema content → design_refusal o name ≡ None
     → AreDone o name content (with_design o name content)
+
+-- where the workspace of a design may be created, an office with a design that took over a copied content is one in which the design was made where LIVE
+-- had that content, and LIVE has moved on since
+abbrev pub SinceLaw : Type 0
+SinceLaw = (o : Office) (name : Name) (copied content : Content)
+    → IsSound (live_workspace o.live ∷ o.workspaces) → OfficeFits o → FitsSchema o.schema copied → FitsSchema o.schema content
+    → design_refusal o name ≡ None → IsMadeSince o name copied content (with_design_over o name copied content)

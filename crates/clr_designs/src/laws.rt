@@ -1,6 +1,6 @@
 //! The laws of designs and of the scripts that make them, proved by functions that do nothing.
 
-ghost use Rattle.clr_designs.specs.Laws.{DesignLaw, EditsFitLaw};
+ghost use Rattle.clr_designs.specs.Laws.{DesignLaw, EditsFitLaw, SinceLaw};
 ghost use Rattle.clr_designs.specs.ReadBack.{ReadBackLaw};
 
 /// Where a workspace may be created under LIVE, the command that creates it and the one that makes in it the edits between LIVE's content and
@@ -9,6 +9,13 @@ ghost use Rattle.clr_designs.specs.ReadBack.{ReadBackLaw};
 pub fn designs_are_made()
     ensures made { DesignLaw }
     ensures fit { EditsFitLaw }
+{}
+
+/// An office with a design that took over a copied content of LIVE is the office in which the design was made where LIVE had that content, and
+/// LIVE has moved on since to what it is: over that content both commands are done. The design changes just what its content changes of the
+/// copied one, and is in conflict just at the cells that LIVE changed too.
+pub fn designs_were_made_since()
+    ensures { SinceLaw }
 {}
 
 /// The text of the script that makes a design is read as the two steps that make it: one that

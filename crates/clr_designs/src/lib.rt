@@ -5,15 +5,20 @@
 //! - `replace_live` makes the edits in LIVE that lead to a content, unless that breaks a rule (`IsLiveReplaced`).
 //! - `designs_are_made`: the law that both commands are done, and what they leave; and that their edits fit the schema, so that the script which is
 //!   written of them is read back.
+//! - `designs_were_made_since`: the law that an office with a design which took over a copied content of LIVE is the one in which the design was made
+//!   where LIVE had that content, and LIVE has moved on since (`IsMadeSince`).
+//! - `edit_counts_line` tells how many rows edits add, change and remove, and `first_removed` the first that they remove.
 //! - `write_design_script` [`written`, `read_back`] writes that script from the design's name, its root and its edits: the exact bytes, memory
 //!   aside. Where each edit fits the schema, they are read as the two steps that make the design. `design_script_is_read_back`: the law that every
 //!   such text is read as these two steps.
 #![tactic(auto)]
 
+mod counts;
 mod designs;
 mod laws;
 mod writing;
 
+pub use counts::{edit_counts_line, first_removed};
 pub use designs::{make_design, replace_live};
-pub use laws::{design_script_is_read_back, designs_are_made};
+pub use laws::{design_script_is_read_back, designs_are_made, designs_were_made_since};
 pub use writing::write_design_script;

@@ -8,3 +8,4 @@ mod PlaceLemmas
 mod Positions
 mod ShownSets
 mod Trying
+mod Untorn

@@ -12,7 +12,9 @@ use Rattle.clr_desk_command_line.specs.declared.asks.DeskAsk.TheVariants as ask
 use Rattle.clr_desk_command_line.specs.declared.asks.GeographicAsk.{GeographicAsk}
 use Rattle.clr_desk_command_line.specs.declared.asks.GeographicAsk.TheVariants as geographic
 use Rattle.clr_desk_layers.specs.Designs.{IsAcceptedOfficePrint, IsDesignPrint, IsDesignScriptPrint, IsOfficePrint}
-use Rattle.clr_desk_layers.specs.Designs.{IsPrintOfAccepted, IsPrintOfDesign, IsPrintOfLive, IsPrintOfScript}
+use Rattle.clr_desk_layers.specs.Designs.{IsPrintOfAccepted, IsPrintOfLive, IsPrintOfScript}
+use Rattle.clr_desk_layers.specs.Counted.{IsCounted}
+use Rattle.clr_desk_layers.specs.Since.{IsDesignSincePrint, IsSincePrint}
 use Rattle.clr_desk_errors.specs.Accepting.{IsAcceptPrint}
 use Rattle.clr_desk_errors.specs.Mended.{IsMendedPrint}
 use Rattle.clr_desk_prints.specs.Members.{set_asked}
@@ -23,33 +25,41 @@ use Rattle.clr_desk.specs.Certificates.{IsCertificatePrint}
 use Rattle.clr_desk.specs.Checks.{IsCheckPrint}
 use Rattle.clr_desk.specs.Choices.{IsChoicePrint}
 use Rattle.clr_desk.specs.Formats.{IsFormatPrint}
-use Rattle.clr_desk.specs.Geographic.{IsGeographicAnswer, options_of}
+use Rattle.clr_desk.specs.Geographic.{IsGeographicAnswer, design_options, options_of}
 use Rattle.clr_desk.specs.Merges.{IsHintedMerge, IsMergePrintout}
 use Rattle.clr_desk.specs.OneAnswer.{IsOnePrint, OneDeskAnswerLaw, is_whole, is_whole_layer}
 use Rattle.clr_desk.proofs.OneAnswer.{one_accept_print, one_accepted, one_mended_print}
-use Rattle.clr_desk.proofs.OneAnswer.{one_check_print, one_design, one_design_script, one_format_print, one_live, one_merge_print, one_of_layers}
+use Rattle.clr_desk.proofs.OneAnswer.{one_check_print, one_counted, one_design_script, one_format_print, one_live, one_merge_print, one_of_layers}
+use Rattle.clr_desk.proofs.OneAnswer.{one_over, one_since}
 use Rattle.clr_desk.proofs.OneAnswer.{one_plan_print}
 use Rattle.clr_desk.proofs.OneChoice.{one_choice_print}
 use Rattle.clr_desk.proofs.OnePrint.{one_hinted, one_in, one_of_case, one_of_draft}
 
-one_geographic : (asked : GeographicAsk) (office : List ℕ) (layers : List GivenLayer) → is_whole_layer asked ≡ true
-    → IsOnePrint (IsGeographicAnswer asked office layers)
-one_geographic (geographic.Features root names system) office layers whole = absurd (false≢true whole)
-one_geographic (geographic.Layer table workspace) office layers whole = absurd (false≢true whole)
-one_geographic (geographic.ErrorFeatures system) office layers whole = absurd (false≢true whole)
-one_geographic (geographic.AcceptedOffice tables rounded) office layers whole =
-    one_of_draft (IsAcceptedOfficePrint (options_of 1 rounded) layers) (λ o. one_of_layers (options_of 1 rounded) layers IsPrintOfAccepted one_accepted o)
-    (draft_in office)
-one_geographic (geographic.Office tables rounded) office layers whole =
-    one_in (IsOfficePrint (options_of 1 rounded) layers) (λ o. one_of_layers (options_of 1 rounded) layers IsPrintOfLive one_live o) (opened_in office)
-one_geographic (geographic.Design design) office layers whole =
-    let options = options_of design.first_key design.is_rounded in
-    one_in (IsDesignPrint design.name options layers) (λ o. one_of_layers options layers (IsPrintOfDesign design.name) (one_design design.name) o)
+one_geographic : (asked : GeographicAsk) (office second : List ℕ) (layers : List GivenLayer) → is_whole_layer asked ≡ true
+    → IsOnePrint (IsGeographicAnswer asked office second layers)
+one_geographic (geographic.Features root names system) office second layers whole = absurd (false≢true whole)
+one_geographic (geographic.Layer table workspace) office second layers whole = absurd (false≢true whole)
+one_geographic (geographic.ErrorFeatures system) office second layers whole = absurd (false≢true whole)
+one_geographic (geographic.AcceptedOffice tables rounded) office second layers whole =
+    one_of_draft (IsAcceptedOfficePrint (options_of 1 rounded) layers)
+    (λ o. one_of_layers (options_of 1 rounded) layers IsPrintOfAccepted one_accepted o o.live o.live) (draft_in office)
+one_geographic (geographic.Office tables rounded) office second layers whole =
+    one_in (IsOfficePrint (options_of 1 rounded) layers) (λ o. one_of_layers (options_of 1 rounded) layers IsPrintOfLive one_live o o.live o.live)
     (opened_in office)
-one_geographic (geographic.DesignScript design) office layers whole =
-    let options = options_of design.first_key design.is_rounded in
-    one_in (IsDesignScriptPrint design.name options layers)
-    (λ o. one_of_layers options layers (IsPrintOfScript design.name) (one_design_script design.name) o) (opened_in office)
+one_geographic (geographic.Design design) office second layers whole =
+    one_in (IsDesignPrint design.name (design_options design) design.may_remove layers)
+    (λ o. one_over design.name (design_options design) design.may_remove layers o o.live o.live) (opened_in office)
+one_geographic (geographic.DesignSince design) office copied layers whole =
+    one_in (IsDesignSincePrint copied design.name (design_options design) design.may_remove layers)
+    (λ o. one_of_draft (IsSincePrint design.name (design_options design) design.may_remove layers o)
+    (one_since design.name (design_options design) design.may_remove layers o) (draft_in copied))
+    (opened_in office)
+one_geographic (geographic.DesignScript design) office second layers whole =
+    let may_remove = design.may_remove in
+    one_in (IsDesignScriptPrint design.name (design_options design) may_remove layers)
+    (λ o. one_of_layers (design_options design) layers (IsCounted may_remove o.live (IsPrintOfScript design.name))
+    (one_counted may_remove o.live (IsPrintOfScript design.name) (one_design_script design.name)) o o.live o.live)
+    (opened_in office)
 
 one_within : (asked : DeskAsk) (office second : List ℕ) (layers : List GivenLayer) → is_whole asked ≡ true
     → IsOnePrint (IsDeskAnswerWithin asked office second layers)
@@ -68,11 +78,12 @@ one_within (ask.Keep root names) office second layers whole =
     one_in (IsHinted (IsChoicePrint root names) (root ∷ names))
     (λ o. one_hinted (IsChoicePrint root names) (root ∷ names) o (one_choice_print o root names)) (opened_in office)
 one_within (ask.Clashes root names) office second layers whole = absurd (false≢true whole)
+one_within (ask.InOrder asked root names) office second layers whole = absurd (false≢true whole)
 one_within (ask.Why kind) office second layers whole = absurd (false≢true whole)
 one_within (ask.WorkOrder root names) office second layers whole = absurd (false≢true whole)
 one_within (ask.Map root names) office second layers whole = absurd (false≢true whole)
 one_within (ask.Report root names) office second layers whole = absurd (false≢true whole)
-one_within (ask.Geographic asked) office second layers whole = one_geographic asked office layers whole
+one_within (ask.Geographic asked) office second layers whole = one_geographic asked office second layers whole
 
 one_if : (too_long : Bool) (asked : DeskAsk) (office second : List ℕ) (layers : List GivenLayer) → is_whole asked ≡ true
     → IsOnePrint (IsDeskAnswerIf too_long asked office second layers)

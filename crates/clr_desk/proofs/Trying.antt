@@ -10,7 +10,8 @@ use Rattle.clr_merge_sets.specs.declared.plans.Plan.TheVariants as plan
 use Rattle.clr_choices.specs.Clearable.{IsPlanOf}
 use Rattle.clr_choices.specs.Progress.{IsChosen}
 use Rattle.clr_choices.specs.declared.choices.Choice.{Choice}
-use Rattle.clr_desk.specs.Choices.{IsChoicePrint, names_line, of_trials}
+use Rattle.clr_desk.specs.Choices.{IsChoicePrint, of_trials}
+use Rattle.clr_desk_orders.specs.ChoicePrints.{names_line}
 use Rattle.clr_desk_prints.specs.Members.{members_or_children}
 use Rattle.clr_desk_prints.specs.Printing.{printed, printout_of}
 use Rattle.clr_desk_prints.specs.declared.prints.Print.{Print}

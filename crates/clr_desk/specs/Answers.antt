@@ -17,6 +17,7 @@ use Rattle.clr_desk.specs.Choices.{IsChoicePrint}
 use Rattle.clr_desk.specs.Clashes.{IsClashesPrint}
 use Rattle.clr_desk.specs.Formats.{IsFormatPrint}
 use Rattle.clr_desk.specs.Geographic.{IsGeographicAnswer}
+use Rattle.clr_desk.specs.InOrder.{IsInOrderPrint}
 use Rattle.clr_desk.specs.Merges.{IsHintedMerge}
 use Rattle.clr_desk_prints.specs.NameHints.{IsHinted}
 use Rattle.clr_desk.specs.Orders.{IsOrderPrint}
@@ -41,6 +42,8 @@ IsDeskAnswerWithin ask.Errors office second layers print = IsPrintoutOfDraft (Is
 IsDeskAnswerWithin (ask.Keep root names) office second layers print = IsPrintoutIn (IsHinted (IsChoicePrint root names) (root ∷ names)) (opened_in office) print
 IsDeskAnswerWithin (ask.Clashes root names) office second layers print =
     IsPrintoutIn (IsHinted (IsClashesPrint root names) (root ∷ names)) (opened_in office) print
+IsDeskAnswerWithin (ask.InOrder asked root names) office second layers print =
+    IsPrintoutIn (IsHinted (IsInOrderPrint asked root names) (root ∷ names)) (opened_in office) print
 IsDeskAnswerWithin (ask.Why kind) office second layers print = IsWhyPrint kind office second print
 IsDeskAnswerWithin (ask.Map root names) office second layers print =
     IsPrintoutIn (IsHinted (IsMapPrint root names) (root ∷ names)) (opened_in office) print
@@ -48,7 +51,7 @@ IsDeskAnswerWithin (ask.Report root names) office second layers print =
     IsPrintoutIn (IsHinted (IsReportPrint root names) (root ∷ names)) (opened_in office) print
 IsDeskAnswerWithin (ask.WorkOrder root names) office second layers print =
     IsPrintoutIn (IsHinted (IsOrderPrint root names) (root ∷ names)) (opened_in office) print
-IsDeskAnswerWithin (ask.Geographic asked) office second layers print = IsGeographicAnswer asked office layers print
+IsDeskAnswerWithin (ask.Geographic asked) office second layers print = IsGeographicAnswer asked office second layers print
 
 -- what is answered, where it is given whether a text is too long
 abbrev pub IsDeskAnswerIf : Bool → DeskAsk → List ℕ → List ℕ → List GivenLayer → PrintoutOrFault → Type 0

@@ -4,7 +4,7 @@ use Rattle.clr_steps.specs.Offices.{Office}
 use Rattle.clr_clearance.specs.declared.verdicts.Verdict.{Verdict}
 use Rattle.clr_cert.specs.declared.certificates.Certificate.{Certificate}
 use Rattle.clr_check.specs.TextChecks.{IsCheckedVerdict}
-use Rattle.clr_lines.specs.Verdicts.{verdict_text}
+use Rattle.clr_lines.specs.Verdicts.{verdict_text_in_turn}
 use Rattle.clr_office.specs.Clearances.{is_clear, is_without_memory}
 use Rattle.clr_desk_prints.specs.Printing.{PrintoutOrFault, printout_of}
 
@@ -23,7 +23,7 @@ remark_on c =
 
 -- the line of the verdict, and as a note whom the certificate speaks of; a verdict that isn't clear, and one on nobody, counts as a refusal
 abbrev pub check_print : Office → Certificate → Verdict → PrintoutOrFault
-check_print o c v = printout_of (verdict_text o.schema c.members c.root v) (remark_on c) (not (is_clear v) || names_nobody c) false
+check_print o c v = printout_of (verdict_text_in_turn o.schema c.members c.before c.root v) (remark_on c) (not (is_clear v) || names_nobody c) false
 
 -- of the verdict on a certificate, for which memory was found
 abbrev pub IsCheckPrint : Office → Certificate → PrintoutOrFault → Type 0

@@ -18,8 +18,8 @@ use Rattle.clr_merge_clashes.specs.Laws.{ArePositions, AreSmallestSets, HoldNoSe
 use Rattle.clr_merge_clashes.specs.MergeClashes.{FindsClashes}
 use Rattle.clr_merge_clashes.specs.declared.clash_sets.MergeClash.{MergeClash}
 use Rattle.clr_merge_clashes.specs.declared.clash_sets.MergeClashes.{MergeClashes}
-use Rattle.clr_desk.specs.Certificates.{plan_print}
-use Rattle.clr_desk.specs.Choices.{names_line}
+use Rattle.clr_desk_orders.specs.ChoicePrints.{names_line}
+use Rattle.clr_desk_orders.specs.PlanPrints.{plan_print}
 use Rattle.clr_desk_prints.specs.Members.{set_asked}
 use Rattle.clr_desk_prints.specs.Printing.{PrintoutOrFault, printout_of}
 

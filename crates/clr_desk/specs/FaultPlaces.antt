@@ -32,8 +32,14 @@ abbrev pub IsCertificatePlaceOver : List ℕ → Name → List ℕ → Result Of
 IsCertificatePlaceOver text file line (Ok o) = IsCertificatePlace o.schema text file line (certificate_in o.schema text)
 IsCertificatePlaceOver text file line (Err e) = line ≡ []
 
--- of the fault of an office text its place in this text, of that of a certificate its place in the second text, and nothing of any other fault
+-- the place and the sentence of the fault of an office text, or else of the second, where that is read as one too; and nothing where both are offices
+abbrev pub IsPlaceInOffices : List Name → List ℕ → List ℕ → List ℕ → Result Office TextFault → Type 0
+IsPlaceInOffices files office second line (Ok o) = IsOfficePlace second (file_name files 1) line (draft_in second)
+IsPlaceInOffices files office second line (Err e) = IsShortOfficeFault office (file_name files 0) line
+
+-- of the fault of an office text its place in this text, or else in the second, of that of a certificate its place in the second text, and nothing of any
+-- other fault
 abbrev pub IsFaultPlace : RunFault → List Name → List ℕ → List ℕ → List ℕ → Type 0
-IsFaultPlace (run_fault.BadOffice e) files office second line = IsOfficePlace office (file_name files 0) line (draft_in office)
+IsFaultPlace (run_fault.BadOffice e) files office second line = IsPlaceInOffices files office second line (draft_in office)
 IsFaultPlace (run_fault.BadCertificate number e) files office second line = IsCertificatePlaceOver second (file_name files 1) line (draft_in office)
 IsFaultPlace _ files office second line = line ≡ []

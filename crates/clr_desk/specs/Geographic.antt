@@ -9,6 +9,8 @@ use Rattle.clr_layer_changes.specs.declared.options.LayerOptions.{LayerOptions}
 use Rattle.clr_desk_errors.specs.Accepting.{IsPrintoutOfDraft}
 use Rattle.clr_desk_errors.specs.ErrorFeatures.{IsErrorFeaturesAnswer}
 use Rattle.clr_desk_layers.specs.Designs.{IsAcceptedOfficePrint, IsDesignPrint, IsDesignScriptPrint, IsOfficePrint}
+use Rattle.clr_desk_layers.specs.Since.{IsDesignSincePrint}
+use Rattle.clr_desk_command_line.specs.declared.asks.DesignAsk.{DesignAsk}
 use Rattle.clr_desk_pages.specs.Features.{IsFeaturesAnswer}
 use Rattle.clr_desk_layers.specs.Layers.{IsLayerPrint}
 use Rattle.clr_desk_prints.specs.NameHints.{IsHinted}
@@ -18,16 +20,23 @@ use Rattle.clr_desk_prints.specs.Printing.{IsPrintoutIn, PrintoutOrFault}
 abbrev pub options_of : ℕ → Bool → LayerOptions
 options_of first_key rounded = record { first_key = first_key; rounded = rounded }
 
--- what is to be printed for what is asked of an office text and layers
-abbrev pub IsGeographicAnswer : GeographicAsk → List ℕ → List GivenLayer → PrintoutOrFault → Type 0
-IsGeographicAnswer (ask.Features root names system) office layers print = IsFeaturesAnswer root names system (opened_in office) print
-IsGeographicAnswer (ask.Layer table workspace) office layers print =
+-- the layers of a design are read so
+abbrev pub design_options : DesignAsk → LayerOptions
+design_options design = options_of design.first_key design.is_rounded
+
+-- what is to be printed for what is asked of an office text, a second one, which is that of the office from which layers were copied, and layers
+abbrev pub IsGeographicAnswer : GeographicAsk → List ℕ → List ℕ → List GivenLayer → PrintoutOrFault → Type 0
+IsGeographicAnswer (ask.Features root names system) office second layers print = IsFeaturesAnswer root names system (opened_in office) print
+IsGeographicAnswer (ask.Layer table workspace) office second layers print =
     IsPrintoutIn (IsHinted (IsLayerPrint table workspace) (workspace ∷ [])) (opened_in office) print
-IsGeographicAnswer (ask.Office tables rounded) office layers print = IsPrintoutIn (IsOfficePrint (options_of 1 rounded) layers) (opened_in office) print
-IsGeographicAnswer (ask.AcceptedOffice tables rounded) office layers print =
+IsGeographicAnswer (ask.Office tables rounded) office second layers print =
+    IsPrintoutIn (IsOfficePrint (options_of 1 rounded) layers) (opened_in office) print
+IsGeographicAnswer (ask.AcceptedOffice tables rounded) office second layers print =
     IsPrintoutOfDraft (IsAcceptedOfficePrint (options_of 1 rounded) layers) (draft_in office) print
-IsGeographicAnswer (ask.ErrorFeatures system) office layers print = IsErrorFeaturesAnswer (known_in office) system (draft_in office) print
-IsGeographicAnswer (ask.Design design) office layers print =
-    IsPrintoutIn (IsDesignPrint design.name (options_of design.first_key design.is_rounded) layers) (opened_in office) print
-IsGeographicAnswer (ask.DesignScript design) office layers print =
-    IsPrintoutIn (IsDesignScriptPrint design.name (options_of design.first_key design.is_rounded) layers) (opened_in office) print
+IsGeographicAnswer (ask.ErrorFeatures system) office second layers print = IsErrorFeaturesAnswer (known_in office) system (draft_in office) print
+IsGeographicAnswer (ask.Design design) office second layers print =
+    IsPrintoutIn (IsDesignPrint design.name (design_options design) design.may_remove layers) (opened_in office) print
+IsGeographicAnswer (ask.DesignSince design) office copied layers print =
+    IsPrintoutIn (IsDesignSincePrint copied design.name (design_options design) design.may_remove layers) (opened_in office) print
+IsGeographicAnswer (ask.DesignScript design) office second layers print =
+    IsPrintoutIn (IsDesignScriptPrint design.name (design_options design) design.may_remove layers) (opened_in office) print

@@ -8,7 +8,7 @@ use Rattle.clr_layer_changes.specs.declared.options.GivenLayer.{GivenLayer}
 use Rattle.clr_desk_prints.specs.Printing.{PrintoutOrFault}
 use Rattle.clr_desk.specs.Answers.{IsDeskAnswerTo}
 
--- what is asked has an answer that its definition tells whole; of clashes, errors, faults, sentences, pictures, pages, features and layers it
+-- what is asked has an answer that its definition tells whole; of clashes, orders, errors, faults, sentences, pictures, pages, features and layers it
 -- leaves something open
 abbrev pub is_whole_layer : GeographicAsk → Bool
 is_whole_layer (geographic.Features root names system) = false
@@ -18,6 +18,7 @@ is_whole_layer _ = true
 
 abbrev pub is_whole : DeskAsk → Bool
 is_whole (ask.Clashes root names) = false
+is_whole (ask.InOrder asked root names) = false
 is_whole (ask.Why kind) = false
 is_whole ask.Errors = false
 is_whole (ask.WorkOrder root names) = false

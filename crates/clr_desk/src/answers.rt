@@ -13,6 +13,7 @@ use crate::choices::answer_keep;
 use crate::clashes::answer_clashes;
 use crate::formats::answer_format;
 use crate::geographic::answer_geographic;
+use crate::in_order::answer_in_order;
 use crate::merges::answer_merge;
 use crate::orders::answer_work_order;
 use crate::whys::answer_why;
@@ -51,8 +52,15 @@ fn answer_texts(
             root.as_str(),
             names.as_slice(),
         ),
+        DeskAsk::InOrder(ask, root, names) => answer_in_order(
+            alloc,
+            ask,
+            office,
+            root.as_str(),
+            names.as_slice(),
+        ),
         DeskAsk::Why(kind) => answer_why(alloc, kind, office, second),
-        DeskAsk::Geographic(ask) => answer_geographic(alloc, ask, office, layers),
+        DeskAsk::Geographic(ask) => answer_geographic(alloc, ask, office, second, layers),
         DeskAsk::Map(root, names) => answer_map(alloc, office, root.as_str(), names.as_slice()),
         DeskAsk::Report(root, names) => answer_report(
             alloc,
@@ -76,14 +84,14 @@ fn is_any_too_long(layers: &[GivenLayer]) -> bool
 }
 
 /// Writes what is to be printed for what is asked of an office text, of a second text, which is the
-/// script or the certificate where there is one, and of layers, where they are asked for, each with its
+/// script, the certificate or the office that was copied where there is one, and of layers, where they are asked for, each with its
 /// table: the notes by one put, and then the text by another.
 /// Returns the exit status: 0 all done or cleared, or no fault; 1 something refused, members that can't be
 /// merged in every order, or a rule that doesn't hold; 2 a fault, where `why` asks for it, or the fault of
 /// a layer; 3 a plan, a verdict or a merge found no memory, and then there is no text. Where a rule doesn't hold the line that
 /// says so is the only note, and there is no text, unless `why` asks for it. The first fault that applies
 /// answers, and nothing is written then, unless a sink failed. Fails with `TooLong` where a text or a layer has more
-/// than `MOST_INPUT_BYTES`, with `BadOffice` where the first text is no office, with `BadCertificate` where
+/// than `MOST_INPUT_BYTES`, with `BadOffice` where the first text is no office, or the second where it is asked for as one, with `BadCertificate` where
 /// the second is no certificate, neither of them for `why`, and with `WriteFailed` where a sink fails:
 /// where it is that of the notes, nothing went to that of the text; how much else went out is not known.
 /// Want of memory is `OutOfMemory`, which may come in place of any other answer.

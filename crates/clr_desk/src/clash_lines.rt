@@ -5,7 +5,7 @@ ghost use Rattle.clr_merge_sets.specs.MergeSetNames.{merge_set};
 ghost use Rattle.clr_desk.specs.Clashes.{clash_text, clashes_text, line_of_some};
 
 use crate::clash_members::{beside, in_no_set};
-use crate::names_lines::names_line;
+use clr_desk_orders::names_line;
 use clr_lines::{count_line, verdict_line};
 use clr_merge_clashes::{MergeClash, MergeClashes};
 use clr_merge_sets::names_at;

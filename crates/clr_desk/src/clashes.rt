@@ -7,9 +7,9 @@ ghost use Rattle.clr_desk.specs.Clashes.{IsClashesPrint, IsMergeSetPrint, found_
 ghost use Rattle.clr_desk_prints.specs.NameHints.{IsHinted};
 ghost use Rattle.clr_desk_prints.specs.Printing.{IsMadePrintout, IsPrintoutIn, printed};
 
-use crate::certificates::plan_print;
 use crate::clash_lines::clashes_lines;
 use clr_clearance::Verdict;
+use clr_desk_orders::plan_print;
 use clr_desk_prints::{Print, answer_over_members};
 use clr_engine::Office;
 use clr_merge_clashes::{MergeClashes, merge_clashes};

@@ -2,7 +2,7 @@
 ghost use Rattle.std.specs.Prelude.{◌≡◌, IfOk};
 ghost use Rattle.clr_cert.specs.Certificates.{certificate_in};
 ghost use Rattle.clr_office_texts.specs.Drafts.{draft_in};
-ghost use Rattle.clr_desk.specs.FaultPlaces.{IsCertificatePlace, IsCertificatePlaceOver, IsFaultPlace, IsOfficePlace};
+ghost use Rattle.clr_desk.specs.FaultPlaces.{IsCertificatePlace, IsCertificatePlaceOver, IsFaultPlace, IsOfficePlace, IsPlaceInOffices};
 
 use clr_office::{RunFault, Words};
 use clr_office_texts::{TextFault, read_office};
@@ -18,6 +18,21 @@ fn office_place(alloc: Global, file: &str, office: &[u8]) -> Result<Vec<u8>, All
     match short_office_fault(alloc, office, file)? {
         Some(line) => Ok(line),
         None => Ok(Vec::new(alloc)),
+    }
+}
+
+/// Returns the place of the fault of an office text, or else of the second, in the files of these names.
+fn place_in_offices(
+    alloc: Global,
+    files: &[Words],
+    office: &[u8],
+    second: &[u8],
+) -> Result<Vec<u8>, AllocError>
+    ensures { IfOk result (λ line. IsPlaceInOffices files.now office.now second.now line.items (draft_in office.now)) }
+{
+    match short_office_fault(alloc, office, file_name(files, 0))? {
+        Some(line) => Ok(line),
+        None => office_place(alloc, file_name(files, 1), second),
     }
 }
 
@@ -54,7 +69,7 @@ fn certificate_place(
 
 /// Returns where the fault of a text is that `answer` fails with, in one line: the name of its file, the line, the column and what
 /// is wrong, as `why` says it; and nothing for a fault that no text has. The files are those of the office text and of the second
-/// text.
+/// text. Where the office text is an office, the fault of an office is that of the second text.
 pub fn fault_place(
     alloc: Global,
     fault: RunFault,
@@ -65,7 +80,7 @@ pub fn fault_place(
     ensures place { IfOk result (λ line. IsFaultPlace fault files.now office.now second.now line.items) }
 {
     match fault {
-        RunFault::BadOffice(_) => office_place(alloc, file_name(files, 0), office),
+        RunFault::BadOffice(_) => place_in_offices(alloc, files, office, second),
         RunFault::BadCertificate(_, _) => {
             certificate_place(alloc, file_name(files, 1), office, second)
         }

@@ -1,14 +1,14 @@
 //! What is printed in the texts of geographic information systems, and of such texts.
 
 ghost use Rattle.std.specs.Prelude.{◌≡◌};
-ghost use Rattle.clr_desk.specs.Geographic.{IsGeographicAnswer, options_of};
+ghost use Rattle.clr_desk.specs.Geographic.{IsGeographicAnswer, design_options, options_of};
 ghost use Rattle.clr_desk_prints.specs.Printing.{IsMadePrintout};
 
-use clr_desk_command_line::GeographicAsk;
+use clr_desk_command_line::{DesignAsk, GeographicAsk};
 use clr_desk_errors::answer_error_features;
 use clr_desk_layers::{
     GivenLayer, LayerOptions, answer_accepted_office, answer_design, answer_design_script,
-    answer_layer, answer_office,
+    answer_design_since, answer_layer, answer_office,
 };
 use clr_desk_pages::answer_geojson;
 use clr_desk_prints::Print;
@@ -25,14 +25,26 @@ fn office_options(rounded: bool) -> LayerOptions
     }
 }
 
-/// Returns what is printed for what is asked of an office text and layers in the texts of geographic information systems.
+/// Returns how the layers of a design are read.
+fn design_options(design: &DesignAsk) -> LayerOptions
+    ensures { result ≡ design_options design.now }
+{
+    LayerOptions {
+        first_key: design.first_key,
+        rounded: design.is_rounded,
+    }
+}
+
+/// Returns what is printed for what is asked of an office text, of a second one and of layers in the texts of geographic information systems. The second
+/// is the text of the office from which layers were copied where one is given.
 pub(crate) fn answer_geographic(
     alloc: Global,
     ask: &GeographicAsk,
     office: &[u8],
+    second: &[u8],
     layers: &[GivenLayer],
 ) -> Result<Print, RunFault>
-    ensures { IsMadePrintout (IsGeographicAnswer ask.now office.now layers.now) result }
+    ensures { IsMadePrintout (IsGeographicAnswer ask.now office.now second.now layers.now) result }
 {
     match ask {
         GeographicAsk::Features(root, names, system) => answer_geojson(
@@ -54,19 +66,30 @@ pub(crate) fn answer_geographic(
         GeographicAsk::ErrorFeatures(system) => {
             answer_error_features(alloc, office, system.as_ref())
         }
-        GeographicAsk::Design(design) => {
-            let options = LayerOptions {
-                first_key: design.first_key,
-                rounded: design.is_rounded,
-            };
-            answer_design(alloc, office, design.name.as_str(), options, layers)
-        }
-        GeographicAsk::DesignScript(design) => {
-            let options = LayerOptions {
-                first_key: design.first_key,
-                rounded: design.is_rounded,
-            };
-            answer_design_script(alloc, office, design.name.as_str(), options, layers)
-        }
+        GeographicAsk::Design(design) => answer_design(
+            alloc,
+            office,
+            design.name.as_str(),
+            design_options(design),
+            design.may_remove,
+            layers,
+        ),
+        GeographicAsk::DesignSince(design) => answer_design_since(
+            alloc,
+            office,
+            second,
+            design.name.as_str(),
+            design_options(design),
+            design.may_remove,
+            layers,
+        ),
+        GeographicAsk::DesignScript(design) => answer_design_script(
+            alloc,
+            office,
+            design.name.as_str(),
+            design_options(design),
+            design.may_remove,
+            layers,
+        ),
     }
 }

@@ -1,7 +1,7 @@
 //! The layers that are asked for, each with its text.
-ghost use Rattle.std.specs.Prelude.{◌≡◌, [], map, slice_get, IfOk};
+ghost use Rattle.std.specs.Prelude.{◌≡◌, [], drop, map, take, IfOk};
 ghost use Rattle.std.specs.List.{zip};
-ghost use Rattle.clr_desk.specs.GivenLayers.{pair_of, pairs_in, tables_of};
+ghost use Rattle.clr_desk.specs.GivenLayers.{office_count, pair_of, pairs_in, tables_of};
 
 use clr_desk_command_line::{DeskAsk, GeographicAsk};
 use clr_desk_layers::GivenLayer;
@@ -16,9 +16,22 @@ fn tables_of(ask: &DeskAsk) -> &[Words]
         DeskAsk::Geographic(
             GeographicAsk::Office(tables, _) | GeographicAsk::AcceptedOffice(tables, _),
         ) => tables.as_slice(),
-        DeskAsk::Geographic(GeographicAsk::Design(design) | GeographicAsk::DesignScript(design)) =>
-            { design.tables.as_slice() }
+        DeskAsk::Geographic(
+            GeographicAsk::Design(design)
+            | GeographicAsk::DesignSince(design)
+            | GeographicAsk::DesignScript(design),
+        ) => design.tables.as_slice(),
         _ => &[],
+    }
+}
+
+/// Returns how many texts stand before those of the layers.
+fn office_count(ask: &DeskAsk) -> usize
+    ensures { result ≡ office_count ask.now }
+{
+    match ask {
+        DeskAsk::Geographic(GeographicAsk::DesignSince(_)) => 2,
+        _ => 1,
     }
 }
 
@@ -44,21 +57,38 @@ fn with_texts(
     Ok(layers)
 }
 
-/// Takes the layers that are asked for out of texts, each with its table: the text of the first layer stands right behind that of the office,
-/// and the others follow in the order of their tables. The text of the office stays, and where no layer is asked for, all texts do.
+/// Takes the texts behind so many first ones, each with the table in its place. The first ones stay, and where there is no table, all texts do.
+fn take_behind(
+    alloc: Global,
+    tables: &[Words],
+    count: usize,
+    texts: &mut Vec<Vec<u8>>,
+) -> Result<Vec<GivenLayer>, AllocError>
+    ensures layers { IfOk result (λ layers. map pair_of layers.items ≡ zip tables.now (drop count (map (λ text. text.items) texts.old.items))) }
+    ensures first { take count texts.new.items ≡ take count texts.old.items }
+    ensures none { tables.now ≡ [] → texts.new ≡ texts.old }
+{
+    if tables.is_empty() {
+        return Ok(Vec::new(alloc));
+    }
+    if texts.len() < count {
+        return Ok(Vec::new(alloc));
+    }
+    let behind = texts.split_off(count)?;
+    with_texts(alloc, tables, behind)
+}
+
+/// Takes the layers that are asked for out of texts, each with its table: the text of the first layer stands right behind that of the office, or behind
+/// that of the office from which layers were copied where one is given, and the others follow in the order of their tables. The texts of offices stay,
+/// and where no layer is asked for, all texts do.
 pub fn take_layers(
     alloc: Global,
     ask: &DeskAsk,
     texts: &mut Vec<Vec<u8>>,
 ) -> Result<Vec<GivenLayer>, AllocError>
     ensures layers { IfOk result (λ layers. map pair_of layers.items ≡ pairs_in ask.now (map (λ text. text.items) texts.old.items)) }
-    ensures office { slice_get texts.new.items 0 ≡ slice_get texts.old.items 0 }
+    ensures offices { take (office_count ask.now) texts.new.items ≡ take (office_count ask.now) texts.old.items }
     ensures none { tables_of ask.now ≡ [] → texts.new ≡ texts.old }
 {
-    let tables = tables_of(ask);
-    if tables.is_empty() || texts.is_empty() {
-        return Ok(Vec::new(alloc));
-    }
-    let behind = texts.split_off(1)?;
-    with_texts(alloc, tables, behind)
+    take_behind(alloc, tables_of(ask), office_count(ask), texts)
 }

@@ -14,7 +14,8 @@
 //!   of the members taken, each of which is cleared with those taken before it, and as notes who they
 //!   are and, of each other, the plan that isn't cleared (`IsChoicePrint`); of `clashes` the smallest sets
 //!   of members that can't be merged in every order, each with its cause, and the members in none
-//!   (`IsClashesPrint`); of `why` status 2 exactly where
+//!   (`IsClashesPrint`); of `order` an order of the members with the pairs of which one goes before the other, or why none was found, and of
+//!   `certificate` and `keep` in an order what these print of the members in the order of their names (`IsInOrderPrint`); of `why` status 2 exactly where
 //!   the text has a fault, and then lines that begin with it and have the line, the column and the path of
 //!   the item that has it, 1 exactly where an office can be read and a need is broken in it that isn't known, and else how many old errors it has,
 //!   by rule (`IsWhyPrint`);
@@ -27,8 +28,8 @@
 //!   none (`IsGeographicAnswer`); of `accept` the text of the same office with just its broken needs as known, of `mended` the known needs that
 //!   aren't broken any more, and of `errors` the broken needs of LIVE, whether known or not, with status 0 only where all are known.
 //! - `fault_place` [`place`]: the file, the line and the column of the fault of the office text or the certificate, and nothing of any other.
-//! - `take_layers` [`layers`, `office`]: each table that is asked for with the text in its place.
-//! - `texts_have_one_answer` [`answer`]: memory aside, what is asked has one answer alone, but for what the definitions of clashes, of faults,
+//! - `take_layers` [`layers`, `offices`]: each table that is asked for with the text in its place.
+//! - `texts_have_one_answer` [`answer`]: memory aside, what is asked has one answer alone, but for what the definitions of clashes, of orders, of faults,
 //!   and of sentences, pictures, pages, features, layers and errors leave open.
 //! - [`silent`]: with status 3 nothing went to the sink of the text.
 //! - [`keeps`]: with any fault but WriteFailed nothing was written. After a failed write it isn't known
@@ -46,10 +47,10 @@ mod fault_places;
 mod formats;
 mod geographic;
 mod given_layers;
+mod in_order;
 mod laws;
 mod line_ends;
 mod merges;
-mod names_lines;
 mod orders;
 mod whys;
 

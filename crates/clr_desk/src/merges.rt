@@ -23,10 +23,10 @@ fn run_print(alloc: Global, office: &Office, run: &ClearedRun) -> Result<Print, 
     Ok(Print::new(dump_text(alloc, office)?, all.lines, all.refused, all.lost))
 }
 
-/// Merges workspaces in the order of their names, as far as that is quiet for a certificate, where it is
-/// clear: the office that is left, and as notes a line for each merge that was performed and one that
-/// says where it stopped. Where the certificate isn't clear the verdict is the only note, and there is no
-/// text.
+/// Merges workspaces in the order of their names, as far as that is quiet for a certificate and no member
+/// is merged before its turn, where the certificate is clear: the office that is left, and as notes a line
+/// for each merge that was performed and one that says where it stopped. Where the certificate isn't clear
+/// the verdict is the only note, and there is no text.
 fn merge_members(
     alloc: Global,
     office: &mut Office,

@@ -1,6 +1,6 @@
 -- What a subcommand and its values ask for.
-use Rattle.std.specs.Prelude.{ℕ, ◌==◌, ◌||◌, not, Bool, true, false, List, [], ◌∷◌, map, codes, Option, Some, None, if◌then◌else◌, is_some, option_and_then}
-use Rattle.std.specs.Prelude.{option_map, unwrap_or, unsigned_abs}
+use Rattle.std.specs.Prelude.{ℕ, ◌==◌, ◌||◌, not, Bool, true, false, List, [], ◌∷◌, ◌++◌, map, codes, Option, Some, None, if◌then◌else◌, is_some}
+use Rattle.std.specs.Prelude.{option_and_then, option_map, unwrap_or, unsigned_abs}
 use Rattle.std.specs.List.{after_first, before_first, list_all, list_any}
 use Rattle.std.specs.Option.{option_map_or}
 use Rattle.std.specs.Str.{bytes_eq}
@@ -8,13 +8,16 @@ use Rattle.clap.specs.Words.{Row, Text, all_of, first_of}
 use Rattle.clr_rows.specs.Names.{live_name}
 use Rattle.clr_rows.specs.Schemas.{is_key}
 use Rattle.clr_records.specs.Decimals.{number_of}
-use Rattle.clr_command_line.specs.Asks.{database_and, database_of, given_names, given_value}
+use Rattle.clr_command_line.specs.Asks.{database_and, database_of, given_names, given_value, is_set}
 use Rattle.clr_desk_command_line.specs.declared.asks.DeskAsk.{DeskAsk}
-use Rattle.clr_desk_command_line.specs.declared.asks.DeskAsk.TheVariants.{Certificate, Check, Merge, Format, Accept, Mended, Errors, Keep, Clashes, Why, WorkOrder}
-use Rattle.clr_desk_command_line.specs.declared.asks.DeskAsk.TheVariants.{Map, Report, Geographic}
+use Rattle.clr_desk_command_line.specs.declared.asks.DeskAsk.TheVariants.{Certificate, Check, Merge, Format, Accept, Mended, Errors, Keep, Clashes, Why}
+use Rattle.clr_desk_command_line.specs.declared.asks.DeskAsk.TheVariants.{Geographic, InOrder, Map, Report, WorkOrder}
 use Rattle.clr_desk_command_line.specs.declared.asks.DesignAsk.{DesignAsk}
 use Rattle.clr_desk_command_line.specs.declared.asks.GeographicAsk.{GeographicAsk}
-use Rattle.clr_desk_command_line.specs.declared.asks.GeographicAsk.TheVariants.{Features, Layer, Office, AcceptedOffice, ErrorFeatures, Design, DesignScript}
+use Rattle.clr_desk_command_line.specs.declared.asks.GeographicAsk.TheVariants.{Features, Layer, Office, AcceptedOffice, ErrorFeatures}
+use Rattle.clr_desk_command_line.specs.declared.asks.GeographicAsk.TheVariants.{Design, DesignSince, DesignScript}
+use Rattle.clr_desk_command_line.specs.declared.asks.OrderAsk.{OrderAsk}
+use Rattle.clr_desk_command_line.specs.declared.asks.OrderAsk.TheVariants as order
 use Rattle.clr_desk_command_line.specs.declared.asks.TextKind.TheVariants as kind
 
 -- the value that is given, or another
@@ -24,10 +27,6 @@ given_or otherwise id rows = unwrap_or (first_of id rows) otherwise
 -- the root that is given, or LIVE
 abbrev pub given_root : List Row → Text
 given_root rows = given_or live_name (codes "under") rows
-
--- an option without a value is given
-abbrev pub is_set : Text → List Row → Bool
-is_set name rows = option_map_or (λ value. bytes_eq value (codes "true")) (first_of name rows) false
 
 -- what `why` asks for, and its files: of the script if one is given, else of the certificate if one is given, else of the office
 abbrev pub why_of : List Row → DeskAsk × List Text
@@ -41,19 +40,35 @@ abbrev pub errors_of : List Row → DeskAsk × List Text
 errors_of rows =
     if is_set (codes "geojson") rows then (Geographic (ErrorFeatures (first_of (codes "crs") rows)), database_of rows) else (Errors, database_of rows)
 
+-- what `certificate` asks for, in the order of the names or in every order
+abbrev pub certificate_ask : (is_in_order : Bool) → Text → List Text → DeskAsk
+certificate_ask true root names = InOrder order.Certificate root names
+certificate_ask false root names = Certificate root names
+
+-- what `keep` asks for, in the order of the names or in every order
+abbrev pub keep_ask : (is_in_order : Bool) → Text → List Text → DeskAsk
+keep_ask true root names = InOrder order.Keep root names
+keep_ask false root names = Keep root names
+
+-- what `order` asks for: an order, or its certificate
+abbrev pub order_ask : (is_certificate : Bool) → OrderAsk
+order_ask true = order.OrderCertificate
+order_ask false = order.Order
+
 -- what is asked of members of a root
-unfoldable pub members_ask : Text → Text → List Text → Option DeskAsk
-members_ask name root names =
-    if bytes_eq name (codes "certificate") then Some (Certificate root names)
-    else (if bytes_eq name (codes "keep") then Some (Keep root names)
+unfoldable pub members_ask : Text → List Row → Text → List Text → Option DeskAsk
+members_ask name rows root names =
+    if bytes_eq name (codes "certificate") then Some (certificate_ask (is_set (codes "in-order") rows) root names)
+    else (if bytes_eq name (codes "keep") then Some (keep_ask (is_set (codes "in-order") rows) root names)
     else (if bytes_eq name (codes "clashes") then Some (Clashes root names)
+    else (if bytes_eq name (codes "order") then Some (InOrder (order_ask (is_set (codes "certificate") rows)) root names)
     else (if bytes_eq name (codes "words") then Some (WorkOrder root names)
     else (if bytes_eq name (codes "map") then Some (Map root names)
     else (if bytes_eq name (codes "report") then Some (Report root names)
-    else None)))))
+    else None))))))
 
 abbrev pub members_asked : Text → List Row → Option (DeskAsk × List Text)
-members_asked name rows = option_map (λ asked. (asked, database_of rows)) (members_ask name (given_root rows) (given_names rows))
+members_asked name rows = option_map (λ asked. (asked, database_of rows)) (members_ask name rows (given_root rows) (given_names rows))
 
 abbrev pub merge_ask : List Row → DeskAsk × List Text
 merge_ask rows = (Merge (given_names rows), database_and (codes "CERT") rows)
@@ -97,10 +112,6 @@ key_in text = option_and_then (λ key. if is_key key then Some (unsigned_abs key
 abbrev pub first_key_of : List Row → Option ℕ
 first_key_of rows = option_map_or key_in (first_of (codes "keys") rows) (Some 1)
 
--- what is asked of the tables of layers, and the file of an office text before the files of the layers
-abbrev pub asked_of_layers : Text → (List Text → GeographicAsk) → List Row → Option (GeographicAsk × List Text)
-asked_of_layers database ask rows = option_map (λ layers. (ask layers.0, given_value database rows ∷ layers.1)) (layers_ask rows)
-
 -- the office of these tables, with its errors accepted or not
 abbrev pub office_of : Bool → List Text → Bool → GeographicAsk
 office_of true tables rounded = AcceptedOffice tables rounded
@@ -108,24 +119,55 @@ office_of false tables rounded = Office tables rounded
 
 abbrev pub office_ask : List Row → Option (GeographicAsk × List Text)
 office_ask rows =
-    asked_of_layers (codes "SCHEMA") (λ tables. office_of (is_set (codes "accept") rows) tables (is_set (codes "round") rows)) rows
+    option_map
+    (λ layers. (office_of (is_set (codes "accept") rows) layers.0 (is_set (codes "round") rows), given_value (codes "SCHEMA") rows ∷ layers.1))
+    (layers_ask rows)
 
--- a design of these tables, whose rows get keys from this one on
-abbrev pub design_in : List Row → ℕ → List Text → DesignAsk
-design_in rows first_key tables =
-    record { name = given_value (codes "NAME") rows; tables = tables; first_key = first_key; is_rounded = is_set (codes "round") rows }
+-- yes or no, as a text says it
+abbrev pub choice_in : Text → Option Bool
+choice_in text = if bytes_eq text (codes "yes") then Some true else (if bytes_eq text (codes "no") then Some false else None)
 
-abbrev pub as_script_or_office : Bool → DesignAsk → GeographicAsk
-as_script_or_office true design = DesignScript design
-as_script_or_office false design = Design design
+-- whether a design may remove rows: as is given, if it is yes or no, and else it may
+abbrev pub may_remove_of : List Row → Option Bool
+may_remove_of rows = option_map_or choice_in (first_of (codes "removes") rows) (Some true)
+
+-- a design of these tables, whose rows get keys from this one on, and which may remove rows or not
+abbrev pub design_in : List Row → ℕ → Bool → List Text → DesignAsk
+design_in rows first_key may_remove tables = record {
+  name = given_value (codes "NAME") rows;
+  tables = tables;
+  first_key = first_key;
+  is_rounded = is_set (codes "round") rows;
+  may_remove = may_remove;
+}
+
+-- the script of a design, the office with it, or the office with a design of layers that were copied from another office; such a design has no script
+abbrev pub design_as : (is_script has_base : Bool) → DesignAsk → Option GeographicAsk
+design_as true true design = None
+design_as true false design = Some (DesignScript design)
+design_as false true design = Some (DesignSince design)
+design_as false false design = Some (Design design)
+
+-- the file of the office, and then that of the office from which the layers were copied, if one is given
+abbrev pub offices_of_design : List Row → List Text
+offices_of_design rows = database_of rows ++ option_map_or (λ copied. copied ∷ []) (first_of (codes "base") rows) []
+
+abbrev pub design_of_tables : List Row → DesignAsk → Option GeographicAsk
+design_of_tables rows design = design_as (is_set (codes "script") rows) (is_some (first_of (codes "base") rows)) design
+
+-- what is asked of a design whose rows get keys from this one on, and its files, those of its layers last
+abbrev pub design_ask_with : List Row → ℕ → Bool → Option (GeographicAsk × List Text)
+design_ask_with rows first_key may_remove =
+    option_and_then
+    (λ layers. option_map (λ ask. (ask, offices_of_design rows ++ layers.1)) (design_of_tables rows (design_in rows first_key may_remove layers.0)))
+    (layers_ask rows)
 
 abbrev pub design_ask : List Row → Option (GeographicAsk × List Text)
 design_ask rows =
-    option_and_then
-    (λ first_key. asked_of_layers (codes "DB") (λ tables. as_script_or_office (is_set (codes "script") rows) (design_in rows first_key tables)) rows)
-    (first_key_of rows)
+    option_and_then (λ first_key. option_and_then (λ may_remove. design_ask_with rows first_key may_remove) (may_remove_of rows)) (first_key_of rows)
 
--- what is asked in the texts of geographic information systems, and the files; or nothing where a layer or a key can't be read
+-- what is asked in the texts of geographic information systems, and the files; or nothing where a layer, a key or a choice can't be read, or where the
+-- script of a design is asked for that has none
 unfoldable pub geographic_asked : Text → List Row → Option (GeographicAsk × List Text)
 geographic_asked name rows =
     if bytes_eq name (codes "geojson") then Some (features_of rows)
@@ -169,6 +211,6 @@ ask_of found = option_and_then (λ p. ask_by_name p.0 p.1) found
 abbrev pub reads_layers : Text → Bool
 reads_layers name = bytes_eq name (codes "office") || bytes_eq name (codes "design")
 
--- where a subcommand reads layers, each layer and the first key can be read
+-- where a subcommand reads layers, each layer, the first key and the choice can be read, and no script is asked for where there is none
 abbrev pub is_readable : Option (Text × List Row) → Bool
 is_readable found = option_map_or (λ p. not (reads_layers p.0) || is_some (ask_by_name p.0 p.1)) found true

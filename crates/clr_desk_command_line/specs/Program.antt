@@ -20,17 +20,24 @@ root = option (codes "under")
 abbrev pub over_members : Text → App
 over_members name = with_rule (with_rule (database_command name) root) name_arguments
 
+-- such a subcommand that may be asked for the order of the names
+abbrev pub over_members_in_order : Text → App
+over_members_in_order name = with_rule (over_members name) (flag (codes "in-order"))
+
 abbrev pub certificate : App
-certificate = over_members (codes "certificate")
+certificate = over_members_in_order (codes "certificate")
 
 abbrev pub format : App
 format = database_command (codes "format")
 
 abbrev pub keep : App
-keep = over_members (codes "keep")
+keep = over_members_in_order (codes "keep")
 
 abbrev pub clashes : App
 clashes = over_members (codes "clashes")
+
+abbrev pub order : App
+order = with_rule (over_members (codes "order")) (flag (codes "certificate"))
 
 abbrev pub why : App
 why = with_rule (with_rule (database_command (codes "why")) (option (codes "script"))) (option (codes "certificate"))
@@ -61,8 +68,12 @@ office = with_rule (with_rule (with_rule (with_rule (new_app (codes "office")) (
 abbrev pub design_of_layers : App
 design_of_layers = with_rule (with_rule (database_command (codes "design")) (value (codes "NAME"))) layers
 
+-- what it is a difference to, and whether it may remove rows
+abbrev pub design_from : App
+design_from = with_rule (with_rule design_of_layers (option (codes "base"))) (option (codes "removes"))
+
 abbrev pub design : App
-design = with_rule (with_rule (with_rule design_of_layers (flag (codes "script"))) (option (codes "keys"))) round
+design = with_rule (with_rule (with_rule design_from (flag (codes "script"))) (option (codes "keys"))) round
 
 abbrev pub errors : App
 errors = with_rule (with_rule (database_command (codes "errors")) (flag (codes "geojson"))) system
@@ -85,9 +96,13 @@ printing = with_subcommand (with_subcommand certifying merge.top) format.top
 abbrev pub choosing : App
 choosing = with_subcommand (with_subcommand printing keep.top) clashes.top
 
+-- with the command that finds an order
+abbrev pub ordering : App
+ordering = with_subcommand choosing order.top
+
 -- with the commands that explain
 abbrev pub explaining : App
-explaining = with_subcommand (with_subcommand choosing why.top) words.top
+explaining = with_subcommand (with_subcommand ordering why.top) words.top
 
 -- with the commands that draw
 abbrev pub drawing : App

@@ -20,6 +20,8 @@ pub struct DesignAsk {
     pub first_key: u64,
     /// Whether coordinates finer than a millimetre are rounded.
     pub is_rounded: bool,
+    /// Whether it may remove rows.
+    pub may_remove: bool,
 }
 
 /// What is asked of an office text in the texts of geographic information systems.
@@ -39,8 +41,23 @@ pub enum GeographicAsk {
     ErrorFeatures(Option<Words>),
     /// The office with one more design.
     Design(DesignAsk),
+    /// The office with one more design, whose layers were copied from LIVE of a second office text.
+    DesignSince(DesignAsk),
     /// The script that makes this design.
     DesignScript(DesignAsk),
+}
+
+/// What is asked of orders in which members can be merged.
+#[derive(Clone, Copy, Debug, Drop)]
+pub enum OrderAsk {
+    /// An order that works, and which member goes before which in it.
+    Order,
+    /// The certificate of such an order.
+    OrderCertificate,
+    /// The certificate of the members in the order of their names.
+    Certificate,
+    /// Which members can be merged in the order of their names, where each is taken that can be merged next behind those taken.
+    Keep,
 }
 
 /// What is asked of an office text, and of further texts where there are some.
@@ -67,6 +84,8 @@ pub enum DeskAsk {
     /// The smallest sets of these children of a root that can't be merged in every order: the root, and
     /// the children, or none for all.
     Clashes(Words, Names),
+    /// What is asked of the orders of these children of a root: the root, and the children, or none for all.
+    InOrder(OrderAsk, Words, Names),
     /// Where the fault of a text of this kind is; the second text is the script or the certificate.
     Why(TextKind),
     /// The plan of these children of a root as a work order: the root, and the children, or none for all.

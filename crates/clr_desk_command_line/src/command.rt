@@ -2,12 +2,13 @@
 
 ghost use Rattle.std.specs.Prelude.{◌≡◌, IfOk};
 ghost use Rattle.clap.specs.Words.{app_of};
-ghost use Rattle.clr_desk_command_line.specs.Program.{drawing, program};
+ghost use Rattle.clr_desk_command_line.specs.Program.{drawing, importing, ordering, program};
 
 use crate::helps::{
     ABOUT, ACCEPT_PRINTS, CERTIFICATE_PRINTS, CHECK_PRINTS, CLASHES_PRINTS, DESIGN_PRINTS,
     ERRORS_PRINTS, FORMAT_PRINTS, GEOJSON_PRINTS, KEEP_PRINTS, LAYER_PRINTS, MAP_PRINTS,
-    MENDED_PRINTS, MERGE_PRINTS, OFFICE_PRINTS, REPORT_PRINTS, STATUSES, WHY_PRINTS, WORDS_PRINTS,
+    MENDED_PRINTS, MERGE_PRINTS, OFFICE_PRINTS, ORDER_PRINTS, REPORT_PRINTS, STATUSES, WHY_PRINTS,
+    WORDS_PRINTS,
 };
 use clap::Command;
 use clr_command_line::{
@@ -47,7 +48,15 @@ const SYSTEM: Argument<'static> = Argument::ValueOption(
 /// The arguments of a subcommand over an office text and designs of a root.
 const OVER_MEMBERS: &[Argument<'static>] = &[DATABASE, ROOT, DESIGNS];
 
-/// The program with its subcommands about plans, in the order of its help.
+const IN_ORDER: Argument<'static> = Argument::Flag(
+    "in-order",
+    "Merge the designs in the order of their names, and not in every order",
+);
+
+/// The arguments of a subcommand over designs that may be asked to be merged in the order of their names.
+const OVER_MEMBERS_IN_ORDER: &[Argument<'static>] = &[DATABASE, ROOT, DESIGNS, IN_ORDER];
+
+/// The program with its subcommands about certificates and choices, in the order of its help.
 const DESK: ProgramTable<'static> = ProgramTable {
     name: "clr_desk",
     version: VERSION,
@@ -58,7 +67,7 @@ const DESK: ProgramTable<'static> = ProgramTable {
             name: "certificate",
             about: "Prints the certificate of designs that can be merged in every order",
             prints: CERTIFICATE_PRINTS,
-            arguments: OVER_MEMBERS,
+            arguments: OVER_MEMBERS_IN_ORDER,
         },
         Subcommand {
             name: "check",
@@ -86,7 +95,7 @@ const DESK: ProgramTable<'static> = ProgramTable {
             name: "keep",
             about: "Takes each design that can be merged with those taken before it, and prints their certificate",
             prints: KEEP_PRINTS,
-            arguments: OVER_MEMBERS,
+            arguments: OVER_MEMBERS_IN_ORDER,
         },
         Subcommand {
             name: "clashes",
@@ -95,41 +104,56 @@ const DESK: ProgramTable<'static> = ProgramTable {
             arguments: OVER_MEMBERS,
         },
         Subcommand {
-            name: "why",
-            about: "Says where an office text, a script or a certificate has its fault, and which",
-            prints: WHY_PRINTS,
+            name: "order",
+            about: "Finds an order in which designs can be merged, and says which go before which",
+            prints: ORDER_PRINTS,
             arguments: &[
                 DATABASE,
-                Argument::ValueOption("script", "FILE", "The file of a script for this office"),
-                Argument::ValueOption(
-                    "certificate",
-                    "FILE",
-                    "The file of a certificate over this office",
-                ),
+                ROOT,
+                DESIGNS,
+                Argument::Flag("certificate", "Print the certificate of the order"),
             ],
-        },
-        Subcommand {
-            name: "words",
-            about: "Tells the plan of designs in sentences, and what would help",
-            prints: WORDS_PRINTS,
-            arguments: OVER_MEMBERS,
-        },
-        Subcommand {
-            name: "map",
-            about: "Draws the plan of designs as a picture, an SVG",
-            prints: MAP_PRINTS,
-            arguments: OVER_MEMBERS,
-        },
-        Subcommand {
-            name: "report",
-            about: "Tells the plan of designs in one page, an HTML file with its picture",
-            prints: REPORT_PRINTS,
-            arguments: OVER_MEMBERS,
         },
     ],
 };
 
-/// The subcommands that come after those, which bring networks and designs in and out, and list errors.
+/// The subcommands that come after those, which explain and draw plans.
+const OVER_PLANS: &[Subcommand<'static>] = &[
+    Subcommand {
+        name: "why",
+        about: "Says where an office text, a script or a certificate has its fault, and which",
+        prints: WHY_PRINTS,
+        arguments: &[
+            DATABASE,
+            Argument::ValueOption("script", "FILE", "The file of a script for this office"),
+            Argument::ValueOption(
+                "certificate",
+                "FILE",
+                "The file of a certificate over this office",
+            ),
+        ],
+    },
+    Subcommand {
+        name: "words",
+        about: "Tells the plan of designs in sentences, and what would help",
+        prints: WORDS_PRINTS,
+        arguments: OVER_MEMBERS,
+    },
+    Subcommand {
+        name: "map",
+        about: "Draws the plan of designs as a picture, an SVG",
+        prints: MAP_PRINTS,
+        arguments: OVER_MEMBERS,
+    },
+    Subcommand {
+        name: "report",
+        about: "Tells the plan of designs in one page, an HTML file with its picture",
+        prints: REPORT_PRINTS,
+        arguments: OVER_MEMBERS,
+    },
+];
+
+/// The subcommands that come after those, which bring networks and designs in and out.
 const OVER_NETWORKS: &[Subcommand<'static>] = &[
     Subcommand {
         name: "geojson",
@@ -176,6 +200,16 @@ const OVER_NETWORKS: &[Subcommand<'static>] = &[
             DATABASE,
             Argument::Value("NAME", "The name of the new design"),
             LAYERS,
+            Argument::ValueOption(
+                "base",
+                "COPIED",
+                "The file of the office text from which the layers were copied [default: DB]",
+            ),
+            Argument::ValueOption(
+                "removes",
+                "CHOICE",
+                "Whether the design may remove rows, yes or no [default: yes]",
+            ),
             Argument::Flag("script", "Print the script that makes the design"),
             Argument::ValueOption(
                 "keys",
@@ -185,6 +219,10 @@ const OVER_NETWORKS: &[Subcommand<'static>] = &[
             ROUND,
         ],
     },
+];
+
+/// The last subcommands, which are about errors.
+const OVER_ERRORS: &[Subcommand<'static>] = &[
     Subcommand {
         name: "errors",
         about: "Lists what is broken in LIVE, with the rows, their places and the rules",
@@ -209,17 +247,33 @@ const OVER_NETWORKS: &[Subcommand<'static>] = &[
     },
 ];
 
-/// Returns the command line with the subcommands about plans.
-fn plan_command<'a>(alloc: Global) -> Result<Command<'a>, AllocError>
-    ensures { IfOk result (λ c. app_of c ≡ drawing) }
+/// Returns the command line with the subcommands about certificates and choices.
+fn choice_command<'a>(alloc: Global) -> Result<Command<'a>, AllocError>
+    ensures { IfOk result (λ c. app_of c ≡ ordering) }
 {
     command_of(alloc, DESK)
 }
 
-/// Returns the whole command line. It is described by two tables: what a proof of one takes grows with the square of its subcommands.
-pub fn whole_command<'a>(alloc: Global) -> Result<Command<'a>, AllocError>
-    ensures { IfOk result (λ c. app_of c ≡ program) }
+/// Returns the command line with these subcommands, and those that explain and draw plans.
+fn plan_command<'a>(alloc: Global) -> Result<Command<'a>, AllocError>
+    ensures { IfOk result (λ c. app_of c ≡ drawing) }
+{
+    let command = choice_command(alloc)?;
+    with_subcommands(alloc, command, OVER_PLANS)
+}
+
+/// Returns the command line with the subcommands about plans and about networks.
+fn network_command<'a>(alloc: Global) -> Result<Command<'a>, AllocError>
+    ensures { IfOk result (λ c. app_of c ≡ importing) }
 {
     let command = plan_command(alloc)?;
     with_subcommands(alloc, command, OVER_NETWORKS)
+}
+
+/// Returns the whole command line. It is described by four tables: what a proof of one takes grows with the square of its subcommands.
+pub fn whole_command<'a>(alloc: Global) -> Result<Command<'a>, AllocError>
+    ensures { IfOk result (λ c. app_of c ≡ program) }
+{
+    let command = network_command(alloc)?;
+    with_subcommands(alloc, command, OVER_ERRORS)
 }

@@ -4,12 +4,24 @@ use clap::ArgMatches;
 use clr_rows::GREATEST_KEY;
 use std::alloc::{AllocError, Global};
 
-/// Returns what is wrong with the words of a subcommand that reads layers: that a layer has no `=`, or else that the first key is none.
+/// Returns what is wrong with the words of a subcommand that reads layers: that a layer has no `=`, or else that a choice is neither yes nor no, that the
+/// script of a design is asked for that has none, or else that the first key is none.
 pub(crate) fn complaint(alloc: Global, matches: &ArgMatches) -> Result<String, AllocError> {
     for word in matches.get_strs("TABLE=FILE").unwrap_or(&[]) {
         if !word.contains('=') {
             return format!(in alloc; "invalid value '{word}' for '<TABLE=FILE>...': it has no '='");
         }
+    }
+    let choice = matches.get_str("removes").unwrap_or("yes");
+    if choice != "yes" && choice != "no" {
+        return format!(in alloc;
+            "invalid value '{choice}' for '--removes <CHOICE>': it is neither yes nor no"
+        );
+    }
+    if matches.get_str("base").is_some() && matches.get_str("script") == Some("true") {
+        return format!(in alloc;
+            "the argument '--script' cannot be used with '--base <COPIED>': no script makes a design in an office that LIVE has left"
+        );
     }
     let key = matches.get_str("keys").unwrap_or("");
     format!(in alloc;

@@ -2,13 +2,24 @@
 
 ghost use Rattle.std.specs.Prelude.{◌≡◌, ◌++◌, IfOk, option_map};
 ghost use Rattle.clap.specs.Words.{found_of, rows_of};
-ghost use Rattle.clr_desk_command_line.specs.Asks.{as_script_or_office, design_ask, first_key_of, key_in, office_ask, office_of};
+ghost use Rattle.clr_desk_command_line.specs.Asks.{
+  choice_in,
+  design_as,
+  design_ask,
+  design_ask_with,
+  first_key_of,
+  key_in,
+  may_remove_of,
+  office_ask,
+  office_of,
+  offices_of_design,
+};
 
 use crate::asks::{DesignAsk, GeographicAsk};
 use crate::named_layers::layers;
-use crate::values::{given_or, is_set};
+use crate::values::{given_or, given_value, has_value};
 use clap::ArgMatches;
-use clr_command_line::database;
+use clr_command_line::{database, is_set};
 use clr_records::read_number;
 use clr_rows::{GREATEST_KEY, Names, Words};
 use std::alloc::{AllocError, Global};
@@ -72,18 +83,86 @@ pub(crate) fn office(
     Ok(Some((ask, append_files(all, files)?)))
 }
 
-/// Returns the script of a design, or the design.
-fn as_script_or_office(is_script: bool, design: DesignAsk) -> GeographicAsk
-    ensures { result ≡ as_script_or_office is_script design }
+/// Returns the choice that a text is, if it is yes or no.
+fn choice_in(text: &str) -> Option<bool>
+    ensures { result ≡ choice_in text.now }
 {
-    if is_script {
-        GeographicAsk::DesignScript(design)
-    } else {
-        GeographicAsk::Design(design)
+    match text {
+        "yes" => Some(true),
+        "no" => Some(false),
+        _ => None,
     }
 }
 
-/// Returns what `design` asks for, and its files, or nothing where the first key or a layer can't be read.
+/// Returns whether a design may remove rows, which it may where nothing is given, or nothing where what is given is neither yes nor no.
+fn may_remove(matches: &ArgMatches) -> Option<bool>
+    ensures { result ≡ may_remove_of (rows_of (found_of matches.now)) }
+{
+    match matches.get_str("removes") {
+        Some(text) => choice_in(text),
+        None => Some(true),
+    }
+}
+
+/// Returns the script of a design, the office with it, or the office with a design of layers that were copied from another office; and nothing
+/// where the script of such a design is asked for.
+fn design_as(is_script: bool, has_base: bool, design: DesignAsk) -> Option<GeographicAsk>
+    ensures { result ≡ design_as is_script has_base design }
+{
+    match (is_script, has_base) {
+        (true, true) => None,
+        (true, false) => Some(GeographicAsk::DesignScript(design)),
+        (false, true) => Some(GeographicAsk::DesignSince(design)),
+        (false, false) => Some(GeographicAsk::Design(design)),
+    }
+}
+
+/// Returns the file of the office, and then that of the office from which the layers were copied, if one is given.
+fn offices_of_design(alloc: Global, matches: &ArgMatches) -> Result<Vec<Words>, AllocError>
+    ensures { IfOk result (λ files. files.items ≡ offices_of_design (rows_of (found_of matches.now))) }
+{
+    let mut files = database(alloc, matches)?;
+    if let Some(copied) = given_value(alloc, matches, "base")? {
+        files.push(copied)?;
+    }
+    Ok(files)
+}
+
+/// Returns what is asked of a design whose rows get keys from this one on, and its files, or nothing where a layer can't be read, or where the
+/// script of a design is asked for that has none.
+fn design_with(
+    alloc: Global,
+    matches: &ArgMatches,
+    first_key: u64,
+    may_remove: bool,
+) -> Result<Option<GeographicAskAndFiles>, AllocError>
+    ensures { IfOk result (λ r. design_ask_with (rows_of (found_of matches.now)) first_key may_remove ≡ option_map (λ p. (p.0, p.1.items)) r) }
+{
+    let Some((tables, files)) = layers(alloc, matches)? else {
+        return Ok(None);
+    };
+    let design = DesignAsk {
+        name: given_or(alloc, matches, "NAME", "")?,
+        tables: Names::new(tables),
+        first_key,
+        is_rounded: is_set(matches, "round"),
+        may_remove,
+    };
+    let Some(ask) = design_as(
+        is_set(matches, "script"),
+        has_value(matches, "base"),
+        design,
+    ) else {
+        return Ok(None);
+    };
+    Ok(Some((
+        ask,
+        append_files(offices_of_design(alloc, matches)?, files)?,
+    )))
+}
+
+/// Returns what `design` asks for, and its files, or nothing where the first key, the choice or a layer can't be read, or where the script of a
+/// design is asked for that has none.
 pub(crate) fn design(
     alloc: Global,
     matches: &ArgMatches,
@@ -93,15 +172,8 @@ pub(crate) fn design(
     let Some(first_key) = first_key(matches) else {
         return Ok(None);
     };
-    let Some((tables, files)) = layers(alloc, matches)? else {
+    let Some(may_remove) = may_remove(matches) else {
         return Ok(None);
     };
-    let design = DesignAsk {
-        name: given_or(alloc, matches, "NAME", "")?,
-        tables: Names::new(tables),
-        first_key,
-        is_rounded: is_set(matches, "round"),
-    };
-    let ask = as_script_or_office(is_set(matches, "script"), design);
-    Ok(Some((ask, append_files(database(alloc, matches)?, files)?)))
+    design_with(alloc, matches, first_key, may_remove)
 }

@@ -11,7 +11,8 @@ or files can't be read, and 3 for want of memory.";
 pub(crate) const CERTIFICATE_PRINTS: &str =
     "It prints the certificate and nothing else, ready for `clr_desk check`, with status 0.
 Where the designs can't be merged in every order it prints nothing, and on standard error the lines of
-the plan, with status 1. Without names it takes all children of the root.
+the plan, with status 1. With --in-order they need only be merged in the order of their names, and the
+certificate says which of them go before which. Without names it takes all children of the root.
 
 Example:
   clr_desk certificate office.json Renewal Extension > certificate.csv";
@@ -44,8 +45,8 @@ Example:
 pub(crate) const KEEP_PRINTS: &str =
     "It goes through the names in their order, and takes each design that is cleared with those taken
 before it. It prints the certificate of those taken, and on standard error which they are, and for
-each design that is left the lines of its plan. Without names it goes through all children of the
-root in order of creation. The status is 0 where none is left, and 1 where one is.
+each design that is left the lines of its plan. With --in-order it takes each design that can be merged
+next behind those taken. Without names it goes through all children of the root in order of creation. The status is 0 where none is left, and 1 where one is.
 
 Example:
   clr_desk keep office.json Renewal Extension Bypass > certificate.csv";
@@ -57,6 +58,16 @@ and then the designs that are in none. Without names it looks at all children of
 
 Example:
   clr_desk clashes office.json Renewal Extension Bypass";
+
+pub(crate) const ORDER_PRINTS: &str =
+    "It prints an order in which the designs can be merged one after another, and a line for each design that has
+to go before another in it. With --certificate it prints the certificate of that order, ready for `clr_desk check`, and
+the lines on standard error. Where it finds no order it prints the designs that stand in the way, and the cause where it
+is one need. Without names it takes all children of the root. The status is 0 where an order is found, and 1 where none
+is.
+
+Example:
+  clr_desk order office.json Renewal Extension Hydrants";
 
 pub(crate) const WHY_PRINTS: &str =
     "It prints the fault of the office text, or of the script or certificate that is given, as `clr_office`
@@ -124,12 +135,15 @@ Example:
 pub(crate) const DESIGN_PRINTS: &str =
     "It prints the office with one more design under LIVE, which has the rows of the layers in place of those of their
 tables, and nothing else, with status 0; with --script it prints the script for `clr_office run` that makes the design.
-A layer is CSV, as `clr_desk layer` prints it, with shapes as WKT in metres; a row whose KEY is empty gets the least key
-from N on that is free. Where a layer can't be read or the design can't be made it prints nothing, and on standard error
-the line that says so, with status 2 or 1.
+How many rows the design adds, changes and removes stands on standard error. A layer is CSV, as `clr_desk layer` prints
+it, with shapes as WKT in metres; a row whose KEY is empty gets the least key from N on that is free. What LIVE got
+since the layers were copied isn't in them, and the design would remove it: give the office that they were copied from
+as COPIED. The design is then the difference to that, and in conflict where LIVE changed the same since. With
+--removes no a design that removes a row is refused. Where a layer can't be read or the design can't be made it prints
+nothing, and on standard error the line that says so, with status 2 or 1.
 
 Example:
-  clr_desk design office.json Bypass main=main.csv valve=valve.csv > with_bypass.json";
+  clr_desk design office.json Bypass main=main.csv --base copied.json > with_bypass.json";
 
 pub(crate) const ERRORS_PRINTS: &str =
     "It prints each need that is broken in LIVE: whether it is known, the rule, the rows, and the place; with --geojson

@@ -1,8 +1,9 @@
 //! What the words of the second program's command line ask for.
 //!
 //! - `ask_of` [`asks`, `takes`]: what is asked, and the files, are what `clap`'s definition of a
-//!   simple command finds in the words. Words that the command takes, in which each layer and the first
-//!   key can be read where a subcommand has them, are refused only where there is no memory. Texts of
+//!   simple command finds in the words. Words that the command takes, in which each layer, the first
+//!   key and the choice can be read where a subcommand has them, are refused only where there is no memory, but for
+//!   the script of a design that has none. Texts of
 //!   help, usage and refusals are tested only.
 #![tactic(auto)]
 
@@ -16,6 +17,6 @@ mod named_layers;
 mod reading;
 mod values;
 
-pub use asks::{DesignAsk, DeskAsk, GeographicAsk, TextKind};
+pub use asks::{DesignAsk, DeskAsk, GeographicAsk, OrderAsk, TextKind};
 pub use clr_command_line::AskFault;
 pub use reading::ask_of;

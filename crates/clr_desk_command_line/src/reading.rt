@@ -1,44 +1,40 @@
 //! Reading the words of a command line.
 
-ghost use Rattle.std.specs.Prelude.{◌≡◌, Some, IfOk, IfErr, is_some, map, option_map, true};
-ghost use Rattle.clap.specs.Words.{first_of, found_of, rows_of, subcommand_of, takes};
+ghost use Rattle.std.specs.Prelude.{◌≡◌, Some, IfOk, IfErr, map, option_map, true};
+ghost use Rattle.clap.specs.Words.{found_of, rows_of, subcommand_of, takes};
 ghost use Rattle.clr_command_line.specs.Asks.{IsMemory};
 ghost use Rattle.clr_desk_command_line.specs.Asks.{
   ask_of,
   ask_by_name,
   asked_of_office,
+  certificate_ask,
   errors_of,
   members_ask,
   geographic_asked,
   is_readable,
+  keep_ask,
   members_asked,
   merge_ask,
   or_members_asked,
+  order_ask,
   or_others_asked,
   why_of,
 };
 ghost use Rattle.clr_desk_command_line.specs.Program.{program};
 
-use crate::asks::{DeskAsk, GeographicAsk, TextKind};
+use crate::asks::{DeskAsk, GeographicAsk, OrderAsk, TextKind};
 use crate::command::whole_command;
 use crate::complaints::complaint;
 use crate::layer_reading::geographic_ask;
-use crate::values::{given_value, is_set, root};
+use crate::values::{given_value, has_value, root};
 use clap::ArgMatches;
 use clap::error::ErrorKind;
-use clr_command_line::{AskFault, database, database_with, names};
+use clr_command_line::{AskFault, database, database_with, is_set, names};
 use clr_rows::{Names, Words};
 use std::alloc::{AllocError, Global};
 
 /// What is asked, and the files, in which the office text stands first.
 type AskAndFiles = (DeskAsk, Vec<Words>);
-
-/// Returns whether an option has a value.
-fn has_value(matches: &ArgMatches, option: &str) -> bool
-    ensures { result ≡ is_some (first_of option.now (rows_of (found_of matches.now))) }
-{
-    matches.get_str(option).is_some()
-}
 
 /// Returns what `why` asks for, and its files: where a script and a certificate are given, the script
 /// counts.
@@ -60,15 +56,49 @@ fn why(alloc: Global, matches: &ArgMatches) -> Result<AskAndFiles, AllocError>
     }
 }
 
+/// Returns what `certificate` asks for, in the order of the names or in every order.
+fn certificate_ask(is_in_order: bool, root: Words, names: Names) -> DeskAsk
+    ensures { result ≡ certificate_ask is_in_order root names }
+{
+    if is_in_order {
+        DeskAsk::InOrder(OrderAsk::Certificate, root, names)
+    } else {
+        DeskAsk::Certificate(root, names)
+    }
+}
+
+/// Returns what `keep` asks for, in the order of the names or in every order.
+fn keep_ask(is_in_order: bool, root: Words, names: Names) -> DeskAsk
+    ensures { result ≡ keep_ask is_in_order root names }
+{
+    if is_in_order {
+        DeskAsk::InOrder(OrderAsk::Keep, root, names)
+    } else {
+        DeskAsk::Keep(root, names)
+    }
+}
+
+/// Returns what `order` asks for: an order, or its certificate.
+fn order_ask(is_certificate: bool) -> OrderAsk
+    ensures { result ≡ order_ask is_certificate }
+{
+    if is_certificate {
+        OrderAsk::OrderCertificate
+    } else {
+        OrderAsk::Order
+    }
+}
+
 /// Returns what is asked of members of a root, if a subcommand of this name asks it.
 #[tactic(auto, unfolding(crate::specs::Asks::members_ask))]
-fn members_ask(name: &str, root: Words, names: Names) -> Option<DeskAsk>
-    ensures { result ≡ members_ask name.now root names }
+fn members_ask(name: &str, matches: &ArgMatches, root: Words, names: Names) -> Option<DeskAsk>
+    ensures { result ≡ members_ask name.now (rows_of (found_of matches.now)) root names }
 {
     match name {
-        "certificate" => Some(DeskAsk::Certificate(root, names)),
-        "keep" => Some(DeskAsk::Keep(root, names)),
+        "certificate" => Some(certificate_ask(is_set(matches, "in-order"), root, names)),
+        "keep" => Some(keep_ask(is_set(matches, "in-order"), root, names)),
         "clashes" => Some(DeskAsk::Clashes(root, names)),
+        "order" => Some(DeskAsk::InOrder(order_ask(is_set(matches, "certificate")), root, names)),
         "words" => Some(DeskAsk::WorkOrder(root, names)),
         "map" => Some(DeskAsk::Map(root, names)),
         "report" => Some(DeskAsk::Report(root, names)),
@@ -87,7 +117,7 @@ fn over_members(
 {
     let root = root(alloc, matches)?;
     let names = names(alloc, matches)?;
-    match members_ask(name, root, names) {
+    match members_ask(name, matches, root, names) {
         Some(ask) => Ok(Some((ask, database(alloc, matches)?))),
         None => Ok(None),
     }
@@ -187,17 +217,17 @@ fn refusal(alloc: Global, matches: &ArgMatches) -> Result<AskFault, AllocError> 
     Ok(AskFault::Refused(error))
 }
 
-/// Returns what the words of a command line ask for, with the program's name first, and the names of the files that it is asked of: that
-/// of the office text, and then that of the script or the certificate or those of the layers where there are some. The subcommands are
-/// `check DB CERT`, `merge DB CERT NAME..`, `format DB`, `accept DB`, `mended DB`, `errors DB [--geojson] [--crs SYSTEM]`, `why DB [--script FILE]
-/// [--certificate FILE]`, `certificate`, `keep`, `clashes`, `words`, `map`
-/// and `report`, each with `DB [--under ROOT] NAME..`, `geojson DB [--under ROOT] [--crs SYSTEM] NAME..`, `layer DB TABLE [--in
-/// WORKSPACE]`, `office SCHEMA TABLE=FILE.. [--round] [--accept]` and `design DB NAME TABLE=FILE.. [--script] [--keys N] [--round]`. There are none
-/// or more names, and one or more layers. The root, and the workspace of a layer, is LIVE where none is given; N is 1.
+/// Returns what the words of a command line ask for, with the program's name first, and the names of the files that it is asked of: that of the office text,
+/// and then that of the script, the certificate or the office that was copied, and those of the layers, where there are some. The subcommands are `check DB
+/// CERT`, `merge DB CERT NAME..`, `format DB`, `accept DB`, `mended DB`, `errors DB [--geojson] [--crs SYSTEM]`, `why DB [--script FILE] [--certificate
+/// FILE]`, `certificate`, `keep`, `clashes`, `order`, `words`, `map` and `report`, each with `DB [--under ROOT] NAME..`, of which `certificate` and `keep`
+/// take `--in-order` and `order` takes `--certificate`, `geojson DB [--under ROOT] [--crs SYSTEM] NAME..`, `layer DB TABLE [--in WORKSPACE]`, `office SCHEMA
+/// TABLE=FILE.. [--round] [--accept]` and `design DB NAME TABLE=FILE.. [--base COPIED] [--removes CHOICE] [--script] [--keys N] [--round]`. There are none or
+/// more names, and one or more layers. The root, and the workspace of a layer, is LIVE where none is given; N is 1, and CHOICE is `yes`.
 ///
-/// Fails with `Refused` where the words name no subcommand or another count of values than it has,
-/// where a layer has no `=` or N is no key, or where they ask for help, as `help`, `--help` and `-h`, or for the version, as
-/// `--version` and `-V`; and with `OutOfMemory` for want of memory, which may come in place of any other answer.
+/// Fails with `Refused` where the words name no subcommand or another count of values than it has, where a layer has no `=`, N is no key, CHOICE is neither
+/// `yes` nor `no`, or both COPIED and a script are asked for, or where they ask for help, as `help`, `--help` and `-h`, or for the version, as `--version`
+/// and `-V`; and with `OutOfMemory` for want of memory, which may come in place of any other answer.
 pub fn ask_of<'a>(alloc: Global, words: &'a [&'a str]) -> Result<(DeskAsk, Vec<Words>), AskFault>
     ensures asks { IfOk result (λ r. ask_of (subcommand_of program (map (λ s. s.now) words.entry.now)) ≡ Some (r.0, r.1.items)) }
     ensures takes { takes program (map (λ s. s.now) words.entry.now) ≡ true

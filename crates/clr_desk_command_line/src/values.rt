@@ -1,8 +1,8 @@
 //! What `clap` found of options.
 
-ghost use Rattle.std.specs.Prelude.{◌≡◌, IfOk};
+ghost use Rattle.std.specs.Prelude.{◌≡◌, IfOk, is_some};
 ghost use Rattle.clap.specs.Words.{first_of, found_of, rows_of};
-ghost use Rattle.clr_desk_command_line.specs.Asks.{given_or, is_set, given_root};
+ghost use Rattle.clr_desk_command_line.specs.Asks.{given_or, given_root};
 
 use clap::ArgMatches;
 use clr_rows::{LIVE, Words};
@@ -42,12 +42,9 @@ pub(crate) fn root(alloc: Global, matches: &ArgMatches) -> Result<Words, AllocEr
     given_or(alloc, matches, "under", LIVE)
 }
 
-/// Returns whether an option without a value is given.
-pub(crate) fn is_set(matches: &ArgMatches, name: &str) -> bool
-    ensures { result ≡ is_set name.now (rows_of (found_of matches.now)) }
+/// Returns whether an option has a value.
+pub(crate) fn has_value(matches: &ArgMatches, option: &str) -> bool
+    ensures { result ≡ is_some (first_of option.now (rows_of (found_of matches.now))) }
 {
-    match matches.get_str(name) {
-        Some(value) => value == "true",
-        None => false,
-    }
+    matches.get_str(option).is_some()
 }

@@ -1,5 +1,5 @@
 -- Layers that are printed of LIVE ask for LIVE's own content.
-use Rattle.std.proofs.Common.{◌≡◌, ◌∙◌, ℕ, List, [], Some, Result, Ok, Err, ap, get_or, refl, subst, sym}
+use Rattle.std.proofs.Common.{◌≡◌, ◌∙◌, ℕ, Bool, List, [], Some, Result, Ok, Err, ap, get_or, refl, subst, sym}
 use Rattle.std.specs.List.{All}
 use Rattle.clr_rows.specs.Contents.{Content}
 use Rattle.clr_rows.specs.Names.{live_name}
@@ -7,17 +7,21 @@ use Rattle.clr_workspaces.specs.Marks.{Name}
 use Rattle.clr_steps.specs.Names.{is_live}
 use Rattle.clr_steps.specs.Offices.{Office, content_of}
 use Rattle.clr_layer_changes.specs.ReadBack.{IsLayerOf}
-use Rattle.clr_layer_changes.specs.Wanted.{wanted}
+use Rattle.clr_layer_changes.specs.Wanted.{united, wanted}
 use Rattle.clr_layer_changes.specs.declared.faults.FaultyLayer.{FaultyLayer}
 use Rattle.clr_layer_changes.specs.declared.options.GivenLayer.{GivenLayer}
 use Rattle.clr_layer_changes.specs.declared.options.LayerOptions.{LayerOptions}
 use Rattle.clr_layer_changes.proofs.LayersAgain.{layers_of_live as same_content}
+use Rattle.clr_layer_changes.proofs.UnitedLemmas.{united_itself}
 use Rattle.clr_layer_text.specs.TableRows.{IsTableLayer}
-use Rattle.clr_desk_layers.specs.Designs.{IsPrintOfDesign, IsPrintOfLayers, IsPrintOfLive, IsPrintOfScript, of_content, of_fault, text_print}
-use Rattle.clr_desk_layers.specs.Layers.{IsPrintOfTable, no_table_word, no_workspace_word, of_layer, of_no_table, of_no_workspace, of_table}
+use Rattle.clr_desk_layers.specs.Designs.{IsDesignPrintOver, IsPrintOfDesign, IsPrintOfLayers, IsPrintOfLive, IsPrintOfScript, of_content, of_fault, text_print}
+use Rattle.clr_desk_layers.specs.Layers.{IsPrintOfTable, no_workspace_word, of_layer, of_no_table, of_no_workspace, of_table}
 use Rattle.clr_desk_layers.specs.Layers.{of_wkt_column, unfit_print, wkt_column_word}
+use Rattle.clr_layer_faults.specs.UnfitLines.{no_table_word}
 use Rattle.clr_desk_prints.specs.Printing.{PrintoutOrFault}
-use Rattle.clr_desk_layers.specs.ReadBack.{IsPrintedOfLive, PrintedLayersLaw}
+use Rattle.clr_desk_layers.specs.Counted.{IsCounted}
+use Rattle.clr_desk_layers.specs.ReadBack.{IsPrintedOfLive, PrintedLayersLaw, SameBaseLaw}
+use Rattle.clr_desk_layers.specs.Since.{IsFirstOther, IsSincePrint, of_other, of_same}
 
 status_in : PrintoutOrFault → ℕ
 status_in (Ok print) = print.status
@@ -65,12 +69,17 @@ module _ (options : LayerOptions) (layers : List GivenLayer) (o : Office) (same 
   print_of_live print (of_fault faulty is e) = absurd (not_both o.live faulty (sym same ∙ is))
 
 pub printed_layers : PrintedLayersLaw
-printed_layers o name options layers given others =
+printed_layers o name options may_remove layers given others =
     let each : All (IsLayerOf o.schema o.live) layers = λ k d less. layer_of_live o (get_or layers k d) (given k d less) in
     let both = same_content o.schema o.live options layers each others in
     record {
-      design = print_of_live options layers o both.0 (IsPrintOfDesign name);
-      script = print_of_live options layers o both.0 (IsPrintOfScript name);
+      design = print_of_live options layers o both.0 (IsCounted may_remove o.live (IsPrintOfDesign name o.live));
+      script = print_of_live options layers o both.0 (IsCounted may_remove o.live (IsPrintOfScript name));
       office = print_of_live options layers o both.0 IsPrintOfLive;
       no_edit = both.1;
     }
+
+pub same_base : SameBaseLaw
+same_base o name options may_remove layers print (of_same schema made) =
+    subst (λ (taken : Content). IsDesignPrintOver o.live taken name options may_remove layers o print) (united_itself o.live) made
+same_base o name options may_remove layers print (of_other table other is) = absurd (other.other refl)

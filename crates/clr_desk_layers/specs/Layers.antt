@@ -6,24 +6,18 @@ use Rattle.clr_rows.specs.Schemas.{table_named}
 use Rattle.clr_workspaces.specs.Marks.{Name}
 use Rattle.clr_steps.specs.Offices.{Office, content_of, stands}
 use Rattle.clr_layer_text.specs.TableRows.{IsTableLayer}
+use Rattle.clr_layer_faults.specs.UnfitLines.{no_table_word, unfit_line}
 use Rattle.clr_desk_prints.specs.Printing.{PrintoutOrFault, printout_of}
 
--- why there is no layer, as a number and a word, the second as in a plan: no table has the name; no workspace has it; a column of the table is
--- called as the field of shapes
-abbrev pub no_table_word : List ℕ
-no_table_word = codes "8 NoTable"
-
+-- why there is no layer, as a number and a word, the second as in a plan: no workspace has the name; a column of the table is called as the
+-- field of shapes
 abbrev pub no_workspace_word : List ℕ
 no_workspace_word = codes "2 NoWorkspace"
 
 abbrev pub wkt_column_word : List ℕ
 wkt_column_word = codes "9 WktColumn"
 
--- the line of such a word, and of the name that it speaks of
-abbrev pub unfit_line : List ℕ → Name → List ℕ
-unfit_line why name = codes "unfit " ++ why ++ codes " " ++ name ++ codes "\n"
-
--- no text, and that line as the only note, which refuses
+-- no text, and the line of such a word as the only note, which refuses
 abbrev pub unfit_print : List ℕ → Name → PrintoutOrFault
 unfit_print why name = printout_of [] (unfit_line why name) true false
 

@@ -1,4 +1,6 @@
+pub mod Counted
 pub mod Designs
-pub mod LayerFaultLines
+pub mod FaultyLayers
 pub mod Layers
 pub mod ReadBack
+pub mod Since

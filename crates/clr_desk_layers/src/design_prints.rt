@@ -6,9 +6,14 @@ ghost use Rattle.clr_office_texts.specs.Drafts.{draft_in};
 ghost use Rattle.clr_desk_prints.specs.Printing.{printed};
 ghost use Rattle.clr_desk_layers.specs.Designs.{IsAcceptedOfficePrint, IsDesignPrint, IsDesignScriptPrint, IsOfficePrint, IsPrintOfAccepted};
 ghost use Rattle.clr_desk_layers.specs.Designs.{IsPrintOfDesign, IsPrintOfLive, IsPrintOfScript, faulty_layer_printout, refusal_print};
+ghost use Rattle.clr_desk_layers.specs.Counted.{IsCounted, IsPrintUnlessRemoving};
+ghost use Rattle.clr_layer_changes.specs.Changes.{edits_between as edits_from};
 
+use crate::design_counts::{removal_in, with_counts};
 use crate::layer_fault_lines::fault_line;
+use crate::layer_refusals::removal;
 use crate::relaid_drafts::draft_with_live;
+use clr_change::Edit;
 use clr_designs::{make_design, replace_live, write_design_script};
 use clr_desk_errors::accepted_print;
 use clr_desk_prints::{Ending, Print};
@@ -21,7 +26,7 @@ use clr_steps::Reply;
 use std::alloc::{AllocError, Global};
 
 /// Returns the line of the first layer with a fault as the only note, without a text.
-fn print_of_fault(
+pub(crate) fn print_of_fault(
     alloc: Global,
     layers: &[GivenLayer],
     faulty: &FaultyLayer,
@@ -36,7 +41,11 @@ fn print_of_fault(
 }
 
 /// Returns the line of a refusal as the only note, without a text.
-fn print_of_refusal(alloc: Global, schema: &Schema, reply: &Reply) -> Result<Print, AllocError>
+pub(crate) fn print_of_refusal(
+    alloc: Global,
+    schema: &Schema,
+    reply: &Reply,
+) -> Result<Print, AllocError>
     ensures { IfOk result (λ p. printed p ≡ refusal_print schema.now reply.now) }
 {
     let line = reply_line(alloc, schema, reply)?;
@@ -51,8 +60,10 @@ fn print_of_design(
     content: &Sheet,
 ) -> Result<Print, AllocError>
     requires { FitsSchema office.old.schema content.now }
-    ensures { IfOk result (λ p. IsPrintOfDesign name.now office.old content.now (printed p)) }
+    ensures { IfOk result (λ p. IsPrintOfDesign name.now office.old.live office.old content.now (printed p)) }
 {
+    let _sound = office.len();
+    let _fit = office.live();
     match make_design(alloc, office, name, content)? {
         None => Ok(Print::of_text(alloc, dump_text(alloc, office)?)),
         Some(reply) => print_of_refusal(alloc, office.schema(), &reply),
@@ -75,6 +86,78 @@ fn print_of_script(
     let edits = edits_between(alloc, office.live(), content)?;
     let text = write_design_script(alloc, office.schema(), name, LIVE, edits.as_slice())?;
     Ok(Print::of_text(alloc, text))
+}
+
+/// Returns what is printed of the design that has a content to which these edits lead, or that it removes a row and mustn't.
+fn design_unless_removing(
+    alloc: Global,
+    office: &mut Office,
+    name: &str,
+    may_remove: bool,
+    edits: &[Edit],
+    content: &Sheet,
+) -> Result<Print, AllocError>
+    requires fits { FitsSchema office.old.schema content.now }
+    requires edits { edits.now ≡ edits_from office.old.live content.now }
+    ensures { IfOk result (λ p. IsPrintUnlessRemoving may_remove office.old.live (IsPrintOfDesign name.now office.old.live) office.old content.now (printed p)) }
+{
+    match removal_in(may_remove, edits) {
+        Some(cell) => removal(alloc, office.schema(), cell),
+        None => print_of_design(alloc, office, name, content),
+    }
+}
+
+/// Returns the same of the script that makes this design.
+fn script_unless_removing(
+    alloc: Global,
+    office: &mut Office,
+    name: &str,
+    may_remove: bool,
+    edits: &[Edit],
+    content: &Sheet,
+) -> Result<Print, AllocError>
+    requires fits { FitsSchema office.old.schema content.now }
+    requires edits { edits.now ≡ edits_from office.old.live content.now }
+    ensures { IfOk result (λ p. IsPrintUnlessRemoving may_remove office.old.live (IsPrintOfScript name.now) office.old content.now (printed p)) }
+{
+    match removal_in(may_remove, edits) {
+        Some(cell) => removal(alloc, office.schema(), cell),
+        None => print_of_script(alloc, office, name, content),
+    }
+}
+
+/// Returns what is printed of the design that has a content, and how much it changes.
+fn counted_design(
+    alloc: Global,
+    office: &mut Office,
+    name: &str,
+    may_remove: bool,
+    content: &Sheet,
+) -> Result<Print, AllocError>
+    requires { FitsSchema office.old.schema content.now }
+    ensures { IfOk result (λ p. IsCounted may_remove office.old.live (IsPrintOfDesign name.now office.old.live) office.old content.now (printed p)) }
+{
+    let edits = edits_between(alloc, office.live(), content)?;
+    let edits = edits.as_slice();
+    let print = design_unless_removing(alloc, office, name, may_remove, edits, content)?;
+    with_counts(alloc, print, edits)
+}
+
+/// Returns the same of the script that makes this design.
+fn counted_script(
+    alloc: Global,
+    office: &mut Office,
+    name: &str,
+    may_remove: bool,
+    content: &Sheet,
+) -> Result<Print, AllocError>
+    requires { FitsSchema office.old.schema content.now }
+    ensures { IfOk result (λ p. IsCounted may_remove office.old.live (IsPrintOfScript name.now) office.old content.now (printed p)) }
+{
+    let edits = edits_between(alloc, office.live(), content)?;
+    let edits = edits.as_slice();
+    let print = script_unless_removing(alloc, office, name, may_remove, edits, content)?;
+    with_counts(alloc, print, edits)
 }
 
 /// Puts a content in place of LIVE's, and returns the text of the office, or the least need that the content breaks.
@@ -111,12 +194,14 @@ pub(crate) fn design_print(
     office: &mut Office,
     name: &str,
     options: LayerOptions,
+    may_remove: bool,
     layers: &[GivenLayer],
 ) -> Result<Print, AllocError>
-    ensures { IfOk result (λ p. IsDesignPrint name.now options layers.now office.old (printed p)) }
+    ensures { IfOk result (λ p. IsDesignPrint name.now options may_remove layers.now office.old (printed p)) }
 {
-    match wanted_content(alloc, office.schema(), office.live(), options, layers)? {
-        Ok(content) => print_of_design(alloc, office, name, &content),
+    let live = office.live();
+    match wanted_content(alloc, office.schema(), live, live, options, layers)? {
+        Ok(content) => counted_design(alloc, office, name, may_remove, &content),
         Err(faulty) => print_of_fault(alloc, layers, &faulty),
     }
 }
@@ -127,12 +212,14 @@ pub(crate) fn script_print(
     office: &mut Office,
     name: &str,
     options: LayerOptions,
+    may_remove: bool,
     layers: &[GivenLayer],
 ) -> Result<Print, AllocError>
-    ensures { IfOk result (λ p. IsDesignScriptPrint name.now options layers.now office.old (printed p)) }
+    ensures { IfOk result (λ p. IsDesignScriptPrint name.now options may_remove layers.now office.old (printed p)) }
 {
-    match wanted_content(alloc, office.schema(), office.live(), options, layers)? {
-        Ok(content) => print_of_script(alloc, office, name, &content),
+    let live = office.live();
+    match wanted_content(alloc, office.schema(), live, live, options, layers)? {
+        Ok(content) => counted_script(alloc, office, name, may_remove, &content),
         Err(faulty) => print_of_fault(alloc, layers, &faulty),
     }
 }
@@ -146,7 +233,8 @@ pub(crate) fn office_print(
 ) -> Result<Print, AllocError>
     ensures { IfOk result (λ p. IsOfficePrint options layers.now office.old (printed p)) }
 {
-    match wanted_content(alloc, office.schema(), office.live(), options, layers)? {
+    let live = office.live();
+    match wanted_content(alloc, office.schema(), live, live, options, layers)? {
         Ok(content) => print_of_live(alloc, office, &content),
         Err(faulty) => print_of_fault(alloc, layers, &faulty),
     }
@@ -163,7 +251,8 @@ pub(crate) fn accepted_office_print(
     requires { draft_in text.now ≡ Ok draft.now }
     ensures { IfOk result (λ p. IsAcceptedOfficePrint options layers.now draft.now (printed p)) }
 {
-    match wanted_content(alloc, draft.schema(), draft.live(), options, layers)? {
+    let live = draft.live();
+    match wanted_content(alloc, draft.schema(), live, live, options, layers)? {
         Ok(content) => print_of_accepted(alloc, text, draft, &content),
         Err(faulty) => print_of_fault(alloc, layers, &faulty),
     }

@@ -1,4 +1,3 @@
-pub mod ChildLemmas
 mod Codes
 pub mod Made
 pub mod OneHint

@@ -1,6 +1,6 @@
 pub use Rattle.clr_office.specs.Outcomes
 pub mod Calls
-pub mod Members
+pub use Rattle.clr_asked_members.specs.Members
 pub mod NameHints
 pub mod Printing
 pub mod Systems

@@ -11,13 +11,12 @@
 //! - `plan_members`: the plan of members, with what it promises (`IsPlanned`).
 #![tactic(auto)]
 
-mod children;
 mod openings;
 mod plans;
 mod prints;
 mod systems;
 
-pub use children::members_asked;
+pub use clr_asked_members::members_asked;
 pub use clr_office::{RunFault, Words, hint_lines};
 pub use openings::{answer_over_members, answer_over_office};
 pub use plans::plan_members;

@@ -6,8 +6,8 @@ ghost use Rattle.clr_desk_prints.specs.Members.{members_or_children};
 ghost use Rattle.clr_desk_prints.specs.NameHints.{IsHinted};
 ghost use Rattle.clr_desk_prints.specs.Printing.{IsMadePrintout, IsPrintoutIn, printed};
 
-use crate::children::members_asked;
 use crate::prints::{Print, notes_of};
+use clr_asked_members::members_asked;
 use clr_office::{Office, RunFault, Words, hint_lines, open_office, texts_of_names};
 use std::alloc::{AllocError, Global};
 

@@ -44,7 +44,7 @@ use Rattle.clr_layer_changes.specs.Keys as keys
 use Rattle.clr_layer_changes.specs.Keys.{is_free, keys_from, least_free}
 use Rattle.clr_layer_changes.specs.LayerRows.{all_rows, layer_rows, at_number, of_text, own_rows, put_new, rows_at_keys, with_given, with_own}
 use Rattle.clr_layer_changes.specs.Turns.{after_each}
-use Rattle.clr_layer_changes.specs.Wanted.{at_layer, table_cells_in, replaced, table_of, wanted, with_layer, with_layer_at}
+use Rattle.clr_layer_changes.specs.Wanted.{at_layer, table_cells_in, replaced, table_of, wanted_over, with_layer, with_layer_at}
 
 -- one reading after another ------------------------------------------------------------------
 
@@ -263,11 +263,11 @@ module _ (tables : List TableDef) where
   all_given [] = tt
   all_given (layer ∷ layers) = (tt, all_given layers)
 
-  pub wanted_fits : (live : Content) (options : LayerOptions) (layers : List GivenLayer) (content : Content) → FitsSchema tables live
-      → wanted tables live options layers ≡ Ok content → FitsSchema tables content
-  unfolding wanted
-  wanted_fits live options layers content fits e =
-      each_keeps (FitsSchema tables) (λ layer. Unit {0}) (with_layer_at tables live options layers)
-      (λ n s layer next holds given is. with_layer_fits live options (take n layers) s layer next holds
-      (at_layer_is n (with_layer tables live options (take n layers) s layer) next is))
-      0 live layers content fits (all_given layers) e
+  pub wanted_fits : (base taken : Content) (options : LayerOptions) (layers : List GivenLayer) (content : Content) → FitsSchema tables base
+      → wanted_over tables base taken options layers ≡ Ok content → FitsSchema tables content
+  unfolding wanted_over
+  wanted_fits base taken options layers content fits e =
+      each_keeps (FitsSchema tables) (λ layer. Unit {0}) (with_layer_at tables taken options layers)
+      (λ n s layer next holds given is. with_layer_fits taken options (take n layers) s layer next holds
+      (at_layer_is n (with_layer tables taken options (take n layers) s layer) next is))
+      0 base layers content fits (all_given layers) e

@@ -39,7 +39,7 @@ use Rattle.clr_layer_changes.specs.Changes.{edit_of, edits_between}
 use Rattle.clr_layer_changes.specs.LayerRows.{all_rows, at_number, layer_rows, of_text, own_rows, put_new, rows_at_keys, with_given, with_own}
 use Rattle.clr_layer_changes.specs.ReadBack.{AreOfOtherTables, IsLayerOf, LayersOfLiveLaw}
 use Rattle.clr_layer_changes.specs.Turns.{after_each}
-use Rattle.clr_layer_changes.specs.Wanted.{at_layer, is_in, is_layer_of_table, replaced, table_cells_in, table_of, wanted, with_layer, with_layer_at}
+use Rattle.clr_layer_changes.specs.Wanted.{at_layer, is_in, is_layer_of_table, replaced, table_cells_in, table_of, wanted, wanted_over, with_layer, with_layer_at}
 
 -- the rows of a table, each at its cell ---------------------------------------------------------
 
@@ -247,7 +247,7 @@ module _ (tables : List TableDef) (live : Content) (options : LayerOptions) wher
       ∙ ap Ok (replaced_again live at)
 
   all_change_nothing : (layers : List GivenLayer) → All (IsLayerOf tables live) layers → AreOfOtherTables layers → wanted tables live options layers ≡ Ok live
-  unfolding wanted
+  unfolding wanted_over
   all_change_nothing layers given others =
       unchanged (with_layer_at tables live options layers) live 0 layers (λ i layer is.
       let within = slice_get_within layers i layer is in

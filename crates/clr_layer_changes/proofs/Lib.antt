@@ -3,3 +3,4 @@ pub mod FitLemmas
 pub mod KeyLemmas
 pub mod LayersAgain
 pub mod TurnLemmas
+pub mod UnitedLemmas

@@ -59,6 +59,15 @@ at_layer n (Err e) = Err (record { layer = n; number = e.0; fault = e.1 })
 abbrev pub with_layer_at : List TableDef → Content → LayerOptions → List GivenLayer → ℕ → Content → GivenLayer → Result Content FaultyLayer
 with_layer_at schema live options layers n content layer = at_layer n (with_layer schema live options (take n layers) content layer)
 
+-- a content, in which each table of a layer has the rows of this layer; or the first fault. A row without a key gets none at which another content has
+-- a row
+unfoldable pub wanted_over : List TableDef → Content → Content → LayerOptions → List GivenLayer → Result Content FaultyLayer
+wanted_over schema base taken options layers = after_each (with_layer_at schema taken options layers) 0 base layers
+
 -- LIVE's content, in which each table of a layer has the rows of this layer; or the first fault
-unfoldable pub wanted : List TableDef → Content → LayerOptions → List GivenLayer → Result Content FaultyLayer
-wanted schema live options layers = after_each (with_layer_at schema live options layers) 0 live layers
+abbrev pub wanted : List TableDef → Content → LayerOptions → List GivenLayer → Result Content FaultyLayer
+wanted schema live options layers = wanted_over schema live live options layers
+
+-- the rows of two contents; where both have one at a cell, that of the second
+abbrev pub united : Content → Content → Content
+united one other = over one (with_rows (finite.entries other))

@@ -1,8 +1,8 @@
 //! What layers change: the content that they ask for, and the edits that lead to it.
 //!
-//! - `wanted_content` [`content`, `fit`] reads layers, each the text of a table, and gives LIVE's content with their rows in place of those of
+//! - `wanted_content` [`content`, `fit`] reads layers, each the text of a table, and gives a base content with their rows in place of those of
 //!   their tables, or the first fault, with its layer and its record. A row without a key gets the least one that is free, from a first key on.
-//!   The content fits the schema.
+//!   The content fits the schema. `united_content` gives the rows of two contents.
 //! - `edits_between` [`edits`, `leads`] gives an edit for each cell at which two contents differ; made one after another over the
 //!   first content they give the second.
 //! - `layers_of_live_change_nothing`: the law that layers of LIVE, each of another table, ask for LIVE's own content, and that no edit leads to it.
@@ -24,4 +24,4 @@ pub use faults::{FaultyLayer, LayersFault};
 pub use laws::layers_of_live_change_nothing;
 pub use limits::records_of_layers;
 pub use options::{GivenLayer, LayerOptions};
-pub use wanted::wanted_content;
+pub use wanted::{united_content, wanted_content};

@@ -5,7 +5,7 @@ ghost use Rattle.std.specs.FinMap as finite;
 ghost use Rattle.std.specs.List.{list_any};
 ghost use Rattle.clr_rows.specs.Schemas.{FitsSchema};
 ghost use Rattle.clr_rows.specs.Sheets.{with_none, with_rows};
-ghost use Rattle.clr_layer_changes.specs.Wanted.{Replaces, table_cells_in, is_layer_of_table, replaced, table_of, wanted, with_layer};
+ghost use Rattle.clr_layer_changes.specs.Wanted.{Replaces, table_cells_in, is_layer_of_table, replaced, table_of, united, wanted_over, with_layer};
 
 use crate::faults::{FaultyLayer, LayersFault};
 use crate::layer_rows::layer_rows;
@@ -99,28 +99,31 @@ fn put_layer(
     }
 }
 
-/// Returns LIVE's content with the rows of layers in place of those of their tables. A row without a key gets the least key from the first
-/// one on at which neither LIVE nor the layer so far has a row, those with keys of their own being put first. The fault is that of the
-/// first layer that has one. In each the tests come in this order: `TableTwice` where a layer before it has the same table, and
+/// Returns a base content with the rows of layers in place of those of their tables. A row without a key gets the least key from the first
+/// one on at which neither the content of taken keys nor the layer so far has a row, those with keys of their own being put first. The fault is that of
+/// the first layer that has one. In each the tests come in this order: `TableTwice` where a layer before it has the same table, and
 /// `NoTable` where no table has the name, both beside 0; then, beside the number of the record, `Unread` with the first fault of the
-/// text, `KeyTwice` for the first row with the key of a row before it, and `NoKey` for the first row for which no key is left. Where LIVE's
+/// text, `KeyTwice` for the first row with the key of a row before it, and `NoKey` for the first row for which no key is left. Where the base
 /// content fits the schema, so does the one that is returned.
+/// For example, where the base has main 1, main 2 was laid since, and the layer of mains has main 1 and a row without a key, this row is main 3 if
+/// the taken keys are those of both.
 pub fn wanted_content(
     alloc: Global,
     schema: &Schema,
-    live: &Sheet,
+    base: &Sheet,
+    taken: &Sheet,
     options: LayerOptions,
     layers: &[GivenLayer],
 ) -> Result<Result<Sheet, FaultyLayer>, AllocError>
-    ensures content { IfOk result (λ found. found ≡ wanted schema.now live.now options layers.now) }
-    ensures fit { FitsSchema schema.now live.now → IfOk result (λ found. IfOk found (FitsSchema schema.now)) }
+    ensures content { IfOk result (λ found. found ≡ wanted_over schema.now base.now taken.now options layers.now) }
+    ensures fit { FitsSchema schema.now base.now → IfOk result (λ found. IfOk found (FitsSchema schema.now)) }
 {
-    let mut content = live.copy()?;
+    let mut content = base.copy()?;
     for i in 0..layers.len() {
         let put = put_layer(
             alloc,
             schema,
-            live,
+            taken,
             options,
             &layers[..i],
             &layers[i],
@@ -135,4 +138,15 @@ pub fn wanted_content(
         }
     }
     Ok(Ok(content))
+}
+
+/// Returns the rows of two contents; where both have one at a cell, that of the second.
+pub fn united_content(alloc: Global, one: &Sheet, other: &Sheet) -> Result<Sheet, AllocError>
+    ensures { IfOk result (λ content. content ≡ united one.now other.now) }
+{
+    let mut content = one.copy()?;
+    let mut cells = Vec::new(alloc);
+    add_rows(&mut cells, other)?;
+    content.put_all(cells)?;
+    Ok(content)
 }

@@ -1,9 +1,10 @@
 -- The text of a layer, and the rows that a text is.
-use Rattle.std.specs.Prelude.{ℕ, ◌+◌, ◌==◌, List, [], ◌∷◌, ◌++◌, drop, length, map, position}
+use Rattle.std.specs.Prelude.{◌≡◌, ℕ, ◌+◌, ◌==◌, List, [], ◌∷◌, ◌++◌, drop, length, map, position}
 use Rattle.std.specs.Prelude.{◌||◌, Bool, true, false, not, Option, Some, None, Result, Ok, Err, slice_get, unwrap_or, ℤ, pos, if◌then◌else◌}
 use Rattle.std.specs.Fmt.{signed_decimal}
 use Rattle.std.specs.List.{list_any}
 use Rattle.std.specs.Str.{bytes_eq}
+use Rattle.csv.specs.Writing.{default_writer, row_text}
 use Rattle.clr_rows.specs.declared.cells.CellId.{CellId}
 use Rattle.clr_rows.specs.declared.faults.RowFault.{RowFault}
 use Rattle.clr_rows.specs.declared.faults.RowFault.TheVariants.{NoTable}
@@ -70,6 +71,13 @@ row_fields r = key_text r.key ∷ (map value_field r.row.values ++ shape_fields 
 abbrev pub layer_text : TableDef → List LayerRow → List ℕ
 layer_text table rows = records_text (header_of table ∷ map row_fields rows)
 
+-- the line of the header, and that of a row
+abbrev pub header_line : TableDef → List ℕ
+header_line table = row_text default_writer (header_of table)
+
+abbrev pub row_line : LayerRow → List ℕ
+row_line r = row_text default_writer (row_fields r)
+
 -- reading: the header -------------------------------------------------------------------------------
 
 abbrev pub once_at : List (List ℕ) → List ℕ → Option ℕ → Result ℕ LayerFault
@@ -125,6 +133,10 @@ shape_in rounded (Some heading) fields = shape_of rounded heading.form (field_of
 -- the cell at which a row is to stand; a row without a key fits where it fits at key 1
 abbrev pub cell_of : ℕ → Option ℤ → CellId
 cell_of table key = record { table = table; key = unwrap_or key (pos 1) }
+
+-- a row fits the table of a number
+abbrev pub IsFitting : List TableDef → ℕ → LayerRow → Type 0
+IsFitting tables table r = row_fault tables (cell_of table r.key) r.row ≡ None
 
 abbrev pub if_fits : Option RowFault → LayerRow → Result LayerRow LayerFault
 if_fits None r = Ok r

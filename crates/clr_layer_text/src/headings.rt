@@ -21,21 +21,21 @@ use std::alloc::{AllocError, Global};
 
 /// Where the values of a column stand, and of which kind they are.
 #[derive(Clone, Copy, Debug)]
-pub(crate) struct Heading {
+pub struct Heading {
     pub(crate) kind: Kind,
     pub(crate) at: usize,
 }
 
 /// Where the shapes stand, and of which form they are.
 #[derive(Clone, Copy, Debug)]
-pub(crate) struct ShapeHeading {
+pub struct ShapeHeading {
     pub(crate) form: Form,
     pub(crate) at: usize,
 }
 
 /// Where the fields of a row stand in records of so many fields.
 #[derive(Drop)]
-pub(crate) struct Headings {
+pub struct Headings {
     pub(crate) width: usize,
     pub(crate) key: usize,
     pub(crate) columns: Vec<Heading>,
@@ -142,7 +142,7 @@ fn headings_in(alloc: Global, names: &[Words], table: &TableDef) -> Result<Headi
 /// `ColumnTwice` where a column is called `WKT` and the rows have shapes, with `NoColumn` where the header lacks
 /// `KEY`, a column of the table, or `WKT` where its rows have shapes, and with `ColumnTwice` where one of these
 /// stands twice. Other names are passed over.
-pub(crate) fn find_headings(
+pub fn find_headings(
     alloc: Global,
     header: &StringRecord,
     table: Option<&TableDef>,

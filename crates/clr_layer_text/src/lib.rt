@@ -16,9 +16,10 @@ mod table_rows;
 mod writing;
 
 pub use faults::LayerFault;
+pub use headings::{Heading, Headings, ShapeHeading, find_headings};
 pub use laws::layer_is_read_back;
 pub use limits::{SHAPE, limits_of_layers};
-pub use reading::read_layer;
+pub use reading::{read_layer, read_row};
 pub use rows::LayerRow;
 pub use table_rows::{rows_of_table, table_layer};
-pub use writing::write_layer;
+pub use writing::{header_line, row_line, write_layer};

@@ -1,13 +1,13 @@
 //! Layers, read from CSV.
 
-ghost use Rattle.std.specs.Prelude.{◌≡◌, ◌+◌, ◌<◌, ◌^◌, length, map};
+ghost use Rattle.std.specs.Prelude.{◌≡◌, ◌+◌, ◌<◌, ◌^◌, length, map, IfOk};
 ghost use Rattle.csv.specs.Records.{fields_of};
 ghost use Rattle.clr_records.specs.Decimals.{number_of};
 ghost use Rattle.clr_readings.specs.Readings.{Gives, GivesAt, or_fault};
 ghost use Rattle.clr_layer_text.specs.declared.faults.LayerFault.TheVariants.{BadNumber};
 ghost use Rattle.clr_layer_text.specs.Faults.{layer_lacks_memory};
 ghost use Rattle.clr_layer_text.specs.Headings.{seen_headings};
-ghost use Rattle.clr_layer_text.specs.Layers.{fitting, key_in_field, layer_in_text, layer_rows_of, row_of, rows_from, shape_in, value_of, values_of};
+ghost use Rattle.clr_layer_text.specs.Layers.{IsFitting, fitting, key_in_field, layer_in_text, layer_rows_of, row_of, rows_from, shape_in, value_of, values_of};
 ghost use Rattle.clr_layer_text.specs.Layers.{whole_row_of};
 
 use crate::faults::{LayerFault, numbered_fault};
@@ -68,7 +68,8 @@ fn shape(
 
 /// Returns the row, if it fits its table. A row without a key fits where it fits at key 1.
 fn fitting_row(schema: &Schema, table: u16, row: LayerRow) -> Result<LayerRow, LayerFault>
-    ensures { result ≡ fitting schema.now table row }
+    ensures value { result ≡ fitting schema.now table row }
+    ensures fits { IfOk result (IsFitting schema.now table) }
 {
     let key = row.key.unwrap_or(1);
     match schema.fits(CellId { table, key }, &row.row) {
@@ -87,7 +88,8 @@ fn whole_row(
     headings: &Headings,
     fields: &StringRecord,
 ) -> Result<LayerRow, LayerFault>
-    ensures { Gives layer_lacks_memory (λ x. x) result (whole_row_of schema.now table rounded (seen_headings headings.now) (fields_of fields.now)) }
+    ensures value { Gives layer_lacks_memory (λ x. x) result (whole_row_of schema.now table rounded (seen_headings headings.now) (fields_of fields.now)) }
+    ensures fits { IfOk result (IsFitting schema.now table) }
 {
     let key = key(field(fields, headings.key))?;
     let values = values(alloc, headings.columns.as_slice(), fields)?;
@@ -102,8 +104,9 @@ fn whole_row(
     )
 }
 
-/// Returns the row of a record.
-fn row(
+/// Returns the row of a record of a layer, by where the header says that its fields stand. It fails with
+/// `FieldCount` where the record has another number of fields than the header, and else as `read_layer` does.
+pub fn read_row(
     alloc: Global,
     schema: &Schema,
     table: u16,
@@ -111,7 +114,8 @@ fn row(
     headings: &Headings,
     fields: &StringRecord,
 ) -> Result<LayerRow, LayerFault>
-    ensures { Gives layer_lacks_memory (λ x. x) result (row_of schema.now table rounded (seen_headings headings.now) (fields_of fields.now)) }
+    ensures value { Gives layer_lacks_memory (λ x. x) result (row_of schema.now table rounded (seen_headings headings.now) (fields_of fields.now)) }
+    ensures fits { IfOk result (IsFitting schema.now table) }
 {
     if fields.len() == headings.width {
         whole_row(alloc, schema, table, rounded, headings, fields)
@@ -134,7 +138,7 @@ fn rows(
 {
     let mut list = Vec::new(alloc);
     for (i, fields) in records.iter().enumerate() {
-        match row(alloc, schema, table, rounded, headings, fields) {
+        match read_row(alloc, schema, table, rounded, headings, fields) {
             Ok(row) => {
                 if list.push(row).is_err() {
                     return Err((0, LayerFault::OutOfMemory));

@@ -4,7 +4,7 @@ ghost use Rattle.std.specs.Prelude.{◌≡◌, ◌++◌, ◌∷◌, [], Ok, IfOk
 ghost use Rattle.csv.specs.Records.{fields_of, partial_of};
 ghost use Rattle.csv.specs.Writing.{default_writer, row_text};
 ghost use Rattle.clr_rows.specs.Schemas.{names_of};
-ghost use Rattle.clr_layer_text.specs.Layers.{header_of, key_text, layer_text, row_fields, shape_fields, shape_name};
+ghost use Rattle.clr_layer_text.specs.Layers.{header_line, header_of, key_text, layer_text, row_fields, row_line, shape_fields, shape_name};
 ghost use Rattle.std.specs.List.{All};
 ghost use Rattle.clr_layer_text.specs.ReadBack.{HasTexts};
 ghost use Rattle.clr_records.specs.Writing.{IsBetween, records_text, written_by};
@@ -133,4 +133,33 @@ pub fn write_layer(
         Ok(text) => Ok(text),
         Err(_) => Err(AllocError),
     }
+}
+
+/// Returns a record as a line.
+fn line_of(alloc: Global, fields: &ByteRecord) -> Result<Vec<u8>, AllocError>
+    ensures { IfOk result (λ line. line.items ≡ row_text default_writer (fields_of fields.now)) }
+{
+    let mut writer = WriterBuilder::new().from_writer(Vec::new(alloc));
+    add_record(&mut writer, fields)?;
+    match writer.into_inner() {
+        Ok(line) => Ok(line),
+        Err(_) => Err(AllocError),
+    }
+}
+
+/// Returns the first line of a table's layers, as `write_layer` has it: the header, ended by `\n`.
+pub fn header_line(alloc: Global, table: &TableDef) -> Result<Vec<u8>, AllocError>
+    ensures { IfOk result (λ line. line.items ≡ header_line table.now) }
+{
+    let names = header(alloc, table)?;
+    line_of(alloc, &names)
+}
+
+/// Returns the line of a row in a layer, as `write_layer` has it, ended by `\n`.
+pub fn row_line(alloc: Global, row: &LayerRow) -> Result<Vec<u8>, AllocError>
+    ensures written { IfOk result (λ line. line.items ≡ row_line row.now) }
+    ensures texts { OnOk result (HasTexts row.now) }
+{
+    let fields = record_of(alloc, row)?;
+    line_of(alloc, &fields)
 }

@@ -1,11 +1,12 @@
 -- The lines of verdicts.
-use Rattle.std.specs.Prelude.{ℕ, List, [], ◌++◌, codes, Option, Some, None}
+use Rattle.std.specs.Prelude.{ℕ, List, [], ◌++◌, codes, Option, Some, None, slice_get}
 use Rattle.std.specs.Fmt.{decimal}
 use Rattle.clr_rows.specs.declared.cells.CellId.{CellId}
 use Rattle.clr_rows.specs.declared.tables.TableDef.{TableDef}
 use Rattle.clr_workspaces.specs.Marks.{Name}
 use Rattle.clr_needs.specs.declared.needs.Need.{Need}
 use Rattle.clr_needs.specs.declared.needs.VersionId.{VersionId}
+use Rattle.clr_cert.specs.declared.certificates.Precedence.{Precedence}
 use Rattle.clr_clearance.specs.declared.verdicts.Verdict.{Verdict}
 use Rattle.clr_clearance.specs.declared.verdicts.Verdict.TheVariants as verdict
 use Rattle.clr_cert.specs.Texts.{entry_subject_text}
@@ -40,6 +41,14 @@ shared_text tables cell first second = codes "5 SharedCell " ++ cell_text tables
 abbrev pub uncovered_text : List TableDef → Need → List ℕ
 uncovered_text tables need = codes "6 Uncovered " ++ need_of_versions_text tables need ++ codes "\n"
 
+-- two names of which the first isn't listed before the second
+abbrev pub not_before_text : Name → Name → List ℕ
+not_before_text earlier later = codes "8 NotBefore " ++ earlier ++ codes " " ++ later ++ codes "\n"
+
+abbrev pub misplaced_text : Option Precedence → List ℕ
+misplaced_text None = not_before_text [] []
+misplaced_text (Some p) = not_before_text p.earlier p.later
+
 -- the line of a verdict on members of a root: its number and its name, with its details
 abbrev pub verdict_text : List TableDef → List Name → Name → Verdict → List ℕ
 verdict_text tables members root verdict.Clear = codes "clear\n"
@@ -51,3 +60,9 @@ verdict_text tables members root (verdict.Conflict at cell count) = conflict_tex
 verdict_text tables members root (verdict.SharedCell cell first second) = shared_text tables cell (member_name members first) (member_name members second)
 verdict_text tables members root (verdict.Uncovered need) = uncovered_text tables need
 verdict_text tables members root verdict.NotKept = name_text (codes "7 NotKept ") root
+verdict_text tables members root (verdict.NotBefore at) = misplaced_text None
+
+-- the line of a verdict on members of a root, some of whom go before others: its number and its name, with its details
+abbrev pub verdict_text_in_turn : List TableDef → List Name → List Precedence → Name → Verdict → List ℕ
+verdict_text_in_turn tables members before root (verdict.NotBefore at) = misplaced_text (slice_get before at)
+verdict_text_in_turn tables members before root v = verdict_text tables members root v

@@ -1,8 +1,9 @@
 //! Lines of replies, reports and verdicts.
 //!
 //! - `reply_line`, `rows_lines`, `changes_lines`, `conflicts_lines`, `audit_lines`,
-//!   `unheld_line`, `verdict_line` and `unfit_line` each give the exact bytes, memory aside. `verdict_line` is for the
-//!   verdict on a certificate or of a plan; it has the names of members and cells. `unfit_line` is for
+//!   `unheld_line`, `verdict_line`, `verdict_line_in_turn` and `unfit_line` each give the exact bytes, memory aside. `verdict_line` is for the
+//!   verdict of a plan; it has the names of members and cells. `verdict_line_in_turn` is for the verdict on a certificate, and has
+//!   the names of its precedences as well. `unfit_line` is for
 //!   members that fail a test. `row_fault_word` is the name of a row's fault.
 //! - `add_cell`, `add_need` and `add_workspace` [`ok`, `begun`], and `add_count` [`ok`, `err`],
 //!   add their bytes to a line or to lines. If memory runs out, what stood there still stands there, and behind it at
@@ -26,4 +27,4 @@ pub use report_lines::{
 };
 pub use row_fields::{add_cell_fields, add_row_fields};
 pub use row_lines::rows_lines;
-pub use verdict_lines::{unfit_line, verdict_line};
+pub use verdict_lines::{unfit_line, verdict_line, verdict_line_in_turn};

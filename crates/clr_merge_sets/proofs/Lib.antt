@@ -1,6 +1,7 @@
 pub mod ListLemmas
 pub mod MemberLemmas
 pub mod NameLemmas
+pub mod PrecedenceLemmas
 pub mod ReadLemmas
 pub mod RepeatLemmas
 pub mod RootLemmas

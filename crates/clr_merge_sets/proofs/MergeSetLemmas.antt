@@ -28,7 +28,7 @@ use Rattle.clr_steps.proofs.FitLemmas.{fits_content_of}
 use Rattle.clr_engine.specs.Fitting.{IsAdmitted}
 use Rattle.clr_clearance.specs.declared.verdicts.Verdict.{Verdict}
 use Rattle.clr_clearance.specs.declared.verdicts.Verdict.TheVariants as verdict
-use Rattle.clr_clearance.specs.MergeSets.{RootHolds, change_sets, is_child, setting_by_position}
+use Rattle.clr_clearance.specs.MergeSets.{change_sets, is_child, setting_by_position}
 use Rattle.clr_clearance.specs.Verdicts.{first_conflict, member_fault, missing_member, names_fault, repeated_member, root_fault, stray_member}
 use Rattle.clr_clearance.proofs.ClearLemmas.{each_fails, has_at, neither, position_of}
 use Rattle.clr_clearance.proofs.MergeSetLemmas.{content_above}

@@ -1,5 +1,5 @@
 -- What an office shows by name, and the tests of names.
-use Rattle.std.proofs.Common.{◌≡◌, ℕ, ◌+◌, ◌<◌, ◌≤◌, ◌⊎◌, inl, inr, Bool, true, false, not, cond, ◌||◌, ◌&&◌, List, [], Option, Some, None, get_or}
+use Rattle.std.proofs.Common.{◌≡◌, ℕ, ◌+◌, ◌<◌, ◌≤◌, ◌⊎◌, inl, inr, Bool, true, false, not, cond, ◌||◌, ◌&&◌, List, [], ◌∷◌, Option, Some, None, get_or}
 use Rattle.std.proofs.Common.{is_some, length, nat_lt, refl, sym, ap, unwrap_or, ◌∙◌, arith}
 use Rattle.std.specs.Prelude.{position, slice_get}
 use Rattle.std.specs.List.{position_or_len}
@@ -89,11 +89,11 @@ module _ (o : Office) (root name : Name) (members : List Name) where
 
 -- the first name that passes a test ------------------------------------------------------------------
 
-module _ (p : Name → Bool) (names : List Name) where
+module _ {X : Type 0} (p : X → Bool) (names : List X) where
   abbrev pub NonePasses : ℕ → Type 0
-  NonePasses at = (k : ℕ) (n : Name) → k < at → slice_get names k ≡ Some n → p n ≡ false
+  NonePasses at = (k : ℕ) (n : X) → k < at → slice_get names k ≡ Some n → p n ≡ false
 
-  pub one_fails : (at : ℕ) (n : Name) → slice_get names at ≡ Some n → p n ≡ false → NonePasses at → NonePasses (at + 1)
+  pub one_fails : (at : ℕ) (n : X) → slice_get names at ≡ Some n → p n ≡ false → NonePasses at → NonePasses (at + 1)
   one_fails at n is fails before k m less e = elim (side k less) [
     | inl earlier ↦ before k m earlier e
     | inr last ↦ (let one : n ≡ m = (let both : Some n ≡ Some m = sym is ∙ ap (slice_get names) (sym last) ∙ e in cc) in ap p (sym one) ∙ fails)
@@ -102,28 +102,32 @@ module _ (p : Name → Bool) (names : List Name) where
       side : (j : ℕ) → j < at + 1 → (j < at) ⊎ (j ≡ at)
       side j h = grind (arith, h)
 
-  first_at : (at : ℕ) → at ≤ length names → NonePasses at → ((n : Name) → slice_get names at ≡ Some n → p n ≡ true) → position_or_len p names ≡ at
-  first_at at le before here =
-      position_or_len_is p names at [] le (λ k less. before k (get_or names k []) less (slice_get-get_or names k [] (omega (arith, less, le))))
-      (λ less. here (get_or names at []) (slice_get-get_or names at [] less))
+  first_at : (d : X) (at : ℕ) → at ≤ length names → NonePasses at → ((n : X) → slice_get names at ≡ Some n → p n ≡ true) → position_or_len p names ≡ at
+  first_at d at le before here =
+      position_or_len_is p names at d le (λ k less. before k (get_or names k d) less (slice_get-get_or names k d (omega (arith, less, le))))
+      (λ less. here (get_or names at d) (slice_get-get_or names at d less))
 
   position_at : (at : ℕ) → position_or_len p names ≡ at → position p names ≡ cond (nat_lt at (length names)) (Some at) None
   position_at at e = λ i. cond (nat_lt (e i) (length names)) (Some (e i)) None
 
-  pub first_passes : (at : ℕ) (n : Name) → slice_get names at ≡ Some n → p n ≡ true → NonePasses at → Some at ≡ position p names
+  pub first_passes : (at : ℕ) (n : X) → slice_get names at ≡ Some n → p n ≡ true → NonePasses at → Some at ≡ position p names
   first_passes at n is passes before =
       let within = slice_get_within names at n is in
-      sym (position_at at (first_at at (omega (arith, within)) before (λ m e. (let one : n ≡ m = (let both : Some n ≡ Some m = sym is ∙ e in cc) in
+      sym (position_at at (first_at n at (omega (arith, within)) before (λ m e. (let one : n ≡ m = (let both : Some n ≡ Some m = sym is ∙ e in cc) in
       ap p (sym one) ∙ passes)))
       ∙ ap (λ b. cond b (Some at) None) (lt-ltb at (length names) within))
 
-  pub none_passes : (at : ℕ) → length names ≤ at → NonePasses at → None ≡ position p names
-  none_passes at past before =
+  none_passes_by : (d : X) (at : ℕ) → length names ≤ at → NonePasses at → None ≡ position p names
+  none_passes_by d at past before =
       let whole = length names in
-      let past_end : (n : Name) → slice_get names whole ≡ Some n → p n ≡ true =
+      let past_end : (n : X) → slice_get names whole ≡ Some n → p n ≡ true =
       λ n e. absurd (let within = slice_get_within names whole n e in omega (arith, within)) in
-      sym (position_at whole (first_at whole (omega arith) (λ k n less e. before k n (omega (arith, less, past)) e) past_end)
+      sym (position_at whole (first_at d whole (omega arith) (λ k n less e. before k n (omega (arith, less, past)) e) past_end)
       ∙ ap (λ b. cond b (Some whole) None) (le-ltb whole whole (omega arith)))
+
+pub none_passes : {X : Type 0} (p : X → Bool) (names : List X) (at : ℕ) → length names ≤ at → NonePasses p names at → None ≡ position p names
+none_passes p [] at past before = refl
+none_passes p (n ∷ ns) at past before = none_passes_by p (n ∷ ns) n at past before
 
 -- workspaces under others --------------------------------------------------------------------------------
 

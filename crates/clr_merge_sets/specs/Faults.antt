@@ -1,6 +1,6 @@
 -- Why the parts of a merge set aren't read: a test of members that fails, or want of memory where no test of names fails; and the verdict where they
 -- make no scene.
-use Rattle.std.specs.Prelude.{◌≡◌, Some, None}
+use Rattle.std.specs.Prelude.{◌≡◌, Bool, true, false, Option, Some, None}
 use Rattle.clr_needs.specs.declared.faults.SceneFault.{SceneFault}
 use Rattle.clr_needs.specs.declared.faults.SceneFault.TheVariants as scene
 use Rattle.clr_steps.specs.Offices.{Office}
@@ -18,3 +18,9 @@ pub data IsMergeSetFault (o : Office) (s : MergeSet) (v : Verdict) : Type 0 wher
 abbrev pub verdict_of : SceneFault → Verdict
 verdict_of (scene.SharedCell cell first second) = verdict.SharedCell cell first second
 verdict_of scene.OutOfMemory = verdict.OutOfMemory
+
+-- the fault is that of a test of names that comes before the one of precedences
+abbrev pub is_told_first : Option Verdict → Bool
+is_told_first (Some verdict.NotKept) = true
+is_told_first (Some (verdict.RepeatedMember at)) = true
+is_told_first _ = false

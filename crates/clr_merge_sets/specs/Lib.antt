@@ -4,3 +4,4 @@ pub mod MemberChanges
 pub mod MergeSetNames
 pub mod MergeSets
 pub mod Plans
+pub mod PositionPairs

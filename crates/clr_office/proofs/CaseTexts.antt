@@ -8,18 +8,18 @@ use Rattle.clr_steps.specs.Offices.{Office}
 use Rattle.clr_steps.specs.Steps.{is_lost}
 use Rattle.clr_clearance.specs.declared.verdicts.Verdict.{Verdict}
 use Rattle.clr_clearance.specs.declared.verdicts.Verdict.TheVariants as verdict
-use Rattle.clr_clearance.specs.ClearedRuns.{IsClearedRun, IsQuietStart}
-use Rattle.clr_clearance.specs.Headline.{RunsAreCleared}
 use Rattle.clr_clearance.specs.Plans.{merges}
-use Rattle.clr_clearance.specs.Verdicts.{IsVerdict}
+use Rattle.clr_ordered_clearance.specs.Runs.{IsClearedRunInTurn, IsQuietStartInTurn}
+use Rattle.clr_ordered_clearance.specs.VerdictLaws.{RunsAreClearedInTurn}
+use Rattle.clr_ordered_clearance.specs.Verdicts.{IsVerdictInTurn}
 use Rattle.clr_cert.specs.declared.certificates.Certificate.{Certificate}
 use Rattle.clr_check.specs.Answers.{IsRefusingVerdict}
-use Rattle.clr_merge_sets.specs.Certificates.{entries_in, merge_set_of}
+use Rattle.clr_merge_sets.specs.Certificates.{entries_in, ordered_merge_set_of}
 use Rattle.clr_check.specs.Cases.{Case, IsCaseFault}
 use Rattle.clr_check.specs.TextChecks.{IsCheckedVerdict}
 use Rattle.clr_check.specs.declared.cases.CaseFault.{CaseFault}
 use Rattle.clr_check.specs.declared.cases.CaseFault.TheVariants as no_case
-use Rattle.clr_lines.specs.Verdicts.{verdict_text}
+use Rattle.clr_lines.specs.Verdicts.{verdict_text_in_turn}
 use Rattle.clr_process_io.specs.declared.faults.RunFault.{RunFault}
 use Rattle.clr_process_io.specs.declared.faults.RunFault.TheVariants as run_fault
 use Rattle.clr_office_reports.specs.declared.outputs.Output.{Output}
@@ -77,7 +77,7 @@ module _ (names : List Name) (given : Case) where
   no_case_hints no_case.OutOfMemory is (Ok output) h = absurd cc
 
 module _ (o : Office) (c : Certificate) (v : Verdict) (output : Output)
-    (lines : output.lines.items ≡ verdict_text o.schema c.members c.root v) (refused : output.refused ≡ not (is_clear v)) (lost : output.lost
+    (lines : output.lines.items ≡ verdict_text_in_turn o.schema c.members c.before c.root v) (refused : output.refused ≡ not (is_clear v)) (lost : output.lost
     ≡ is_without_memory v) where
   of_verdict : outcome_of output o ≡ verdict_outcome o c v
   of_verdict = parts_are o _ _ _ _ _ _ lines refused lost
@@ -86,23 +86,23 @@ module _ (o : Office) (c : Certificate) (v : Verdict) (output : Output)
   checked judged = (v, judged, of_verdict)
 
   -- no merge is performed
-  pub not_merged : (names : List Name) → IsRefusingVerdict o (merge_set_of c) (entries_in c.entries) v → IsMergeOutcome o c names (outcome_of output o)
+  pub not_merged : (names : List Name) → IsRefusingVerdict o (ordered_merge_set_of c) (entries_in c.entries) v → IsMergeOutcome o c names (outcome_of output o)
   not_merged names refusal = of_verdict_alone v refusal of_verdict
 
 module _ (o left : Office) (c : Certificate) (names : List Name) (commands : List Command) (replies : List Reply) (stopped : Option ℕ) (output : Output) where
   -- merges are performed
-  pub merged : commands ≡ merges names → IsVerdict o (merge_set_of c) (entries_in c.entries) verdict.Clear
-      → IsQuietStart o (merge_set_of c) commands replies left stopped
-      → IsClearedRun o (merge_set_of c) (take (length replies) commands) replies left
-      → RunsAreCleared o (merge_set_of c)
+  pub merged : commands ≡ merges names → IsVerdictInTurn o (ordered_merge_set_of c) (entries_in c.entries) verdict.Clear
+      → IsQuietStartInTurn o (ordered_merge_set_of c) commands replies left stopped
+      → IsClearedRunInTurn o (ordered_merge_set_of c) (take (length replies) commands) replies left
+      → RunsAreClearedInTurn o (ordered_merge_set_of c)
       → output.lines.items ≡ merge_text replies stopped left → output.refused ≡ (list_any is_refused replies || is_some stopped) → output.lost
       ≡ list_any is_lost replies
       → IsMergeOutcome o c names (outcome_of output left)
   merged are clear start ran runs lines refused lost =
       let all : AreMerged o c names replies stopped left = record {
         clear = clear;
-        start = subst (λ cs. IsQuietStart o (merge_set_of c) cs replies left stopped) are start;
-        run = subst (λ cs. IsClearedRun o (merge_set_of c) (take (length replies) cs) replies left) are ran;
+        start = subst (λ cs. IsQuietStartInTurn o (ordered_merge_set_of c) cs replies left stopped) are start;
+        run = subst (λ cs. IsClearedRunInTurn o (ordered_merge_set_of c) (take (length replies) cs) replies left) are ran;
         runs = runs;
       } in
       of_merges replies stopped left all (parts_are left _ _ _ _ _ _ lines refused lost)

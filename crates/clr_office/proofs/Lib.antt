@@ -1,5 +1,6 @@
 pub mod CaseTexts
 pub mod HintLemmas
+pub mod OneInOrder
 pub mod OneOutcome
 pub mod OneSession
 pub mod Prints

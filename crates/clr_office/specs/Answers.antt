@@ -12,6 +12,7 @@ use Rattle.clr_office_texts.specs.Drafts.{draft_in, opened_in}
 use Rattle.clr_rule_text.specs.declared.faults.TextFault.{TextFault}
 use Rattle.clr_command_line.specs.declared.asks.Ask.{Ask}
 use Rattle.clr_command_line.specs.declared.asks.Ask.TheVariants as ask
+use Rattle.clr_command_line.specs.declared.asks.Orders.{Orders}
 use Rattle.clr_office.specs.Outcomes.{IsPlanOutcome}
 use Rattle.clr_office.specs.Scripts.{IsScriptPrint}
 use Rattle.clr_office_reports.specs.Printing.{Printed, print_of, IsPrintIn, IsPrintOf, IsTextFault}
@@ -28,15 +29,15 @@ unfoldable pub audit_of : Result Office TextFault → Printed
 audit_of (Err fault) = Err (run_fault.BadOffice fault)
 audit_of (Ok o) = audit_print o
 
-abbrev pub IsPlanPrint : MergeSet → Office → Printed → Type 0
-IsPlanPrint s o print = IsPrintOf (IsPlanOutcome o s) print
+abbrev pub IsPlanPrint : Orders → MergeSet → Office → Printed → Type 0
+IsPlanPrint orders s o print = IsPrintOf (IsPlanOutcome orders o s) print
 
 -- what is to be printed for what is asked of an office text and a second text
 abbrev pub IsAnswerWithin : Ask → List ℕ → List ℕ → Printed → Type 0
 IsAnswerWithin ask.Audit office second print = print ≡ audit_of (draft_in office)
 IsAnswerWithin ask.Run office script print = IsPrintIn (IsScriptPrint script) (opened_in office) print
-IsAnswerWithin (ask.Plan names) office second print = IsPrintIn (IsPlanPrint (merge_set live_name names)) (opened_in office) print
-IsAnswerWithin (ask.PlanUnder root names) office second print = IsPrintIn (IsPlanPrint (merge_set root names)) (opened_in office) print
+IsAnswerWithin (ask.Plan orders names) office second print = IsPrintIn (IsPlanPrint orders (merge_set live_name names)) (opened_in office) print
+IsAnswerWithin (ask.PlanUnder orders root names) office second print = IsPrintIn (IsPlanPrint orders (merge_set root names)) (opened_in office) print
 IsAnswerWithin ask.Check office certificate print = IsCheckPrint (case_of office certificate) print
 IsAnswerWithin (ask.Merge names) office certificate print = IsMergePrint names (case_of office certificate) print
 

@@ -7,20 +7,20 @@ use Rattle.clr_steps.specs.Offices.{Office}
 use Rattle.clr_steps.specs.Steps.{is_lost}
 use Rattle.clr_clearance.specs.declared.verdicts.Verdict.{Verdict}
 use Rattle.clr_clearance.specs.declared.verdicts.Verdict.TheVariants as verdict
-use Rattle.clr_clearance.specs.ClearedRuns.{IsClearedRun, IsQuietStart}
-use Rattle.clr_clearance.specs.Headline.{RunsAreCleared}
+use Rattle.clr_ordered_clearance.specs.Runs.{IsClearedRunInTurn, IsQuietStartInTurn}
+use Rattle.clr_ordered_clearance.specs.VerdictLaws.{RunsAreClearedInTurn}
+use Rattle.clr_ordered_clearance.specs.Verdicts.{IsVerdictInTurn}
 use Rattle.clr_clearance.specs.Plans.{merges}
-use Rattle.clr_clearance.specs.Verdicts.{IsVerdict}
 use Rattle.clr_cert.specs.declared.certificates.Certificate.{Certificate}
 use Rattle.clr_check.specs.Answers.{IsRefusingVerdict}
-use Rattle.clr_merge_sets.specs.Certificates.{entries_in, merge_set_of}
+use Rattle.clr_merge_sets.specs.Certificates.{entries_in, ordered_merge_set_of}
 use Rattle.clr_check.specs.Cases.{Case}
 use Rattle.clr_check.specs.TextChecks.{IsCheckedVerdict}
 use Rattle.clr_check.specs.declared.cases.CaseFault.{CaseFault}
 use Rattle.clr_check.specs.declared.cases.CaseFault.TheVariants as no_case
 use Rattle.clr_lines.specs.Replies.{reply_text}
 use Rattle.clr_lines.specs.Reports.{count_line}
-use Rattle.clr_lines.specs.Verdicts.{verdict_text}
+use Rattle.clr_lines.specs.Verdicts.{verdict_text_in_turn}
 use Rattle.clr_office_reports.specs.Outcomes.{Outcome, dump_text, is_refused, outcome}
 use Rattle.clr_office_reports.specs.Printing.{IsPrintOf, Printed, unheld_print}
 use Rattle.clr_process_io.specs.declared.faults.RunFault.TheVariants as run_fault
@@ -37,26 +37,27 @@ is_without_memory _ = false
 
 -- the outcome of a verdict: its line; all but a clear one counts as a refusal
 abbrev pub verdict_outcome : Office → Certificate → Verdict → Outcome
-verdict_outcome o c v = outcome (verdict_text o.schema c.members c.root v) (not (is_clear v)) (is_without_memory v) o
+verdict_outcome o c v = outcome (verdict_text_in_turn o.schema c.members c.before c.root v) (not (is_clear v)) (is_without_memory v) o
 
--- the outcome of some verdict on a certificate; where it is clear, the members are safe, and a run of quiet commands is a cleared one
+-- the outcome of some verdict on a certificate; where it is clear, the members are safe where they are merged in turn, and a run of quiet commands in which
+-- merges come in turn is a cleared one
 abbrev pub IsVerdictOutcome : Office → Certificate → Outcome → Type 0
 IsVerdictOutcome o c all = (v : Verdict) × IsCheckedVerdict o c v × (all ≡ verdict_outcome o c v)
 
 -- merges -------------------------------------------------------------------------------------
 
--- the line that says which merge, from 1, isn't quiet, so that it and those behind it aren't performed
+-- the line that says which merge, from 1, isn't quiet, or comes before its turn, so that it and those behind it aren't performed
 abbrev pub stop_text : Option ℕ → List ℕ
 stop_text None = []
 stop_text (Some number) = count_line (codes "notquiet") number
 
--- merges of workspaces in this order, each of which is kept, as far as they are quiet for a clear certificate; in the office as it was any run of
--- quiet commands is a cleared one
+-- merges of workspaces in this order, each of which is kept, as far as they are quiet for a clear certificate and come in turn; in the office as it was any
+-- run of quiet commands in which merges come in turn is a cleared one
 pub record AreMerged (o : Office) (c : Certificate) (names : List Name) (replies : List Reply) (stopped : Option ℕ) (left : Office) : Type 0 where
-  pub clear : IsVerdict o (merge_set_of c) (entries_in c.entries) verdict.Clear
-  pub start : IsQuietStart o (merge_set_of c) (merges names) replies left stopped
-  pub run : IsClearedRun o (merge_set_of c) (take (length replies) (merges names)) replies left
-  pub runs : RunsAreCleared o (merge_set_of c)
+  pub clear : IsVerdictInTurn o (ordered_merge_set_of c) (entries_in c.entries) verdict.Clear
+  pub start : IsQuietStartInTurn o (ordered_merge_set_of c) (merges names) replies left stopped
+  pub run : IsClearedRunInTurn o (ordered_merge_set_of c) (take (length replies) (merges names)) replies left
+  pub runs : RunsAreClearedInTurn o (ordered_merge_set_of c)
 
 -- a line of each reply, that of the stop, and the text of the office that is left
 abbrev pub merge_text : List Reply → Option ℕ → Office → List ℕ
@@ -69,7 +70,8 @@ merge_outcome replies stopped left = outcome (merge_text replies stopped left) (
 pub data IsMergeOutcome (o : Office) (c : Certificate) (names : List Name) (all : Outcome) : Type 0 where
   of_merges : (replies : List Reply) (stopped : Option ℕ) (left : Office) → AreMerged o c names replies stopped left
       → all ≡ merge_outcome replies stopped left → IsMergeOutcome o c names all
-  of_verdict : (v : Verdict) → IsRefusingVerdict o (merge_set_of c) (entries_in c.entries) v → all ≡ verdict_outcome o c v → IsMergeOutcome o c names all
+  of_verdict : (v : Verdict) → IsRefusingVerdict o (ordered_merge_set_of c) (entries_in c.entries) v → all ≡ verdict_outcome o c v
+      → IsMergeOutcome o c names all
 
 -- texts --------------------------------------------------------------------------------------
 

@@ -10,6 +10,7 @@ pub use Rattle.clr_office_texts.specs.Drafts
 pub mod Answers
 pub mod Clearances
 pub mod NameHints
+pub mod OnePlanInOrder
 pub mod OneSession
 pub mod Outcomes
 pub mod Scripts

@@ -68,7 +68,7 @@ AreHintsOfCase names (Ok given) lines = AreNameHints given.0 (given.1.root ∷ n
 
 -- what is said at the names that are asked for: the root and the members of a plan, and the workspaces of merges
 abbrev pub AreHintsTo : Ask → List ℕ → List ℕ → List ℕ → Type 0
-AreHintsTo (ask.Plan names) office second lines = AreHintsIn (live_name ∷ names) (opened_in office) lines
-AreHintsTo (ask.PlanUnder root names) office second lines = AreHintsIn (root ∷ names) (opened_in office) lines
+AreHintsTo (ask.Plan orders names) office second lines = AreHintsIn (live_name ∷ names) (opened_in office) lines
+AreHintsTo (ask.PlanUnder orders root names) office second lines = AreHintsIn (root ∷ names) (opened_in office) lines
 AreHintsTo (ask.Merge names) office second lines = AreHintsOfCase names (case_of office second) lines
 AreHintsTo _ office second lines = lines ≡ []

@@ -19,7 +19,7 @@ use crate::plans::plan_output;
 use crate::run_script::run_text;
 use clr_audit::audit;
 use clr_check::read_case;
-use clr_command_line::Ask;
+use clr_command_line::{Ask, Orders};
 use clr_engine::Draft;
 use clr_lines::audit_lines;
 use clr_office_reports::{Output, draft_of, open_office};
@@ -73,22 +73,23 @@ pub fn answer_run(
     }
 }
 
-/// Returns the plan of members over the office of a text, and gives the hints at names that no workspace has.
+/// Returns the plan of members, for the orders in which they are to be merged, over the office of a text, and gives the hints at names that no workspace has.
 fn answer_plan(
     alloc: Global,
     office: &[u8],
+    orders: Orders,
     root: &str,
     names: &[Words],
     disposal: Disposal,
     hints: &mut Vec<u8>,
 ) -> Result<Output, RunFault>
     requires { hints.old.items ≡ [] }
-    ensures output { IsOutput (IsPrintIn (IsPlanPrint (merge_set root.now names.now)) (opened_in office.now)) result }
+    ensures output { IsOutput (IsPrintIn (IsPlanPrint orders (merge_set root.now names.now)) (opened_in office.now)) result }
     ensures hints { OnOk result (AreHintsIn (root.now ∷ names.now) (opened_in office.now) hints.new.items) }
 {
     match open_office(alloc, office) {
         Ok(office) => {
-            let output = plan_output(alloc, &office, root, names)?;
+            let output = plan_output(alloc, &office, orders, root, names)?;
             *hints = hint_lines(alloc, &office, root, names)?;
             disposal.dispose(office);
             Ok(output)
@@ -137,11 +138,22 @@ fn answer_texts(
     match ask {
         Ask::Audit => answer_audit(alloc, office, disposal),
         Ask::Run => answer_run(alloc, office, second, disposal),
-        Ask::Plan(names) => answer_plan(alloc, office, LIVE, names.as_slice(), disposal, hints),
-        Ask::PlanUnder(root, names) => {
+        Ask::Plan(orders, names) => {
             answer_plan(
                 alloc,
                 office,
+                *orders,
+                LIVE,
+                names.as_slice(),
+                disposal,
+                hints,
+            )
+        }
+        Ask::PlanUnder(orders, root, names) => {
+            answer_plan(
+                alloc,
+                office,
+                *orders,
                 root.as_str(),
                 names.as_slice(),
                 disposal,

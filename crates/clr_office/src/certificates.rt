@@ -1,14 +1,14 @@
 //! Verdicts on certificates, and what is printed where texts don't give an office with one.
 ghost use Rattle.std.specs.Prelude.{◌≡◌, not, IfOk};
 ghost use Rattle.clr_check.specs.Cases.{case_of};
-ghost use Rattle.clr_lines.specs.Verdicts.{verdict_text};
+ghost use Rattle.clr_lines.specs.Verdicts.{verdict_text_in_turn};
 ghost use Rattle.clr_office.specs.Clearances.{IsCheckPrint, fault_print, is_clear as is_clear_verdict, is_without_memory as is_lost_verdict};
 ghost use Rattle.clr_office_reports.specs.Printing.{IsOutput};
 
 use crate::disposals::Disposal;
 use clr_cert::Certificate;
 use clr_check::{CaseFault, Verdict, judge_texts};
-use clr_lines::verdict_line;
+use clr_lines::verdict_line_in_turn;
 use clr_merge_sets::texts_of_names;
 use clr_office_reports::{Output, unheld_output};
 use clr_process_io::RunFault;
@@ -40,14 +40,16 @@ pub fn verdict_output(
     certificate: &Certificate,
     verdict: &Verdict,
 ) -> Result<Output, AllocError>
-    ensures lines { IfOk result (λ o. o.lines.items ≡ verdict_text schema.now certificate.now.members certificate.now.root verdict.now) }
+    ensures lines { IfOk result (λ o. o.lines.items
+        ≡ verdict_text_in_turn schema.now certificate.now.members certificate.now.before certificate.now.root verdict.now) }
     ensures refused { IfOk result (λ o. o.refused ≡ not (is_clear_verdict verdict.now)) }
     ensures lost { IfOk result (λ o. o.lost ≡ is_lost_verdict verdict.now) }
 {
     let members = texts_of_names(alloc, certificate.members.as_slice())?;
+    let before = certificate.before.as_slice();
     let root = certificate.root.as_str();
     Ok(Output {
-        lines: verdict_line(alloc, schema, members.as_slice(), root, verdict)?,
+        lines: verdict_line_in_turn(alloc, schema, members.as_slice(), before, root, verdict)?,
         refused: !is_clear(verdict),
         lost: is_out_of_memory(verdict),
     })

@@ -12,20 +12,21 @@
 //!   writer tells its bytes and there is a status, bytes and status are what `IsAnswerTo` says
 //!   (`clr_office: Answers`), and each fault is answered only where the texts have it, in its
 //!   order, want of memory aside. So: of `audit` the broken needs of LIVE; of `run` the script's
-//!   lines; of `plan` and `planunder` the lines of a plan that is `clr_plan: IsPlan`; of `check`
-//!   the line of the verdict on the certificate (`clr_clearance: IsVerdict`), with status 0 exactly
+//!   lines; of `plan` and `planunder` the lines of a plan that is `clr_plan: IsPlan`, or `IsPlanInOrder`
+//!   for the order of the names; of `check`
+//!   the line of the verdict on the certificate (`clr_ordered_clearance: IsVerdictInTurn`), with status 0 exactly
 //!   where it is Clear; of `merge`, where the verdict isn't Clear, its line, and else the replies,
 //!   the stop and the text of the office of a run as `perform_cleared` promises it: the merges
-//!   before the first that isn't quiet, none of a member answered Conflict or RuleBroken, and the
+//!   before the first that isn't quiet or comes before its turn, none of a member answered Conflict or RuleBroken, and the
 //!   root with the changes of the merged members over its first rows. Where a rule doesn't hold in
 //!   the office, that line in place of any of these but the audit.
-//! - What is printed says what it is worth. With the line `clear` of `check` the members are *safe*
-//!   in the office of the text (`clr_clearance: Safe`), the headline holds of them (`Headline`),
-//!   and the root with the changes of any of them breaks no need but those that it breaks; a plan that is printed as
+//! - What is printed says what it is worth. With the line `clear` of `check` all holds of the office of the text
+//!   that a clear verdict promises (`clr_ordered_clearance: IsClearedInTurn`); a plan that is printed as
 //!   cleared says that its members are safe, one that is printed as blocked that in its order a
 //!   merge is refused, and, memory aside and where the names fit, it is cleared exactly where they
-//!   are safe (`clr_office: Outcomes: IsPlanned`). So it is of each `plan` in a script, in the
-//!   office of its turn.
+//!   are safe (`clr_office: Outcomes: IsPlanned`). A plan in the order of the names is cleared exactly
+//!   where none of these merges is refused, if the members are mergeable (`IsPlannedInOrder`). So it is of each plan in a
+//!   script, in the office of its turn.
 //! - Status 3 is the status exactly where a command, a plan, a verdict or a merge is answered
 //!   OutOfMemory, and the lines are those of the same steps with just these lost: a lost command
 //!   has its line and leaves the office, and Remove, Unmark and Release are never lost; a plan and
@@ -33,7 +34,8 @@
 //! - `inputs_have_one_session` [`answer`, `session`]: no input has two sessions, and what words ask
 //!   of two texts has no two answers. Where the status of neither is 3, their lines are the same,
 //!   and so is the status, or the fault. So with a status other than 3 what is printed is told by
-//!   the input alone, also of plans, verdicts, merges and independence.
+//!   the input alone, also of plans, verdicts, merges and independence. Of an input with a plan in the order
+//!   of the names the status is; which certificate clears it isn't (`plans_in_order_are_alike`).
 //! - `Disposal` says what is done with an office when its lines are known. No promise depends on it.
 //! - [`keeps`]: with any fault but WriteFailed nothing was written; after a failed write it isn't
 //!   known how much was.
@@ -60,7 +62,7 @@ pub use certificates::{fault_output, verdict_output};
 pub use clr_cert::{CertFault, Certificate, Entries, Entry};
 pub use clr_check::{Checked, check_texts};
 pub use clr_clearance::Verdict;
-pub use clr_command_line::{Ask, AskFault, ask_of};
+pub use clr_command_line::{Ask, AskFault, Orders, ask_of};
 pub use clr_engine::Office;
 pub use clr_merge_sets::{is_child, texts_of_names};
 pub use clr_needs::{Need, VersionId};
@@ -73,7 +75,7 @@ pub use clr_rules::Broken;
 pub use clr_scripts::RecordFault;
 pub use clr_streams::{DeviceFault, Page, Port, Sink, Source, Text};
 pub use disposals::Disposal;
-pub use laws::inputs_have_one_session;
+pub use laws::{inputs_have_one_session, plans_in_order_are_alike};
 pub use merges::{merge_commands, replies_output, stop_output};
 pub use name_hints::hint_lines;
 pub use run::run_office;

@@ -47,7 +47,8 @@ pub fn replies_output(
     Ok(all)
 }
 
-/// Returns the line that says which merge isn't quiet, by its number from 1, where one isn't.
+/// Returns the line that says which merge isn't quiet, or comes before its turn, by its number from 1,
+/// where there is one.
 pub fn stop_output(alloc: Global, stopped: Option<usize>) -> Result<Output, AllocError>
     ensures lines { IfOk result (λ o. o.lines.items ≡ stop_text stopped) }
     ensures refused { IfOk result (λ o. o.refused ≡ is_some stopped) }
@@ -87,8 +88,8 @@ fn run_output(alloc: Global, office: &Office, run: &ClearedRun) -> Result<Output
     Ok(all)
 }
 
-/// Merges workspaces in the order of their names, as far as that is quiet for a certificate, where
-/// it is clear. There is a line for each merge that was performed, one that says where the merges
+/// Merges workspaces in the order of their names, as far as that is quiet for a certificate and no member
+/// is merged before its turn, where the certificate is clear. There is a line for each merge that was performed, one that says where the merges
 /// stopped, and the text of the office. Where the certificate isn't clear the verdict stands alone.
 pub fn merge_members(
     alloc: Global,

@@ -7,6 +7,7 @@ ghost use Rattle.clr_office.specs.Scripts.{IsScriptFault, IsScriptPrint};
 ghost use Rattle.clr_office_reports.specs.Printing.{IsOutput};
 
 use crate::plans::plan_output;
+use clr_command_line::Orders;
 use clr_engine::Office;
 use clr_independence::independence_output;
 use clr_office_reports::{
@@ -57,9 +58,29 @@ fn run_step(alloc: Global, office: &mut Office, step: &Step) -> Result<Output, A
         Step::Report(Word::Audit, names) => audit_output(alloc, office, first_name(names)),
         Step::Report(Word::Workspaces, _) => workspaces_output(alloc, office),
         Step::Report(Word::Dump, _) => dump_output(alloc, office),
-        Step::Report(Word::Plan, names) => plan_output(alloc, office, LIVE, names.as_slice()),
+        Step::Report(Word::Plan, names) => {
+            plan_output(alloc, office, Orders::Every, LIVE, names.as_slice())
+        }
         Step::Report(Word::PlanUnder, names) => {
-            plan_output(alloc, office, first_name(names), later_names(names))
+            plan_output(
+                alloc,
+                office,
+                Orders::Every,
+                first_name(names),
+                later_names(names),
+            )
+        }
+        Step::Report(Word::PlanInOrder, names) => {
+            plan_output(alloc, office, Orders::AsNamed, LIVE, names.as_slice())
+        }
+        Step::Report(Word::PlanInOrderUnder, names) => {
+            plan_output(
+                alloc,
+                office,
+                Orders::AsNamed,
+                first_name(names),
+                later_names(names),
+            )
         }
         Step::Report(Word::Independence, names) => {
             independence_output(alloc, office, LIVE, names.as_slice())

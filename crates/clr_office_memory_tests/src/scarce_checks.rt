@@ -79,6 +79,18 @@ member,W1,,,,
 clear
 --
 ====
+a code given up and taken
+----
+member,W1,,,,
+member,W2,,,,
+before,W1,W2,,,
+need,1,main/1/new,main/2/old,node/9/old,
+----
+0 OutOfMemory
+--
+clear
+--
+====
 ";
 
 #[test]
@@ -167,6 +179,14 @@ member,W1,,,,
 member,W1,,,,
 ----
 1 RepeatedMember W1
+--
+====
+----
+member,W2,,,,
+member,W9,,,,
+before,W9,W2,,,
+----
+8 NotBefore W9 W2
 --
 ====
 ----

@@ -177,6 +177,19 @@ rollall,W1
 done
 stopped 2
 ====
+a code given up and taken
+----
+member,W1,,,,
+member,W2,,,,
+before,W1,W2,,,
+need,1,main/1/new,main/2/old,node/9/old,
+----
+merge,W1,keep
+merge,W2,keep
+----
+done
+done
+====
 ";
 
 #[test]

@@ -2,7 +2,7 @@
 
 use clr_cert::{Certificate, read_certificate};
 use clr_check::Verdict;
-use clr_lines::verdict_line;
+use clr_lines::verdict_line_in_turn;
 use clr_rows::Schema;
 use std::alloc::Global;
 
@@ -20,7 +20,7 @@ fn names_of(alloc: Global, certificate: &Certificate) -> Option<Vec<&str>> {
     Some(names)
 }
 
-/// Returns the line of a verdict on the root and members of a certificate.
+/// Returns the line of a verdict on the root, the members and the precedences of a certificate.
 pub fn line_of(
     alloc: Global,
     schema: &Schema,
@@ -28,6 +28,7 @@ pub fn line_of(
     verdict: &Verdict,
 ) -> Option<Vec<u8>> {
     let names = names_of(alloc, certificate)?;
+    let before = certificate.before.as_slice();
     let root = certificate.root.as_str();
-    verdict_line(alloc, schema, names.as_slice(), root, verdict).ok()
+    verdict_line_in_turn(alloc, schema, names.as_slice(), before, root, verdict).ok()
 }

@@ -1,11 +1,16 @@
 pub mod AnswersInTurn
+pub mod ClearedLemmas
 pub mod HeadlineLemmas
 pub mod LastingLemmas
+pub mod LastingVerdicts
 pub mod ListedLemmas
 pub mod NumberLemmas
 pub mod OrderLemmas
 pub mod Prefixes
 pub mod RunLemmas
 pub mod SafeLemmas
+pub mod SettledLemmas
 pub mod Standing
 pub mod TurnLemmas
+pub mod VerdictLemmas
+pub mod WithoutOrderLemmas

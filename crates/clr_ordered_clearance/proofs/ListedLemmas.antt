@@ -1,16 +1,14 @@
 -- Where who goes before another is listed before it, the members can be merged as they are listed.
-use Rattle.std.proofs.Common.{◌≡◌, ◌∙◌, ◌+◌, ℕ, Bool, true, false, ◌||◌, ◌&&◌, cond, List, [], ◌∷◌, ◌++◌, map, refl, sym, ap, subst, Option, Some, None}
+use Rattle.std.proofs.Common.{◌≡◌, ◌∙◌, ℕ, Bool, true, false, ◌||◌, ◌&&◌, cond, List, [], ◌∷◌, ◌++◌, map, refl, sym, ap, subst, Option, Some, None}
 use Rattle.std.proofs.Common.{is_some, slice_get}
 use Rattle.std.specs.Option.{option_map}
-use Rattle.std.proofs.lemmas.Bool.{false≢true, true≢false, or_left, or_right}
+use Rattle.std.proofs.lemmas.Bool.{true≢false, or_left, or_right}
 use Rattle.std.proofs.lemmas.List.{append_assoc}
 use Rattle.std.proofs.lemmas.Option.{slice_get-map}
 use Rattle.clr_workspaces.specs.Marks.{Name}
 use Rattle.clr_workspaces.specs.Workspaces.{Workspace}
 use Rattle.clr_needs.specs.Settings.{Setting, has as has_by}
-use Rattle.clr_steps.specs.declared.commands.Command.{Command}
 use Rattle.clr_steps.specs.declared.commands.Command.TheVariants as command
-use Rattle.clr_steps.specs.declared.commands.Reply.{Reply}
 use Rattle.clr_steps.specs.declared.commands.Reply.TheVariants.{Done}
 use Rattle.clr_steps.specs.Names.{same_name, has}
 use Rattle.clr_steps.specs.Offices.{Office, workspace}
@@ -27,7 +25,7 @@ use Rattle.clr_ordered_needs.specs.Turns.{is_earlier}
 use Rattle.clr_ordered_needs.proofs.Lists.{AreOnce, stands_once}
 use Rattle.clr_ordered_needs.proofs.Sequences.{later_there}
 use Rattle.clr_ordered_clearance.specs.Laws.{ListedMergesLaw, none_lost}
-use Rattle.clr_ordered_clearance.specs.MergeSets.{AreListedInTurn, HaveComeInTurn, MembersBreakNoMoreInTurn, OrderedMergeSet, goes_before}
+use Rattle.clr_ordered_clearance.specs.MergeSets.{AreListedInTurn, HaveComeInTurn, MembersBreakNoMoreInTurn, OrderedMergeSet}
 use Rattle.clr_ordered_clearance.specs.Turns.{IsTurnOf}
 use Rattle.clr_ordered_clearance.proofs.SafeLemmas.{covered_in_turn, safe_at}
 use Rattle.clr_ordered_clearance.proofs.Standing.{OthersStand, all_stand, answer_stands}

@@ -1,5 +1,5 @@
 -- Members by name and by position are covered alike, and where none goes before another, as in every order.
-use Rattle.std.proofs.Common.{◌≡◌, ℕ, Bool, false, List, sym, refl, subst, slice_get, Option, Some, None}
+use Rattle.std.proofs.Common.{◌≡◌, ℕ, false, List, sym, refl, subst, slice_get, Option, Some, None}
 use Rattle.std.specs.Prelude.{◌↔◌}
 use Rattle.std.proofs.lemmas.Bool.{false≢true}
 use Rattle.clr_workspaces.specs.Marks.{Name}
@@ -17,7 +17,7 @@ use Rattle.clr_ordered_needs.specs.Turns.{Order, no_order}
 use Rattle.clr_ordered_needs.proofs.EmptyOrder.{no_order_is_every_order}
 use Rattle.clr_ordered_needs.proofs.OrderedPositions.{positions_say_the_same}
 use Rattle.clr_ordered_clearance.specs.Laws.{EveryOrderLaw, NumberInTurnLaw, without_order}
-use Rattle.clr_ordered_clearance.specs.MergeSets.{CoversInTurn, OrderedMergeSet, goes_before, position_goes_before}
+use Rattle.clr_ordered_clearance.specs.MergeSets.{CoversInTurn, goes_before, position_goes_before}
 
 pub number_in_turn : NumberInTurnLaw
 number_in_turn o ordered =
@@ -36,10 +36,10 @@ module _ (o : Office) (merge_set : MergeSet) where
   none_goes (Some m) None = refl
   none_goes (Some m) (Some n) = refl
 
-  no_order_is : position_goes_before (without_order merge_set) ≡ no_order
+  pub no_order_is : position_goes_before (without_order merge_set) ≡ no_order
   no_order_is = λ i j k. none_goes (slice_get merge_set.members j) (slice_get merge_set.members k) i
 
-  alike : (entries : List Entry) → AreCovered (position_goes_before (without_order merge_set)) (setting_by_position o merge_set) entries
+  pub alike : (entries : List Entry) → AreCovered (position_goes_before (without_order merge_set)) (setting_by_position o merge_set) entries
       ↔ unordered.AreCovered (setting_by_position o merge_set) entries
   alike entries = subst (λ (before : Order ℕ). AreCovered before (setting_by_position o merge_set) entries
       ↔ unordered.AreCovered (setting_by_position o merge_set) entries) (sym no_order_is)

@@ -1,13 +1,12 @@
 -- Runs in which merges come in turn: the first commands of a list, and one command more.
-use Rattle.std.proofs.Common.{◌≡◌, ◌∙◌, ◌+◌, ℕ, zero, suc, Bool, true, List, [], ◌∷◌, ◌++◌, refl, sym, ap, subst, length, take, Some, slice_get}
+use Rattle.std.proofs.Common.{◌≡◌, ◌+◌, List, [], ◌∷◌, ◌++◌, sym, ap, subst, length, take}
 use Rattle.std.proofs.lemmas.List.{append-nil, append_assoc}
 use Rattle.clr_workspaces.specs.Marks.{Name}
 use Rattle.clr_steps.specs.declared.commands.Command.{Command}
-use Rattle.clr_steps.specs.declared.commands.Command.TheVariants as command
 use Rattle.clr_steps.specs.declared.commands.Reply.{Reply}
 use Rattle.clr_steps.specs.Offices.{Office}
 use Rattle.clr_steps.specs.Quiet.{MergeSet, root_content}
-use Rattle.clr_steps.specs.Steps.{Answer, AreAnswers, Run, is_lost, lost_in, run, step_or_lost}
+use Rattle.clr_steps.specs.Steps.{Answer, AreAnswers, Run, is_lost, lost_in, step_or_lost}
 use Rattle.clr_steps.proofs.RunLemmas.{lost_later, run_law}
 use Rattle.clr_clearance.specs.Runs.{merged_by, merged_in}
 use Rattle.clr_clearance.specs.Safety.{IsMergeOf}
@@ -15,21 +14,25 @@ use Rattle.clr_clearance.proofs.CheckLemmas.{one_more}
 use Rattle.clr_ordered_clearance.specs.Laws.{ClearedRunInTurnLaw, OneMoreInTurnLaw}
 use Rattle.clr_ordered_clearance.specs.MergeSets.{OrderedMergeSet}
 use Rattle.clr_ordered_clearance.specs.Runs.{IsDue}
+use Rattle.clr_ordered_clearance.specs.Safety.{SafeInTurn}
+use Rattle.clr_ordered_clearance.specs.VerdictLaws.{RunsAreClearedInTurn}
 use Rattle.clr_ordered_clearance.proofs.HeadlineLemmas.{none_clashes}
 use Rattle.clr_ordered_clearance.proofs.SafeLemmas.{safe_in_turn}
 use Rattle.clr_ordered_clearance.proofs.TurnLemmas.{ComeAfter, come_rest, come_with, due_first}
 
+pub runs_cleared : (o : Office) (ordered : OrderedMergeSet) → SafeInTurn o ordered → RunsAreClearedInTurn o ordered
+runs_cleared o ordered safe commands replies left quiet come runs = record {
+  runs = runs;
+  no_clash = none_clashes o ordered safe commands (lost_in replies) quiet come;
+  root = subst (λ (r : Run). IsMergeOf o ordered.merge_set (merged_in ordered.merge_set commands r.replies) (root_content r.office ordered.merge_set)) runs
+      (safe commands (lost_in replies) quiet come).root;
+}
+
 pub cleared_run_in_turn : ClearedRunInTurnLaw
 cleared_run_in_turn o ordered entries commands replies left stopped covers start =
     let performed = take (length replies) commands in
-    let safe = safe_in_turn o ordered entries covers in
-    let runs = run_law o performed replies left start.answers in
-    record {
-      runs = runs;
-      no_clash = none_clashes o ordered safe performed (lost_in replies) start.quiet start.in_turn;
-      root = subst (λ (r : Run). IsMergeOf o ordered.merge_set (merged_in ordered.merge_set performed r.replies) (root_content r.office ordered.merge_set)) runs
-          (safe performed (lost_in replies) start.quiet start.in_turn).root;
-    }
+    runs_cleared o ordered (safe_in_turn o ordered entries covers) performed replies left start.quiet start.in_turn
+    (run_law o performed replies left start.answers)
 
 module _ (ordered : OrderedMergeSet) where
   abbrev merge_set : MergeSet

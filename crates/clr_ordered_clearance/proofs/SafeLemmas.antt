@@ -1,11 +1,10 @@
 -- Covered under an order, members break no more in turn, and the merge set is safe in turn.
-use Rattle.std.proofs.Common.{◌≡◌, ◌∙◌, true, List, [], ◌∷◌, refl, sym, subst}
+use Rattle.std.proofs.Common.{◌≡◌, true, List, [], ◌∷◌, sym, subst}
 use Rattle.std.proofs.lemmas.Bool.{false≢true, or_right}
 use Rattle.clr_rows.specs.declared.cells.CellId.{CellId}
 use Rattle.clr_rows.specs.Contents.{Content, row_at}
 use Rattle.clr_rules.specs.Needs.{BreaksNoMore, View}
 use Rattle.clr_workspaces.specs.Marks.{Name}
-use Rattle.clr_workspaces.specs.Workspaces.{Workspace}
 use Rattle.clr_needs.specs.Settings.{AreAmong}
 use Rattle.clr_steps.specs.declared.commands.Command.{Command}
 use Rattle.clr_steps.specs.declared.commands.Command.TheVariants as command

@@ -15,7 +15,7 @@ use Rattle.clr_steps.specs.Names.{same_name, has}
 use Rattle.clr_steps.specs.Offices.{Office, workspace}
 use Rattle.clr_steps.specs.Quiet.{Member, MergeSet, is_member, is_of_member, is_quiet, is_root, member_of}
 use Rattle.clr_steps.specs.Refusals.{refusal}
-use Rattle.clr_steps.specs.Steps.{Answer, answer, run, step, step_or_lost}
+use Rattle.clr_steps.specs.Steps.{Answer, run, step, step_or_lost}
 use Rattle.clr_steps.proofs.FindLemmas.{found_name, same_is}
 use Rattle.clr_steps.proofs.QuietLemmas.{quiet_law}
 use Rattle.clr_clearance.specs.Invariants.{Invariant}

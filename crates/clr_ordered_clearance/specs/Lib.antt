@@ -4,3 +4,5 @@ pub mod MergeSets
 pub mod Runs
 pub mod Safety
 pub mod Turns
+pub mod VerdictLaws
+pub mod Verdicts

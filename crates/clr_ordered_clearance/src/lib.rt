@@ -17,13 +17,24 @@
 //!   goes before another.
 //! - `runs_in_turn_are_cleared`: runs of the first commands of a list, one after another.
 //! - `orders_that_break_a_need_are_refused`: which orders of merges don't work.
+//! - `Verdicts` and `VerdictLaws` in specs/: what is to be said of an ordered merge set and of entries.
+//!   `clear_verdicts_in_turn_promise_all`, `verdicts_in_turn_are_one`,
+//!   `verdicts_in_turn_come_need_by_need`: what a clear verdict promises, that there is one verdict, and
+//!   how it comes about. `clear_verdicts_in_turn_last`: a clear verdict stays clear.
+//!   `verdicts_without_order_are_those_of_merge_sets`: where no member goes before another, nothing
+//!   changes.
 #![tactic(auto)]
 
 mod laws;
+mod verdict_laws;
 
 pub use laws::{
     clearances_in_turn_last, covers_in_turn_keep_the_headline, listed_members_can_be_merged,
     members_covered_in_turn_stay_free, merge_sets_covered_in_turn_are_safe,
     numbers_stand_for_names_in_turn, orders_that_break_a_need_are_refused,
     runs_in_turn_are_cleared, without_order_is_every_order,
+};
+pub use verdict_laws::{
+    clear_verdicts_in_turn_last, clear_verdicts_in_turn_promise_all, verdicts_in_turn_are_one,
+    verdicts_in_turn_come_need_by_need, verdicts_without_order_are_those_of_merge_sets,
 };

@@ -83,18 +83,18 @@ module _ {A : Type 0} where
     witnesses_in_none v (Some w) (inr (inl cover)) = inr (inl (alone_in_none w cover))
     witnesses_in_none v (Some w) (inr (inr cover)) = inr (inr (together_in_none v w cover))
 
-    entry_in_every : (es : List Entry) → HasEntry no_order c n a b es → unordered.HasEntry c n a b es
+    pub entry_in_every : (es : List Entry) → HasEntry no_order c n a b es → unordered.HasEntry c n a b es
     entry_in_every [] h = absurd h
     entry_in_every (e ∷ es) (inl (same, cover)) = inl (same, witnesses_in_every e.1 e.2 cover)
     entry_in_every (e ∷ es) (inr later) = inr (entry_in_every es later)
 
-    entry_in_none : (es : List Entry) → unordered.HasEntry c n a b es → HasEntry no_order c n a b es
+    pub entry_in_none : (es : List Entry) → unordered.HasEntry c n a b es → HasEntry no_order c n a b es
     entry_in_none [] h = absurd h
     entry_in_none (e ∷ es) (inl (same, cover)) = inl (same, witnesses_in_none e.1 e.2 cover)
     entry_in_none (e ∷ es) (inr later) = inr (entry_in_none es later)
 
     -- the subjects of a possible need can stand together
-    can_meet : IsPossible c n a b → SubjectsNeverMeet no_order a b → ⊥
+    pub can_meet : IsPossible c n a b → SubjectsNeverMeet no_order a b → ⊥
     can_meet possible never = by n.second b possible.second_is never
       where
         by : (w : Option VersionId) (d : Option (Lived A)) → IsBesideIfAny c n.first a w d → SubjectsNeverMeet no_order a d → ⊥

@@ -27,6 +27,7 @@ OfNames verdict.NotKept = Unit {0}
 OfNames (verdict.RepeatedMember at) = Unit {0}
 OfNames (verdict.NoWorkspace at) = Unit {0}
 OfNames (verdict.NotUnderRoot at) = Unit {0}
+OfNames (verdict.NotBefore at) = ⊥
 OfNames verdict.Clear = ⊥
 OfNames verdict.OutOfMemory = ⊥
 OfNames (verdict.Conflict at cell count) = ⊥
@@ -39,6 +40,7 @@ OfConflicts verdict.NotKept = ⊥
 OfConflicts (verdict.RepeatedMember at) = ⊥
 OfConflicts (verdict.NoWorkspace at) = ⊥
 OfConflicts (verdict.NotUnderRoot at) = ⊥
+OfConflicts (verdict.NotBefore at) = ⊥
 OfConflicts verdict.Clear = ⊥
 OfConflicts verdict.OutOfMemory = ⊥
 OfConflicts (verdict.SharedCell cell i j) = ⊥
@@ -150,6 +152,7 @@ module _ (o : Office) (s : MergeSet) where
       none (verdict.RepeatedMember at) same h = h
       none (verdict.NoWorkspace at) same h = h
       none (verdict.NotUnderRoot at) same h = h
+      none (verdict.NotBefore at) same h = h
       none verdict.Clear same h = h
       none verdict.OutOfMemory same h = h
       none (verdict.SharedCell cell i j) same h = h
@@ -171,7 +174,11 @@ module _ (o : Office) (s : MergeSet) where
   scene_plan c p none apart same h = by p (subst (λ d. IsScenePlan d s p) same h)
     where
       by : (p : Plan) → IsScenePlan (setting_by_position o s) s p → IsPlan o s p
-      by (plan.Cleared cert) h = record { merge_set = h.0; cleared = record { free = none; apart = apart; picked = h.1 } }
+      by (plan.Cleared cert) h = record {
+        merge_set = h.0;
+        without_order = h.1;
+        cleared = record { free = none; apart = apart; picked = h.2 };
+      }
       by (plan.Blocked order cause) h = of_unpicked h.0 none apart h.1 h.2 h.3
       by (plan.Unfit v) h = absurd h
       by plan.OutOfMemory h = absurd h

@@ -18,12 +18,12 @@ same_entries (e ∷ es) (f ∷ fs) same =
     let tail : entries_in es ≡ entries_in fs = cc in
     λ i. record { need = (head i).0; one = (head i).1; two = (head i).2 } ∷ same_entries es fs tail i
 
-same_certificates : (c d : Certificate) → merge_set_of c ≡ merge_set_of d → entries_in c.entries ≡ entries_in d.entries → c ≡ d
-same_certificates c d merge_set entries = λ i. record {
+same_certificates : (c d : Certificate) → merge_set_of c ≡ merge_set_of d → c.before ≡ d.before → entries_in c.entries ≡ entries_in d.entries → c ≡ d
+same_certificates c d merge_set before entries = λ i. record {
   root = (merge_set i).root;
   members = (merge_set i).members;
-  entries = same_entries c.entries d.entries
-      entries i;
+  before = before i;
+  entries = same_entries c.entries d.entries entries i;
 }
 
 pub one_plan : OnePlanLaw
@@ -40,6 +40,7 @@ one_plan o s (plan.Cleared c) (plan.Unfit v) one two found found_too = absurd ((
 one_plan o s (plan.Cleared c) (plan.Blocked order cause) one two found found_too =
     absurd ((one_kind o s cause (entries_in c.entries) order.items cause).2 (one.cleared, two))
 one_plan o s (plan.Cleared c) (plan.Cleared d) one two found found_too =
-    same_certificates c d (one.merge_set ∙ sym two.merge_set) (one_cleared o s (entries_in c.entries) (entries_in d.entries) one.cleared two.cleared)
+    same_certificates c d (one.merge_set ∙ sym two.merge_set) (one.without_order ∙ sym two.without_order)
+    (one_cleared o s (entries_in c.entries) (entries_in d.entries) one.cleared two.cleared)
 one_plan o s (plan.Cleared c) plan.OutOfMemory one two found found_too = absurd (true≢false found_too)
 one_plan o s plan.OutOfMemory q one two found found_too = absurd (true≢false found)

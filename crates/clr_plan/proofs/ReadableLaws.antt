@@ -39,7 +39,7 @@ use Rattle.clr_clearance.proofs.StaticLemmas.{child_under}
 use Rattle.clr_cert.specs.declared.certificates.Certificate.{Certificate}
 use Rattle.clr_cert.specs.declared.certificates.Entry.{Entry}
 use Rattle.clr_cert.specs.declared.limits.TheConstants.{GREATEST_PART}
-use Rattle.clr_cert.specs.Texts.{IsInSchema, IsPart, IsReadBack, IsWellFormed, IsWellFormedEntry}
+use Rattle.clr_cert.specs.Texts.{IsInSchema, IsPart, IsReadBack, IsWellFormed, IsWellFormedEntry, IsWellFormedPrecedence}
 use Rattle.clr_cert.proofs.CertificateAgain.{read_again}
 use Rattle.clr_cert.proofs.EntryAgain.{entry_read_back}
 use Rattle.clr_merge_sets.specs.Certificates.{entries_in, witnesses_of}
@@ -178,6 +178,7 @@ module _ (o : Office) (whole : IsWhole o) where
       well_formed = record {
         root = subst (λ (t : MergeSet). is_good_name t.root ≡ true) (sym h.merge_set) (kept_good s.root (faultless o s h.cleared.free).kept);
         members = subst (λ (t : MergeSet). All (λ (name : Name). is_good_name name ≡ true) t.members) (sym h.merge_set) members_good;
+        before = subst (All IsWellFormedPrecedence) (sym h.without_order) (λ k d less. absurd (omega (arith, less)));
         entries = λ k d less. (each_named k d less).well_formed;
       }
 
@@ -191,4 +192,4 @@ pub readable : ReadablePlanLaw
 readable o s p whole h c e =
     let cleared : IsClearance o s c = subst (IsPlan o s) e h in
     let named = well_formed o whole s c cleared in
-    record { well_formed = named; read_back = read_again o.schema c named.root named.members (each_read_back o whole s c cleared) }
+    record { well_formed = named; read_back = read_again o.schema c named.root named.members named.before (each_read_back o whole s c cleared) }

@@ -1,6 +1,7 @@
 pub mod Certificates
 pub mod GroupNeeds
 pub mod OnePlan
+pub mod OrderedPlans
 pub mod Picked
 pub mod PlanLines
 pub mod Plans

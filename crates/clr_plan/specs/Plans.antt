@@ -1,5 +1,5 @@
 -- What is planned for a merge set.
-use Rattle.std.specs.Prelude.{◌≡◌, ℕ, List, None}
+use Rattle.std.specs.Prelude.{◌≡◌, ℕ, List, [], None}
 use Rattle.clr_cert.specs.declared.certificates.Certificate.{Certificate}
 use Rattle.clr_needs.specs.declared.needs.Need.{Need}
 use Rattle.clr_needs.specs.Picks.{Blocks}
@@ -14,9 +14,10 @@ use Rattle.clr_merge_sets.specs.Certificates.{entries_in, merge_set_of}
 use Rattle.clr_merge_sets.specs.declared.plans.Plan.{Plan}
 use Rattle.clr_merge_sets.specs.declared.plans.Plan.TheVariants as plan
 
--- the certificate names the members as they are given, and has an entry for each touched need
+-- the certificate names the members as they are given, none of whom goes before another, and has an entry for each touched need
 pub record IsClearance (o : Office) (s : MergeSet) (c : Certificate) : Type 0 where
   pub merge_set : merge_set_of c ≡ s
+  pub without_order : c.before ≡ []
   pub cleared : IsCleared o s (entries_in c.entries)
 
 -- the plan of a merge set; want of memory may come in its place where no test of names fails
@@ -37,7 +38,7 @@ IsBlockedIn order cause plan.OutOfMemory = Unit {0}
 
 -- what the touched needs of a setting decide: a certificate with the names as given, or the order that breaks the least need without witnesses
 abbrev pub IsScenePlan : Setting ℕ → MergeSet → Plan → Type 0
-IsScenePlan c s (plan.Cleared cert) = (merge_set_of cert ≡ s) × ArePicked c (entries_in cert.entries)
+IsScenePlan c s (plan.Cleared cert) = (merge_set_of cert ≡ s) × (cert.before ≡ []) × ArePicked c (entries_in cert.entries)
 IsScenePlan c s (plan.Blocked order cause) = (n : Need) × IsFirstUnpicked c n × Blocks c n order.items × (cause ≡ verdict.Uncovered n)
 IsScenePlan c s (plan.Unfit v) = ⊥
 IsScenePlan c s plan.OutOfMemory = ⊥

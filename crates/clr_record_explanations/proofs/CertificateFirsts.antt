@@ -13,26 +13,32 @@ use Rattle.clr_records.specs.Records.{at_record, field_of, records_in}
 use Rattle.clr_cert.specs.declared.certificates.Entry.{Entry}
 use Rattle.clr_cert.specs.declared.faults.CertFault.{CertFault}
 use Rattle.clr_cert.specs.declared.faults.CertFault.TheVariants as fault
-use Rattle.clr_cert.specs.Certificates.{certificate_from, certificate_in, is_root_item, item_of, record_name_of, record_root_of, with_item}
+use Rattle.clr_cert.specs.Certificates.{certificate_from, certificate_in, is_root_item, item_of, record_name_of, record_names_of, record_root_of}
+use Rattle.clr_cert.specs.Certificates.{with_item}
 use Rattle.clr_cert.specs.Versions.{entry_of}
 use Rattle.clr_record_explanations.specs.FirstFaults.{RecordFields, IsFirstFault, readable}
 use Rattle.clr_record_explanations.specs.CertificateFaults.{CertificateFaultLaw, IsFaultOfCertificate, has_root, names_root}
 use Rattle.clr_record_explanations.proofs.Firsts.{at_once, fault_of_first, later, same_fault, within}
 
 -- an item is a root where its record begins so
-root_by_word : {I : Type 0} (is : I → Bool) (root member : List ℕ → I) (need : Entry → I) (a b c d : Bool) (found name : Option (List ℕ)) (entry : Option
-    Entry) (item : I)
-    → cond a (cond b (or_fault fault.BadReference (option_map root found)) (cond c (or_fault fault.BadReference (option_map member name)) (cond d (or_fault
-    fault.BadReference (option_map need entry)) (Err fault.BadKind)))) (Err fault.FieldCount) ≡ Ok item
-    → ((x : List ℕ) → is (root x) ≡ true) → ((x : List ℕ) → is (member x) ≡ false) → ((x : Entry) → is (need x) ≡ false) → is item ≡ b
-root_by_word is root member need false b c d found name entry item so r m n = absurd cc
-root_by_word is root member need true true c d None name entry item so r m n = absurd cc
-root_by_word is root member need true true c d (Some x) name entry item so r m n = let same : root x ≡ item = cc in rw (← same) (r x)
-root_by_word is root member need true false true d found None entry item so r m n = absurd cc
-root_by_word is root member need true false true d found (Some x) entry item so r m n = let same : member x ≡ item = cc in rw (← same) (m x)
-root_by_word is root member need true false false true found name None item so r m n = absurd cc
-root_by_word is root member need true false false true found name (Some x) item so r m n = let same : need x ≡ item = cc in rw (← same) (n x)
-root_by_word is root member need true false false false found name entry item so r m n = absurd cc
+by_kind : {X I : Type 0} (is : I → Bool) (make : X → I) (root : Bool) (found : Option X) (item : I) → ((x : X) → is (make x) ≡ root)
+    → or_fault fault.BadReference (option_map make found) ≡ Ok item → is item ≡ root
+by_kind is make root None item all so = absurd cc
+by_kind is make root (Some x) item all so = let same : make x ≡ item = cc in rw (← same) (all x)
+
+root_by_word : {I N P : Type 0} (is : I → Bool) (root member : N → I) (before : P → I) (need : Entry → I) (a b c d k : Bool) (found name : Option N)
+    (names : Option P) (entry : Option Entry) (item : I)
+    → cond a (cond b (or_fault fault.BadReference (option_map root found)) (cond c (or_fault fault.BadReference (option_map member name))
+    (cond d (or_fault fault.BadReference (option_map before names))
+    (cond k (or_fault fault.BadReference (option_map need entry)) (Err fault.BadKind))))) (Err fault.FieldCount) ≡ Ok item
+    → ((x : N) → is (root x) ≡ true) → ((x : N) → is (member x) ≡ false) → ((x : P) → is (before x) ≡ false) → ((x : Entry) → is (need x) ≡ false)
+    → is item ≡ b
+root_by_word is root member before need false b c d k found name names entry item so r m p n = absurd cc
+root_by_word is root member before need true true c d k found name names entry item so r m p n = by_kind is root true found item r so
+root_by_word is root member before need true false true d k found name names entry item so r m p n = by_kind is member false name item m so
+root_by_word is root member before need true false false true k found name names entry item so r m p n = by_kind is before false names item p so
+root_by_word is root member before need true false false false true found name names entry item so r m p n = by_kind is need false entry item n so
+root_by_word is root member before need true false false false false found name names entry item so r m p n = absurd cc
 
 abbrev says : RecordFields → List ℕ → Bool
 says fields word = bytes_eq (field_of fields 0) word
@@ -58,9 +64,9 @@ records_fault tables (r ∷ rest) rooted n m e is =
       | inl failed ↦ (0, omega (arith, failed.0), at_once (reads_from tables rooted) r rest e (rw (or-false rooted, failed.1) refl))
       | inr done ↦
           let found = records_fault tables rest (rooted || is_root_item done.0) (n + 1) m e done.2 in
-          let named : is_root_item done.0 ≡ names_root r = root_by_word is_root_item _ _ _ (length r == 6) (names_root r) (says r (codes "member")) (says r
-          (codes
-          "need")) (record_root_of rooted r) (record_name_of r) (entry_of tables r) done.0 done.1 (λ x. refl) (λ x. refl) (λ x. refl) in
+          let named : is_root_item done.0 ≡ names_root r = root_by_word is_root_item _ _ _ _ (length r == 6) (names_root r) (says r (codes "member"))
+          (says r (codes "before")) (says r (codes "need")) (record_root_of rooted r) (record_name_of r) (record_names_of r) (entry_of tables r) done.0 done.1
+          (λ x. refl) (λ x. refl) (λ x. refl) (λ x. refl) in
           let next : (before : List RecordFields) → (rooted || has_root (r ∷ before)) ≡ ((rooted || is_root_item done.0) || has_root before) =
           λ before. sym (or_assoc rooted (names_root r) (has_root before)) ∙ ap (λ b. (rooted || b) || has_root before) (sym named) in (
             suc (found.0),

@@ -2,7 +2,7 @@
 use Rattle.std.specs.Prelude.{ℕ, ℤ, pos, negsuc, ◌==◌, nat_le, nat_lt, Bool, false, not, ◌&&◌, ◌||◌, List, ◌++◌, length, codes, decimal}
 use Rattle.std.specs.Prelude.{Option, Some, None, if◌then◌else◌}
 use Rattle.std.specs.List.{find, range_with_len}
-use Rattle.std.specs.Option.{is_some}
+use Rattle.std.specs.Option.{is_some, unwrap_or}
 use Rattle.std.specs.Str.{bytes_eq}
 use Rattle.clr_rows.specs.Names.{is_good_name}
 use Rattle.clr_rows.specs.Schemas.{table_named}
@@ -25,7 +25,7 @@ abbrev pub wrong_entry_count : RecordFields → Said
 wrong_entry_count fields = (0, entry_count_sentence (length fields))
 
 abbrev pub wrong_kind : RecordFields → Said
-wrong_kind fields = (0, codes "'" ++ field_of fields 0 ++ codes "' is none of root, member and need")
+wrong_kind fields = (0, codes "'" ++ field_of fields 0 ++ codes "' is none of root, member, before and need")
 
 -- names --------------------------------------------------------------------------------------
 
@@ -50,6 +50,17 @@ abbrev pub wrong_name : RecordFields → Said
 wrong_name fields =
     if is_root_live fields then (1, codes "LIVE is the root where no record names one")
     else (if is_good_name (field_of fields 1) then wrong_named_record (place_behind_name fields) else (1, no_good_name (field_of fields 1)))
+
+-- the first field behind the two names of a record that isn't empty
+abbrev pub place_behind_names : RecordFields → Option ℕ
+place_behind_names fields = find (λ at. not (is_empty (field_of fields at))) (range_with_len 3 3)
+
+-- a record of two names
+abbrev pub wrong_names : RecordFields → Said
+wrong_names fields =
+    if not (is_good_name (field_of fields 1)) then (1, no_good_name (field_of fields 1))
+    else (if not (is_good_name (field_of fields 2)) then (2, no_good_name (field_of fields 2))
+    else (unwrap_or (place_behind_names fields) 3, codes "a field behind the two names must be empty"))
 
 -- needs --------------------------------------------------------------------------------------
 
@@ -107,7 +118,9 @@ wrong_need tables fields =
 
 -- what is said of a record of a certificate, by its fault
 abbrev pub wrong_reference : List TableDef → RecordFields → Said
-wrong_reference tables fields = if bytes_eq (field_of fields 0) (codes "need") then wrong_need tables fields else wrong_name fields
+wrong_reference tables fields =
+    if bytes_eq (field_of fields 0) (codes "need") then wrong_need tables fields
+    else (if bytes_eq (field_of fields 0) (codes "before") then wrong_names fields else wrong_name fields)
 
 abbrev pub entry_slip : List TableDef → CertFault → RecordFields → Said
 entry_slip tables fault.FieldCount fields = wrong_entry_count fields

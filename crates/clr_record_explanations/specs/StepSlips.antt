@@ -32,7 +32,8 @@ step_patterns =
     codes "create,NAME,PARENT" ∷ codes "remove,WS" ∷ codes "apply,WS,n" ∷ codes "mark,WS,NAME" ∷ codes "unmark,WS,NAME" ∷ codes "rollto,WS,NAME" ∷
     codes "rollall,WS" ∷ codes "refresh,WS" ∷ codes "merge,WS,keep" ∷ codes "resolve,WS,TABLE,KEY,PARENT" ∷ codes "hold,WS" ∷ codes "release,WS" ∷
     codes "show,WS" ∷ codes "changes,WS" ∷ codes "conflicts,WS" ∷ codes "audit,WS" ∷ codes "workspaces" ∷ codes "dump" ∷ codes "plan,NAME" ∷
-    codes "planunder,ROOT,NAME" ∷ codes "independence,NAME" ∷ codes "independenceunder,ROOT,NAME" ∷ []
+    codes "planunder,ROOT,NAME" ∷ codes "planinorder,NAME" ∷ codes "planinorderunder,ROOT,NAME" ∷ codes "independence,NAME" ∷
+    codes "independenceunder,ROOT,NAME" ∷ []
 
 -- the pattern of the steps that begin with a word, and nothing where none do
 abbrev pub pattern_of : List ℕ → List ℕ

@@ -2,7 +2,8 @@
 ghost use Rattle.std.specs.Prelude.{◌≡◌, string_bytes, IfOk};
 ghost use Rattle.csv.specs.Records.{fields_of};
 ghost use Rattle.clr_record_explanations.specs.EntrySlips.{entry_count_sentence, entry_slip, is_root_live, place_behind_name, wrong_entry_count};
-ghost use Rattle.clr_record_explanations.specs.EntrySlips.{wrong_kind, wrong_name, wrong_named_record, wrong_reference};
+ghost use Rattle.clr_record_explanations.specs.EntrySlips.{no_good_name, place_behind_names, wrong_kind, wrong_name, wrong_named_record, wrong_names};
+ghost use Rattle.clr_record_explanations.specs.EntrySlips.{wrong_reference};
 ghost use Rattle.clr_record_explanations.specs.RecordSlips.{said};
 
 use crate::record_slips::RecordSlip;
@@ -14,7 +15,7 @@ use clr_rows::{LIVE, Schema, good_name};
 use csv::StringRecord;
 use std::alloc::{AllocError, Global};
 
-const KINDS: &[&str] = &["root", "member", "need"];
+const KINDS: &[&str] = &["root", "member", "before", "need"];
 
 /// Returns what is said of a record that has so many fields.
 fn count_sentence(alloc: Global, count: usize) -> Result<String, AllocError>
@@ -41,12 +42,12 @@ fn bad_count(alloc: Global, fields: &StringRecord) -> Result<RecordSlip, AllocEr
     Ok(RecordSlip::new(0, sentence).with_hint(hint))
 }
 
-/// Returns the slip that a record begins with none of the three words.
+/// Returns the slip that a record begins with none of the four words.
 fn bad_kind(alloc: Global, fields: &StringRecord) -> Result<RecordSlip, AllocError>
     ensures { IfOk result (λ slip. said slip ≡ wrong_kind (fields_of fields.now)) }
 {
     let word = field(fields, 0);
-    let sentence = format!(in alloc; "'{word}' is none of root, member and need")?;
+    let sentence = format!(in alloc; "'{word}' is none of root, member, before and need")?;
     let hint = name_hint(alloc, word, KINDS)?;
     Ok(RecordSlip::new(0, sentence).with_hint(hint))
 }
@@ -74,6 +75,14 @@ fn bad_record_of_name(alloc: Global, fields: &StringRecord) -> Result<RecordSlip
     }
 }
 
+/// Returns the slip that a name is no good one.
+fn no_good_name(alloc: Global, at: usize, name: &str) -> Result<RecordSlip, AllocError>
+    ensures { IfOk result (λ slip. said slip ≡ (at, no_good_name name.now)) }
+{
+    let sentence = format!(in alloc; "'{name}' is no good name of a workspace: {GOOD_NAME}")?;
+    Ok(RecordSlip::new(at, sentence))
+}
+
 /// Returns what is wrong with a record of a name.
 fn bad_name(alloc: Global, fields: &StringRecord) -> Result<RecordSlip, AllocError>
     ensures { IfOk result (λ slip. said slip ≡ wrong_name (fields_of fields.now)) }
@@ -85,8 +94,29 @@ fn bad_name(alloc: Global, fields: &StringRecord) -> Result<RecordSlip, AllocErr
     if good_name(name) {
         return bad_record_of_name(alloc, fields);
     }
-    let sentence = format!(in alloc; "'{name}' is no good name of a workspace: {GOOD_NAME}")?;
-    Ok(RecordSlip::new(1, sentence))
+    no_good_name(alloc, 1, name)
+}
+
+/// Returns the first field behind the two names of a record that isn't empty.
+fn place_behind_names(fields: &StringRecord) -> Option<usize>
+    ensures { result ≡ place_behind_names (fields_of fields.now) }
+{
+    (3..RECORD_FIELDS).find(|at| !field(fields, *at).is_empty())
+}
+
+/// Returns what is wrong with a record of two names.
+fn bad_names(alloc: Global, fields: &StringRecord) -> Result<RecordSlip, AllocError>
+    ensures { IfOk result (λ slip. said slip ≡ wrong_names (fields_of fields.now)) }
+{
+    let (earlier, later) = (field(fields, 1), field(fields, 2));
+    if !good_name(earlier) {
+        return no_good_name(alloc, 1, earlier);
+    }
+    if !good_name(later) {
+        return no_good_name(alloc, 2, later);
+    }
+    let at = place_behind_names(fields).unwrap_or(3);
+    RecordSlip::of_words(alloc, at, "a field behind the two names must be empty")
 }
 
 /// Returns what is wrong with a record that refers to what can't be.
@@ -97,10 +127,10 @@ fn bad_reference(
 ) -> Result<RecordSlip, AllocError>
     ensures { IfOk result (λ slip. said slip ≡ wrong_reference schema.now (fields_of fields.now)) }
 {
-    if field(fields, 0) == "need" {
-        bad_need(alloc, schema, fields)
-    } else {
-        bad_name(alloc, fields)
+    match field(fields, 0) {
+        "need" => bad_need(alloc, schema, fields),
+        "before" => bad_names(alloc, fields),
+        _ => bad_name(alloc, fields),
     }
 }
 

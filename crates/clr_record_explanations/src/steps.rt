@@ -43,6 +43,8 @@ const PATTERNS: &[&str] = &[
     "dump",
     "plan,NAME",
     "planunder,ROOT,NAME",
+    "planinorder,NAME",
+    "planinorderunder,ROOT,NAME",
     "independence,NAME",
     "independenceunder,ROOT,NAME",
 ];

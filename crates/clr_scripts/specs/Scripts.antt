@@ -16,8 +16,8 @@ use Rattle.clr_scripts.specs.declared.plain_steps.CommandWord.TheVariants as ask
 use Rattle.clr_scripts.specs.declared.steps.Step.{Step}
 use Rattle.clr_scripts.specs.declared.steps.Step.TheVariants.{Act, Report}
 use Rattle.clr_scripts.specs.declared.steps.Word.{Word}
-use Rattle.clr_scripts.specs.declared.steps.Word.TheVariants.{Show, Changes, Conflicts, Audit, Workspaces, Dump, Plan, PlanUnder, Independence}
-use Rattle.clr_scripts.specs.declared.steps.Word.TheVariants.{IndependenceUnder}
+use Rattle.clr_scripts.specs.declared.steps.Word.TheVariants.{Show, Changes, Conflicts, Audit, Workspaces, Dump}
+use Rattle.clr_scripts.specs.declared.steps.Word.TheVariants.{Plan, PlanUnder, PlanInOrder, PlanInOrderUnder, Independence, IndependenceUnder}
 use Rattle.clr_readings.specs.Readings.{◌>>=◌, or_fault}
 use Rattle.clr_records.specs.Records.{field_of, at_record}
 use Rattle.clr_scripts.specs.Records.{records_or_fault}
@@ -54,9 +54,11 @@ report_word_of word =
     else (if bytes_eq word (codes "dump") then Some Dump
     else (if bytes_eq word (codes "plan") then Some Plan
     else (if bytes_eq word (codes "planunder") then Some PlanUnder
+    else (if bytes_eq word (codes "planinorder") then Some PlanInOrder
+    else (if bytes_eq word (codes "planinorderunder") then Some PlanInOrderUnder
     else (if bytes_eq word (codes "independence") then Some Independence
     else (if bytes_eq word (codes "independenceunder") then Some IndependenceUnder
-    else None)))))))))
+    else None)))))))))))
 
 abbrev pub only_name_of : List (List ℕ) → Result (List ℕ) RecordFault
 only_name_of fields = with_count 2 fields (Ok (field_of fields 1))
@@ -127,6 +129,8 @@ can_have_fields Workspaces n = n == 1
 can_have_fields Dump n = n == 1
 can_have_fields Plan n = true
 can_have_fields PlanUnder n = nat_le 2 n
+can_have_fields PlanInOrder n = true
+can_have_fields PlanInOrderUnder n = nat_le 2 n
 can_have_fields Independence n = true
 can_have_fields IndependenceUnder n = nat_le 2 n
 

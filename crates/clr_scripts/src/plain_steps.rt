@@ -64,6 +64,8 @@ fn report_word(word: &str) -> Option<Word>
         "dump" => Some(Word::Dump),
         "plan" => Some(Word::Plan),
         "planunder" => Some(Word::PlanUnder),
+        "planinorder" => Some(Word::PlanInOrder),
+        "planinorderunder" => Some(Word::PlanInOrderUnder),
         "independence" => Some(Word::Independence),
         "independenceunder" => Some(Word::IndependenceUnder),
         _ => None,
@@ -198,8 +200,8 @@ fn can_have_fields(word: Word, count: usize) -> bool
     match word {
         Word::Show | Word::Changes | Word::Conflicts | Word::Audit => count == 2,
         Word::Workspaces | Word::Dump => count == 1,
-        Word::Plan | Word::Independence => true,
-        Word::PlanUnder | Word::IndependenceUnder => count >= 2,
+        Word::Plan | Word::PlanInOrder | Word::Independence => true,
+        Word::PlanUnder | Word::PlanInOrderUnder | Word::IndependenceUnder => count >= 2,
     }
 }
 

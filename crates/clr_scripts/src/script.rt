@@ -131,11 +131,12 @@ fn steps(
 /// `unmark,WS,SP`, `rollto,WS,SP`, `rollall,WS`, `refresh,WS`, `merge,WS,keep`, `merge,WS,remove`,
 /// `resolve,WS,TABLE,KEY,KEEP` where KEEP is `PARENT`, `CHILD` or `BASE`, `hold,WS` or
 /// `release,WS`; or a report, as `show,WS`, `changes,WS`, `conflicts,WS`, `audit,WS`, `workspaces`,
-/// `dump`, `plan,NAME..`, `planunder,ROOT,NAME..`, `independence,NAME..` or
-/// `independenceunder,ROOT,NAME..`, where `NAME..` is none or more names. Names of
-/// workspaces and savepoints are taken as they stand. The fault is that of the first record that
-/// has one, beside the record's number, counted from 1. In each record the word is tested first,
-/// then the count of fields, and then the fields from left to right.
+/// `dump`, `plan,NAME..`, `planunder,ROOT,NAME..`, `planinorder,NAME..`,
+/// `planinorderunder,ROOT,NAME..`, `independence,NAME..` or `independenceunder,ROOT,NAME..`, where
+/// `NAME..` is none or more names. Names of workspaces and savepoints are taken as they stand. The
+/// fault is that of the first record that has one, beside the record's number, counted from 1. In
+/// each record the word is tested first, then the count of fields, and then the fields from left to
+/// right.
 ///
 /// For example, this script has three steps, and the second of them makes one edit:
 ///

@@ -24,6 +24,12 @@ pub enum Word {
     /// Whether children of another workspace can be merged in every order: the first of the names
     /// is the root, and those behind it, none or more, are the members.
     PlanUnder,
+    /// Whether children of LIVE can be merged in the order in which they are named: the members,
+    /// which are its names, none or more.
+    PlanInOrder,
+    /// Whether children of another workspace can be merged in the order in which they are named: the
+    /// first of the names is the root, and those behind it, none or more, are the members.
+    PlanInOrderUnder,
     /// Which children of LIVE are independent, pair by pair: the members, which are its names, none or
     /// more.
     Independence,

@@ -1,6 +1,6 @@
 //! Layers as they are read, or why they aren't.
 
-mod cases;
+pub(crate) mod cases;
 
 use crate::layers::cases::{FAULTS, HEADERS, LINES, POINTS, ROUNDED};
 use crate::networks::schema_of;
@@ -10,14 +10,14 @@ use clr_layer_text::{read_layer, write_layer};
 use std::alloc::Global;
 
 /// Valves with a kind, mains with a code and a size, roads, and notes with a text.
-const TABLES: &str = r#"{"format":2,"tables":[
+pub(crate) const TABLES: &str = r#"{"format":2,"tables":[
 {"name":"valve","columns":[["kind","TEXT"]],"shape":"POINT"},
 {"name":"main","columns":[["code","TEXT"],["size","INT"]],"shape":"SEGMENT"},
 {"name":"road","columns":[],"shape":"PATH"},
 {"name":"note","columns":[["text","TEXT"]],"shape":"NONE"}],"live":[]}"#;
 
 /// Returns the lines of a table's rows behind the header, with strokes in place of line ends.
-fn lines_of(alloc: Global, text: &[u8]) -> Option<String> {
+pub(crate) fn lines_of(alloc: Global, text: &[u8]) -> Option<String> {
     let text = str::from_utf8(text).ok()?;
     let (_, rows) = text.split_once('\n')?;
     exchange(alloc, rows.trim_end_matches('\n'), '\n', '/')

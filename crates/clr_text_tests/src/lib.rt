@@ -5,6 +5,8 @@
 #[cfg(test)]
 mod command_lines;
 #[cfg(test)]
+mod layer_streams;
+#[cfg(test)]
 mod layers;
 #[cfg(test)]
 mod networks;

@@ -1,6 +1,6 @@
 //! Cases as lines: a question, which begins with a word, ` => `, and the answer.
 
-use crate::{layers, record_faults, scripts};
+use crate::{layer_streams, layers, record_faults, scripts};
 use std::alloc::Global;
 use std::process::Abort;
 
@@ -9,6 +9,7 @@ fn answer(alloc: Global, word: &'static str, rest: &'static str) -> Option<Strin
     match word {
         "scriptfault" | "certificatefault" => record_faults::answer(alloc, word, rest),
         "layer" | "rounded" => layers::answer(alloc, word == "rounded", rest),
+        "stream" | "rounded stream" => layer_streams::answer(alloc, word == "rounded stream", rest),
         _ => scripts::answer(alloc, word, rest),
     }
 }

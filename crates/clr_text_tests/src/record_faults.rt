@@ -28,6 +28,9 @@ scriptfault apply,W1,1/delete,note,4/apply,W1,2/delete,note,4 => 3 FieldCount Sh
 const CERTIFICATES: &str = "certificatefault member,W1,,,, => none
 certificatefault member,W1 => 1 FieldCount false|member|W1
 certificatefault members,W1,,,, => 1 BadKind false|members|W1||||
+certificatefault member,W1,,,,/before,W1,W2,, => 2 FieldCount false|before|W1|W2||
+certificatefault root,K,,,,/before,W1,,,, => 2 BadReference true|before|W1||||
+certificatefault before,W1,W2,,,/member,W1,,,,/before,W1,W2,W3,, => 3 BadReference false|before|W1|W2|W3||
 certificatefault member,W1,,,,//need,1,node,,node, => 2 BadReference false|need|1|node||node|
 certificatefault member,W1,,,,/root,LIVE,,,, => 2 BadReference false|root|LIVE||||
 certificatefault root,K,,,,/member,W1,,,,/root,K,,,, => 3 BadReference true|root|K||||";

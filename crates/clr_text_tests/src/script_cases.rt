@@ -66,6 +66,10 @@ script plan, => Plan/
 script plan,W1,W2,W1 => Plan/W1/W2/W1
 script planunder,K => PlanUnder/K
 script planunder,K,V1,V2 => PlanUnder/K/V1/V2
+script planinorder => PlanInOrder
+script planinorder,W2,W1 => PlanInOrder/W2/W1
+script planinorderunder,K => PlanInOrderUnder/K
+script planinorderunder,K,V2,V1 => PlanInOrderUnder/K/V2/V1
 script independence,W1,W2 => Independence/W1/W2
 script independence => Independence
 script independence, => Independence/
@@ -82,7 +86,7 @@ pub(crate) const SCRIPTS: &str =
 pub(crate) const COUNTS: &str =
     "create,W1; create,W1,LIVE,; remove; remove,W1,W2; mark,W1; unmark,W1,s1,; rollto,W1; rollall,W1,s1; refresh; merge,W1; \
 merge,W1,drop,now; resolve,W1,pipe,x; resolve,W1,main,20,CHILD,; hold; hold,K,W1; release,K,; show; show,W1,W2; changes; \
-conflicts; conflicts,W1,W2; audit; audit,W1,W2; workspaces,W1; dump,W1; planunder; independenceunder";
+conflicts; conflicts,W1,W2; audit; audit,W1,W2; workspaces,W1; dump,W1; planunder; planinorderunder; independenceunder";
 
 /// Which of two faults of a record counts.
 pub(crate) const TURNS: &str = "script Hold,K => 1 BadWord
@@ -91,6 +95,7 @@ script weak => 1 BadWord
 script Conflicts,W1 => 1 BadWord
 script dumps => 1 BadWord
 script plans => 1 BadWord
+script planinorders => 1 BadWord
 script independences => 1 BadWord
 script merge,W1,drop => 1 BadWord
 script merge,W1,Keep => 1 BadWord

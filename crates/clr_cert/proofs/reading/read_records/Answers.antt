@@ -2,7 +2,7 @@ use Rattle.std.proofs.Common.{◌≡◌, ◌+◌, ◌||◌, Bool, true, false, r
 use Rattle.clr_rows.specs.Names.{live_name}
 use Rattle.clr_cert.specs.declared.certificates.Certificate.{Certificate}
 use Rattle.clr_cert.specs.declared.items.Item.{Item}
-use Rattle.clr_cert.specs.declared.items.Item.TheVariants.{Root, Member, Need}
+use Rattle.clr_cert.specs.declared.items.Item.TheVariants.{Root, Member, Before, Need}
 use Rattle.clr_cert.specs.Certificates.{is_root_item, with_next}
 use Rattle.clr_cert.proofs.ItemTurns.{one_more, stops, whole}
 use Rattle.clr_cert.proofs.reading.read_records.Goals as goal
@@ -18,6 +18,7 @@ root_stays : (rooted : Bool) (front : Certificate) (item : Item) → (rooted ≡
 root_stays true front item live e = absurd cc
 root_stays false front (Root name) live e = absurd cc
 root_stays false front (Member name) live e = live refl
+root_stays false front (Before p) live e = live refl
 root_stays false front (Need entry) live e = live refl
 
 pub loop-i-preserved : goal.loop-i-preserved

@@ -1,70 +1,31 @@
-use Rattle.std.proofs.Common.{subst}
-use Rattle.clr_merge_sets.specs.Faults.{IsMergeSetFault}
-use Rattle.clr_merge_sets.specs.Certificates.{entries_in, merge_set_of}
-use Rattle.clr_merge_sets.specs.MergeSetNames.{merge_set}
-use Rattle.clr_check.proofs.AnswerLemmas.{clear_promises, fault_answers}
+use Rattle.std.proofs.Common.{ap, sym}
+use Rattle.clr_merge_sets.specs.Certificates.{entries_in, ordered_merge_set_of, pairs_in}
+use Rattle.clr_check.proofs.AnswerLemmas.{clear_everywhere, clear_promises, named_answers}
 use Rattle.clr_check.proofs.checks.check.Goals as goal
 
-pub returns-in-Ok-clause-free : goal.returns-in-Ok-clause-free
-returns-in-Ok-clause-free c e =
-    (clear_promises c.args.office.now (merge_set_of c.args.certificate.now) (entries_in c.args.certificate.now.entries)
-    c.judge_changes.result c.judge_changes.ensures e).0
-
-pub returns-in-Ok-clause-safe : goal.returns-in-Ok-clause-safe
-returns-in-Ok-clause-safe c e =
-    (clear_promises c.args.office.now (merge_set_of c.args.certificate.now) (entries_in c.args.certificate.now.entries)
-    c.judge_changes.result c.judge_changes.ensures e).1
-
-pub returns-in-Ok-clause-headline : goal.returns-in-Ok-clause-headline
-returns-in-Ok-clause-headline c e =
-    (clear_promises c.args.office.now (merge_set_of c.args.certificate.now) (entries_in c.args.certificate.now.entries)
-    c.judge_changes.result c.judge_changes.ensures e).2
-
-pub returns-in-Ok-clause-runs : goal.returns-in-Ok-clause-runs
-returns-in-Ok-clause-runs c e =
-    (clear_promises c.args.office.now (merge_set_of c.args.certificate.now) (entries_in c.args.certificate.now.entries)
-    c.judge_changes.result c.judge_changes.ensures e).3
-
-pub returns-in-Err-clause-answer : goal.returns-in-Err-clause-answer
-returns-in-Err-clause-answer c =
-    let o = c.args.office.now in
+pub returns-in-Some-clause-answer : goal.returns-in-Some-clause-answer
+returns-in-Some-clause-answer c =
     let certificate = c.args.certificate.now in
-    let v = c.fault_without_memory.result in
-    let fault = subst (λ root. IsMergeSetFault o (merge_set root certificate.members) v) c.as_str.ensures c.fault_without_memory.ensures.fault in
-    fault_answers o (merge_set_of certificate) (entries_in certificate.entries) v fault
+    named_answers c.args.office.now (ordered_merge_set_of certificate) (entries_in certificate.entries) c.in-Some.fault (sym c.in-Some.ensures.fault)
 
-pub returns-in-Err-clause-free : goal.returns-in-Err-clause-free
-returns-in-Err-clause-free c e =
-    let o = c.args.office.now in
+pub returns-in-Some-clause-cleared : goal.returns-in-Some-clause-cleared
+returns-in-Some-clause-cleared c =
     let certificate = c.args.certificate.now in
-    let v = c.fault_without_memory.result in
-    let fault = subst (λ root. IsMergeSetFault o (merge_set root certificate.members) v) c.as_str.ensures c.fault_without_memory.ensures.fault in
-    let answer = fault_answers o (merge_set_of certificate) (entries_in certificate.entries) v fault in
-    (clear_promises o (merge_set_of certificate) (entries_in certificate.entries) v answer e).0
+    clear_promises c.args.office.now (ordered_merge_set_of certificate) (entries_in certificate.entries) c.in-Some.fault (returns-in-Some-clause-answer c)
 
-pub returns-in-Err-clause-safe : goal.returns-in-Err-clause-safe
-returns-in-Err-clause-safe c e =
-    let o = c.args.office.now in
+pub returns-in-Ok-clause-cleared : goal.returns-in-Ok-clause-cleared
+returns-in-Ok-clause-cleared c =
     let certificate = c.args.certificate.now in
-    let v = c.fault_without_memory.result in
-    let fault = subst (λ root. IsMergeSetFault o (merge_set root certificate.members) v) c.as_str.ensures c.fault_without_memory.ensures.fault in
-    let answer = fault_answers o (merge_set_of certificate) (entries_in certificate.entries) v fault in
-    (clear_promises o (merge_set_of certificate) (entries_in certificate.entries) v answer e).1
+    clear_promises c.args.office.now (ordered_merge_set_of certificate) (entries_in certificate.entries) c.judge_changes.result c.judge_changes.ensures
 
-pub returns-in-Err-clause-headline : goal.returns-in-Err-clause-headline
-returns-in-Err-clause-headline c e =
-    let o = c.args.office.now in
+pub returns-in-Some-clause-every_order : goal.returns-in-Some-clause-every_order
+returns-in-Some-clause-every_order c none =
     let certificate = c.args.certificate.now in
-    let v = c.fault_without_memory.result in
-    let fault = subst (λ root. IsMergeSetFault o (merge_set root certificate.members) v) c.as_str.ensures c.fault_without_memory.ensures.fault in
-    let answer = fault_answers o (merge_set_of certificate) (entries_in certificate.entries) v fault in
-    (clear_promises o (merge_set_of certificate) (entries_in certificate.entries) v answer e).2
+    clear_everywhere c.args.office.now (ordered_merge_set_of certificate) (entries_in certificate.entries) c.in-Some.fault (returns-in-Some-clause-answer c)
+    (ap pairs_in none)
 
-pub returns-in-Err-clause-runs : goal.returns-in-Err-clause-runs
-returns-in-Err-clause-runs c e =
-    let o = c.args.office.now in
+pub returns-in-Ok-clause-every_order : goal.returns-in-Ok-clause-every_order
+returns-in-Ok-clause-every_order c none =
     let certificate = c.args.certificate.now in
-    let v = c.fault_without_memory.result in
-    let fault = subst (λ root. IsMergeSetFault o (merge_set root certificate.members) v) c.as_str.ensures c.fault_without_memory.ensures.fault in
-    let answer = fault_answers o (merge_set_of certificate) (entries_in certificate.entries) v fault in
-    (clear_promises o (merge_set_of certificate) (entries_in certificate.entries) v answer e).3
+    clear_everywhere c.args.office.now (ordered_merge_set_of certificate) (entries_in certificate.entries) c.judge_changes.result c.judge_changes.ensures
+    (ap pairs_in none)

@@ -5,7 +5,7 @@ use Rattle.clr_merge_sets.specs.MergeSetNames.{merge_set}
 use Rattle.clr_merge_sets.specs.declared.plans.Plan.{Plan}
 use Rattle.clr_merge_sets.specs.Plans.{is_cleared}
 use Rattle.clr_choices.specs.Clearable.{IsPlanOf}
-use Rattle.clr_desk.specs.Certificates.{plan_print}
+use Rattle.clr_desk_orders.specs.PlanPrints.{plan_print}
 use Rattle.clr_desk.specs.Choices.{of_nobody}
 use Rattle.clr_desk_prints.specs.Printing.{printed}
 use Rattle.clr_desk.proofs.choices.print_of_names.Goals as goal

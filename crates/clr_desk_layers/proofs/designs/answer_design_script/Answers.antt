@@ -9,5 +9,5 @@ returns-in_ok-script_print-in-Ok c = of_office c.in-Ok.office c.in-Ok.ensures.me
 
 pub returns-in-Err : goal.returns-in-Err
 returns-in-Err c =
-    office_fault (IsDesignScriptPrint c.args.name.now c.args.options c.args.layers.now) (opened_in c.args.office.now) c.in-Err.answer c.notes_of.result
+    office_fault (IsDesignScriptPrint c.args.name.now c.args.options c.args.may_remove c.args.layers.now) (opened_in c.args.office.now) c.in-Err.answer c.notes_of.result
     c.in-Err.ensures.answer c.notes_of.ensures

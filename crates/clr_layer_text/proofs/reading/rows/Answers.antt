@@ -24,14 +24,14 @@ pub returns-in-Err : goal.returns-in-Err
 returns-in-Err c =
     rw c.numbered_fault.ensures (stops_numbered layer_lacks_memory
     (λ line. row_of c.args.schema.now c.args.table c.args.rounded (seen_headings c.args.headings.now) (fields_of line)) c.in-Err.fault c.loop-i.list.items 2
-    c.args.records.now c.loop-i.i _ _ c.loop-i-test.true c.index-records-i.is c.in-Err.ensures c.loop-i.invariant)
+    c.args.records.now c.loop-i.i _ _ c.loop-i-test.true c.index-records-i.is c.in-Err.ensures.value c.loop-i.invariant)
 
 pub loop-i-preserved : goal.loop-i-preserved
 loop-i-preserved c =
     let pushed : is_ok c.push.result ≡ true = search rules in
     let items = rw pushed at c.push.ensures.items in
     rw items (one_more (row_at_record c.args.schema.now c.args.table c.args.rounded (seen_headings c.args.headings.now)) c.loop-i.list.items 2
-    c.args.records.now c.loop-i.i _ c.in-Ok.row _ c.loop-i-test.true c.index-records-i.is (rw c.in-Ok.ensures refl) c.loop-i.invariant)
+    c.args.records.now c.loop-i.i _ c.in-Ok.row _ c.loop-i-test.true c.index-records-i.is (rw c.in-Ok.ensures.value refl) c.loop-i.invariant)
 
 pub returns : goal.returns
 returns c = whole (row_at_record c.args.schema.now c.args.table c.args.rounded (seen_headings c.args.headings.now)) c.loop-i.list.items 2

@@ -11,7 +11,7 @@ pub returns-in_ok-hints-in-Ok-clause-output : goal.returns-in_ok-hints-in-Ok-cla
 returns-in_ok-hints-in-Ok-clause-output c =
     let o = c.in-Ok.office in
     let output = c.in_ok-output-in-Ok.output in
-    held_made (IsPlanPrint (merge_set c.args.root.now c.args.names.now)) (opened_in c.args.office.now) o c.in-Ok.ensures.meant (Ok output)
+    held_made (IsPlanPrint c.args.orders (merge_set c.args.root.now c.args.names.now)) (opened_in c.args.office.now) o c.in-Ok.ensures.meant (Ok output)
     (outcome_of output o, c.in_ok-output-in-Ok.ensures, refl)
 
 pub returns-in_ok-hints-in-Ok-clause-hints : goal.returns-in_ok-hints-in-Ok-clause-hints

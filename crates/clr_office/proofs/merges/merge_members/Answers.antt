@@ -2,10 +2,10 @@ use Rattle.std.proofs.Common.{◌≡◌, ap, refl, sym, subst, ◌∙◌}
 use Rattle.clr_steps.specs.Offices.{Office}
 use Rattle.clr_clearance.specs.Plans.{merges}
 use Rattle.clr_clearance.specs.declared.verdicts.Verdict.TheVariants as verdict
-use Rattle.clr_merge_sets.specs.Certificates.{entries_in, merge_set_of}
+use Rattle.clr_merge_sets.specs.Certificates.{entries_in, ordered_merge_set_of}
 use Rattle.clr_check.specs.Answers.{of_verdict}
 use Rattle.clr_check.proofs.AnswerLemmas.{clear_promises}
-use Rattle.clr_lines.specs.Verdicts.{verdict_text}
+use Rattle.clr_lines.specs.Verdicts.{verdict_text_in_turn}
 use Rattle.clr_office.specs.Clearances.{IsMergeOutcome}
 use Rattle.clr_office_reports.specs.Outcomes.{outcome_of}
 use Rattle.clr_office.proofs.CaseTexts.{merged, not_merged}
@@ -20,10 +20,10 @@ returns-in-Ok c =
     let are : c.as_slice.result.now ≡ merges c.args.names.now = c.as_slice.ensures.value ∙ c.in_ok-commands.ensures in
     let o = c.args.office.now in
     let certificate = c.args.certificate.now in
-    let promised = clear_promises o (merge_set_of certificate) (entries_in certificate.entries) verdict.Clear
+    let promised = clear_promises o (ordered_merge_set_of certificate) (entries_in certificate.entries) verdict.Clear
     (of_verdict performed.clear) refl in
     merged o c.perform_cleared.new.office certificate c.args.names.now c.as_slice.result.now run.replies.items run.stopped output
-    are performed.clear performed.start performed.run promised.3 made.lines made.refused made.lost
+    are performed.clear performed.start performed.run promised.runs made.lines made.refused made.lost
 
 pub returns : goal.returns
 returns c =
@@ -35,6 +35,6 @@ returns c =
     let made = c.in_ok-verdict_output-in-Err.ensures in
     let same = c.in-Err.ensures.unchanged in
     let schema = c.schema.ensures.value ∙ ap (λ (x : Office). x.schema) same in
-    let lines : output.lines.items ≡ verdict_text o.schema certificate.members certificate.root v = rw (← schema) made.lines in
+    let lines : output.lines.items ≡ verdict_text_in_turn o.schema certificate.members certificate.before certificate.root v = rw (← schema) made.lines in
     subst (λ (left : Office). IsMergeOutcome o certificate names (outcome_of output left)) (sym same)
     (not_merged o certificate v output lines made.refused made.lost names c.in-Err.ensures.refused)

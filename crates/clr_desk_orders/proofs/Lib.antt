@@ -1,0 +1,3 @@
+mod FoundOrders
+mod PrintedChoices
+mod TryingInOrder

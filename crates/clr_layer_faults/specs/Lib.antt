@@ -1,0 +1,2 @@
+pub mod LayerFaultLines
+pub mod UnfitLines

@@ -1,0 +1,4 @@
+pub mod Covers
+pub mod Entries
+pub mod Late
+pub mod ListedCovers

@@ -1,0 +1,2 @@
+pub mod MoreBefore
+pub mod PromiseLaws

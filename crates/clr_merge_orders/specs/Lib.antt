@@ -1,0 +1,2 @@
+pub mod MergeOrders
+pub mod OrderLines

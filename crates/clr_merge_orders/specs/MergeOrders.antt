@@ -1,0 +1,58 @@
+-- What is said of the orders of a merge set's members, and what it promises.
+use Rattle.std.specs.Prelude.{◌≡◌, ℕ, true, List, [], None, get_or, map}
+use Rattle.clr_workspaces.specs.Marks.{Name}
+use Rattle.clr_needs.specs.Covers.{Entry}
+use Rattle.clr_needs.specs.Members.{AreApart}
+use Rattle.clr_steps.specs.Offices.{Office}
+use Rattle.clr_steps.specs.Quiet.{MergeSet}
+use Rattle.clr_clearance.specs.MergeSets.{change_sets, setting_by_position}
+use Rattle.clr_clearance.specs.Plans.{is_order_refused, members_at}
+use Rattle.clr_clearance.specs.Verdicts.{member_fault}
+use Rattle.clr_ordered_needs.specs.Turns.{ListsAll}
+use Rattle.clr_ordered_clearance.specs.Headlines.{HeadlineInTurn}
+use Rattle.clr_ordered_clearance.specs.MergeSets.{CoversInTurn, OrderedMergeSet}
+use Rattle.clr_plan.specs.Plans.{IsPlan}
+use Rattle.clr_order_answers.specs.declared.pairs.Pair.{Pair}
+use Rattle.clr_scene_orders.specs.declared.scene_orders.SceneOrder.{SceneOrder}
+use Rattle.clr_scene_orders.specs.declared.scene_orders.SceneOrder.TheVariants as scene_order
+use Rattle.clr_scene_orders.specs.SceneOrders.{IsSceneOrder}
+use Rattle.clr_merge_orders.specs.declared.merge_orders.MergeOrder.{MergeOrder}
+use Rattle.clr_merge_orders.specs.declared.merge_orders.MergeOrder.TheVariants as merge_order
+
+-- no test of members fails and no cell is changed by two, and this is said of the members by position
+pub record IsOrderOf (o : Office) (s : MergeSet) (order : SceneOrder) : Type 0 where
+  pub free : member_fault o s ≡ None
+  pub apart : AreApart (change_sets o s)
+  pub told : IsSceneOrder (setting_by_position o s) order
+
+abbrev pub IsMergeOrder : Office → MergeSet → MergeOrder → Type 0
+IsMergeOrder o s (merge_order.Planned p) = IsPlan o s p
+IsMergeOrder o s (merge_order.Ordered order) = IsOrderOf o s order
+
+-- what it promises ---------------------------------------------------------------------------------------------
+
+-- the name of the member at a position
+abbrev pub name_at : MergeSet → ℕ → Name
+name_at s at = get_or s.members at []
+
+-- the members, of whom the first of each pair goes before the second
+abbrev pub ordered_by : MergeSet → List Pair → OrderedMergeSet
+ordered_by s pairs = record { merge_set = s; before = map (λ p. (name_at s p.earlier, name_at s p.later)) pairs }
+
+-- some entries cover the members under the pairs, so that the headline holds for merges in turn
+abbrev pub IsClearedBy : Office → MergeSet → List Pair → Type 0
+IsClearedBy o s pairs = ((entries : List Entry) × CoversInTurn o (ordered_by s pairs) entries) × HeadlineInTurn o (ordered_by s pairs)
+
+-- in each order of all members one of the merges meets a conflict or breaks a rule
+abbrev pub IsEachOrderRefused : Office → MergeSet → Type 0
+IsEachOrderRefused o s = (order : List ℕ) → ListsAll (setting_by_position o s) order → is_order_refused o (members_at s order) ≡ true
+
+abbrev pub PromisesOrder : Office → MergeSet → SceneOrder → Type 0
+PromisesOrder o s (scene_order.Order order pairs) = IsClearedBy o s pairs.items
+PromisesOrder o s (scene_order.Final need members) = IsEachOrderRefused o s
+PromisesOrder o s (scene_order.Stuck members) = IsEachOrderRefused o s
+PromisesOrder o s (scene_order.TooMany members) = Unit {0}
+
+abbrev pub Promises : Office → MergeSet → MergeOrder → Type 0
+Promises o s (merge_order.Planned p) = Unit {0}
+Promises o s (merge_order.Ordered order) = PromisesOrder o s order

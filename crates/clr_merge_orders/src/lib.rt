@@ -1,0 +1,21 @@
+//! The planner of orders: in which order children of a kept workspace can be merged into it one after
+//! another, where they can't be merged in every order.
+//!
+//! - `merge_order` [`IsMergeOrder`] says what `plan` does where a test of names fails, a member is in
+//!   conflict, two members change one cell, or memory is wanting. Else it says of the members, as
+//!   `order_scene` does of a scene, an order with its pairs, a need that no member helps, or that
+//!   there is no order, or that open needs concern too many members.
+//! - `merge_order` [`promises`]: where it gives an order, some entries cover the members under the
+//!   pairs; so the headline holds for every list of quiet commands in which the merges come in turn.
+//!   Where it names a need that no member helps, or says that there is no order, in each order of all
+//!   members some merge is refused.
+//! - `merge_order_lines` gives exactly the bytes of the lines of it, with the names of members, memory
+//!   aside.
+//! - `order_of_changes` says the same, with the same clauses, of members whose changes were read before.
+#![tactic(auto)]
+
+mod lines;
+mod merge_orders;
+
+pub use lines::merge_order_lines;
+pub use merge_orders::{MergeOrder, merge_order, order_of_changes};

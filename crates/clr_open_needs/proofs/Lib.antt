@@ -1,0 +1,2 @@
+pub mod HelperLaws
+pub mod ListingLaws

@@ -1,0 +1,4 @@
+pub mod Beginnings
+pub mod InOrderLaws
+pub mod ListedNames
+pub mod ReadableInOrder
