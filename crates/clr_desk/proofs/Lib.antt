@@ -9,3 +9,4 @@ mod Positions
 mod ShownSets
 mod Trying
 mod Untorn
+mod WaitingLemmas

@@ -123,7 +123,7 @@ module _ (o : Office) (c : Certificate) where
   one_merge_print names print other (merging.of_merges replies stopped left merged is) (merging.of_merges others ended rest merged_too is_too) found found_too =
       let same = one_start_in_turn (ordered_merge_set_of c) o (merges names) replies others left rest stopped ended merged.start merged_too.start
       (found_by_status _ _ (subst FoundMemory is found)) (found_by_status _ _ (subst FoundMemory is_too found_too)) in
-      is ∙ (λ i. merge_print (same.0 i) (same.2 i) (same.1 i)) ∙ sym is_too
+      is ∙ (λ i. merge_print c names (same.0 i) (same.2 i) (same.1 i)) ∙ sym is_too
   one_merge_print names print other (merging.of_merges replies stopped left merged is) (merging.of_verdict v refusal is_too) found found_too =
       absurd (not_refused v merged.clear refusal.answer refusal.not_clear (found_said v (subst FoundMemory is_too found_too)))
   one_merge_print names print other (merging.of_verdict v refusal is) (merging.of_merges replies stopped left merged is_too) found found_too =

@@ -18,6 +18,8 @@ use Rattle.clr_merge_clashes.specs.Laws.{ArePositions, AreSmallestSets, HoldNoSe
 use Rattle.clr_merge_clashes.specs.MergeClashes.{FindsClashes}
 use Rattle.clr_merge_clashes.specs.declared.clash_sets.MergeClash.{MergeClash}
 use Rattle.clr_merge_clashes.specs.declared.clash_sets.MergeClashes.{MergeClashes}
+use Rattle.clr_clash_helpers.specs.Helpers.{AreHelped}
+use Rattle.clr_clash_helpers.specs.declared.helped.HelpedClash.{HelpedClash}
 use Rattle.clr_desk_orders.specs.ChoicePrints.{names_line}
 use Rattle.clr_desk_orders.specs.PlanPrints.{plan_print}
 use Rattle.clr_desk_prints.specs.Members.{set_asked}
@@ -27,6 +29,10 @@ use Rattle.clr_desk_prints.specs.Printing.{PrintoutOrFault, printout_of}
 abbrev pub clash_text : List TableDef → MergeSet → MergeClash → List ℕ
 clash_text tables s k =
     names_line (codes "clash") (members_at s k.members.items) ++ codes "cause " ++ verdict_text tables (members_at s k.members.items) s.root k.cause
+
+-- a set, and the members that help it
+abbrev pub helped_text : List TableDef → MergeSet → HelpedClash → List ℕ
+helped_text tables s h = clash_text tables s h.clash.now ++ names_line (codes "helps") (members_at s h.helpers.items)
 
 abbrev pub is_listed_position : ℕ → List ℕ → Bool
 is_listed_position at positions = list_any (λ x. x == at) positions
@@ -52,11 +58,11 @@ abbrev pub line_of_some : List ℕ → List Name → List ℕ
 line_of_some word [] = []
 line_of_some word (name ∷ names) = names_line word (name ∷ names)
 
--- how many sets there are, each set, the members that weren't looked at with the others, and those that are in none of these sets
-abbrev pub clashes_text : List TableDef → MergeSet → List MergeClash → List ℕ → List ℕ
-clashes_text tables s clashes looked =
-    count_line (codes "clashes") (length clashes) ++ flat_map (clash_text tables s) clashes
-    ++ line_of_some (codes "beside") (beside s looked) ++ names_line (codes "free") (in_no_set s clashes)
+-- how many sets there are, each set with the members that help it, the members that weren't looked at with the others, and those that are in none of these sets
+abbrev pub clashes_text : List TableDef → MergeSet → MergeClashes → List HelpedClash → List ℕ
+clashes_text tables s found helped =
+    count_line (codes "clashes") (length found.clashes.items) ++ flat_map (helped_text tables s) helped
+    ++ line_of_some (codes "beside") (beside s found.looked.items) ++ names_line (codes "free") (in_no_set s found.clashes.items)
 
 -- none of some members is among those that weren't looked at with the others
 abbrev pub NoneIsBeside : MergeClashes → List ℕ → Type 0
@@ -73,12 +79,16 @@ pub record LinesDecidePlans (o : Office) (s : MergeSet) (found : MergeClashes) :
   pub none_beside : beside s found.looked.items ≡ [] → (positions : List ℕ) → ArePositions s positions → AreTold o s found positions
 
 -- one such set counts as a refusal
-abbrev pub found_print : Office → MergeSet → MergeClashes → PrintoutOrFault
-found_print o s found = printout_of (clashes_text o.schema s found.clashes.items found.looked.items) [] (nat_lt 0 (length found.clashes.items)) false
+abbrev pub found_print : Office → MergeSet → MergeClashes → List HelpedClash → PrintoutOrFault
+found_print o s found helped = printout_of (clashes_text o.schema s found helped) [] (nat_lt 0 (length found.clashes.items)) false
 
--- the smallest sets, with what they promise; or the test of names that fails, as the line of a plan that is unfit
+-- the sets, each with exactly the members that help it
+abbrev pub IsFoundPrint : Office → MergeSet → MergeClashes → PrintoutOrFault → Type 0
+IsFoundPrint o s found print = (helped : List HelpedClash) × AreHelped o s found.clashes.items helped × (print ≡ found_print o s found helped)
+
+-- the smallest sets, with what they promise and the members that help each; or the test of names that fails, as the line of a plan that is unfit
 pub data IsMergeSetPrint (s : MergeSet) (o : Office) (print : PrintoutOrFault) : Type 0 where
-  of_found : (found : MergeClashes) → FindsClashes o s found → AreSmallestSets o s found → LinesDecidePlans o s found → print ≡ found_print o s found
+  of_found : (found : MergeClashes) → FindsClashes o s found → AreSmallestSets o s found → LinesDecidePlans o s found → IsFoundPrint o s found print
       → IsMergeSetPrint s o print
   of_names : (v : Verdict) → names_fault o s ≡ Some v → print ≡ plan_print o s (plan.Unfit v) → IsMergeSetPrint s o print
 

@@ -14,3 +14,4 @@ pub mod Merges
 pub mod OneAnswer
 pub mod Orders
 pub mod Whys
+pub mod Waiting

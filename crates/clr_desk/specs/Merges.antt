@@ -13,14 +13,15 @@ use Rattle.clr_lines.specs.Replies.{reply_text}
 use Rattle.clr_lines.specs.Verdicts.{verdict_text_in_turn}
 use Rattle.clr_office.specs.Clearances.{AreMerged, is_clear, is_without_memory, stop_text}
 use Rattle.clr_office_reports.specs.Outcomes.{dump_text, is_refused}
+use Rattle.clr_desk.specs.Waiting.{waiting_text}
 use Rattle.clr_desk_prints.specs.NameHints.{IsHinted}
 use Rattle.clr_desk_prints.specs.Printing.{PrintoutOrFault, printout_of}
 
--- the text of the office that is left, and as notes a line of each reply and that of the stop
-abbrev pub merge_print : List Reply → Option ℕ → Office → PrintoutOrFault
-merge_print replies stopped left =
-    printout_of (dump_text left) (flat_map (reply_text left.schema) replies ++ stop_text stopped) (list_any is_refused replies || is_some stopped)
-    (list_any is_lost replies)
+-- the text of the office that is left, and as notes a line of each reply, that of the stop, and the member for which the merge waits that wasn't made
+abbrev pub merge_print : Certificate → List Name → List Reply → Option ℕ → Office → PrintoutOrFault
+merge_print c names replies stopped left =
+    printout_of (dump_text left) (flat_map (reply_text left.schema) replies ++ stop_text stopped ++ waiting_text (ordered_merge_set_of c) names replies)
+    (list_any is_refused replies || is_some stopped) (list_any is_lost replies)
 
 -- no office, and as notes the line of a verdict that isn't clear
 abbrev pub verdict_print : Office → Certificate → Verdict → PrintoutOrFault
@@ -29,7 +30,7 @@ verdict_print o c v = printout_of [] (verdict_text_in_turn o.schema c.members c.
 -- merges in the order of the names, as far as they are quiet for the certificate; where it isn't clear, none
 pub data IsMergePrintout (names : List Name) (o : Office) (c : Certificate) (print : PrintoutOrFault) : Type 0 where
   of_merges : (replies : List Reply) (stopped : Option ℕ) (left : Office) → AreMerged o c names replies stopped left
-      → print ≡ merge_print replies stopped left → IsMergePrintout names o c print
+      → print ≡ merge_print c names replies stopped left → IsMergePrintout names o c print
   of_verdict : (v : Verdict) → IsRefusingVerdict o (ordered_merge_set_of c) (entries_in c.entries) v → print ≡ verdict_print o c v
       → IsMergePrintout names o c print
 

@@ -3,20 +3,22 @@ ghost use Rattle.std.specs.Prelude.{◌≡◌, ◌∷◌, map, IfOk};
 ghost use Rattle.clr_merge_sets.specs.MergeSetNames.{merge_set};
 ghost use Rattle.clr_office_texts.specs.Drafts.{opened_in};
 ghost use Rattle.clr_merge_clashes.specs.MergeClashes.{IsFaultOfNames};
-ghost use Rattle.clr_desk.specs.Clashes.{IsClashesPrint, IsMergeSetPrint, found_print};
+ghost use Rattle.clr_desk.specs.Clashes.{IsClashesPrint, IsFoundPrint, IsMergeSetPrint};
 ghost use Rattle.clr_desk_prints.specs.NameHints.{IsHinted};
 ghost use Rattle.clr_desk_prints.specs.Printing.{IsMadePrintout, IsPrintoutIn, printed};
 
 use crate::clash_lines::clashes_lines;
+use clr_clash_helpers::helped_clashes;
 use clr_clearance::Verdict;
 use clr_desk_orders::plan_print;
 use clr_desk_prints::{Print, answer_over_members};
 use clr_engine::Office;
 use clr_merge_clashes::{MergeClashes, merge_clashes};
+use clr_merge_sets::read_member_changes;
 use clr_office::{Plan, RunFault, Words};
 use std::alloc::{AllocError, Global};
 
-/// Returns all sets, as a text.
+/// Returns all sets, each with those that help it, as a text.
 fn found_print(
     alloc: Global,
     office: &Office,
@@ -24,9 +26,12 @@ fn found_print(
     members: &[&str],
     found: &MergeClashes,
 ) -> Result<Print, AllocError>
-    ensures { IfOk result (λ p. printed p ≡ found_print office.now (merge_set root.now (map (λ name. name.now) members.now)) found.now) }
+    ensures { IfOk result (λ p. IsFoundPrint office.now (merge_set root.now (map (λ name. name.now) members.now)) found.now (printed p)) }
 {
-    let text = clashes_lines(alloc, office.schema(), root, members, found)?;
+    let changes = read_member_changes(alloc, office, root, members)?;
+    let helped = helped_clashes(alloc, office, &changes, found.clashes.as_slice())?;
+    let helped = helped.as_slice();
+    let text = clashes_lines(alloc, office.schema(), root, members, found, helped)?;
     let is_any = found.clashes.as_slice().len() > 0;
     Ok(Print::new(text, Vec::new(alloc), is_any, false))
 }

@@ -9,11 +9,11 @@
 //!   want of memory aside. So: of `certificate` the records of a certificate by which the members are
 //!   safe, and nothing else, or the lines of the plan as notes; of `check` the line of the verdict, with status 0 only where it is clear and the
 //!   certificate names a design; of `merge` the text of the office that a
-//!   run leaves as `perform_cleared` promises it, and the replies and the stop as notes; of `format` the
+//!   run leaves as `perform_cleared` promises it, and the replies and the stop as notes, with the member for which the merge waits; of `format` the
 //!   text of the same office with each object of a list on a line of its own, which is read as that office; of `keep` the certificate
 //!   of the members taken, each of which is cleared with those taken before it, and as notes who they
 //!   are and, of each other, the plan that isn't cleared (`IsChoicePrint`); of `clashes` the smallest sets
-//!   of members that can't be merged in every order, each with its cause, and the members in none
+//!   of members that can't be merged in every order, each with its cause and the members that help it, and the members in none
 //!   (`IsClashesPrint`); of `order` an order of the members with the pairs of which one goes before the other, or why none was found, and of
 //!   `certificate` and `keep` in an order what these print of the members in the order of their names (`IsInOrderPrint`); of `why` status 2 exactly where
 //!   the text has a fault, and then lines that begin with it and have the line, the column and the path of
@@ -52,6 +52,7 @@ mod laws;
 mod line_ends;
 mod merges;
 mod orders;
+mod waiting;
 mod whys;
 
 use crate::answers::answer;

@@ -4,6 +4,7 @@ ghost use Rattle.clr_check.specs.Cases.{case_of};
 ghost use Rattle.clr_desk.specs.Merges.{IsHintedMerge, IsMergePrintout, merge_print};
 ghost use Rattle.clr_desk_prints.specs.Printing.{IsMadePrintout, IsPrintoutOfCase, printed};
 
+use crate::waiting::waiting_text;
 use clr_cert::Certificate;
 use clr_check::{ClearedRun, perform_cleared, read_case};
 use clr_desk_prints::{Print, hint_lines, notes_of};
@@ -15,18 +16,28 @@ use clr_office::{
 use std::alloc::{AllocError, Global};
 
 /// Returns the office that merges left, and as notes the lines of the merges.
-fn run_print(alloc: Global, office: &Office, run: &ClearedRun) -> Result<Print, AllocError>
-    ensures { IfOk result (λ p. printed p ≡ merge_print run.now.replies.items run.now.stopped office.now) }
+fn run_print(
+    alloc: Global,
+    office: &Office,
+    certificate: &Certificate,
+    names: &[Words],
+    run: &ClearedRun,
+) -> Result<Print, AllocError>
+    ensures { IfOk result (λ p. printed p ≡ merge_print certificate.now names.now run.now.replies.items run.now.stopped office.now) }
 {
-    let mut all = replies_output(alloc, office.schema(), run.replies.as_slice())?;
+    let replies = run.replies.as_slice();
+    let mut all = replies_output(alloc, office.schema(), replies)?;
     all.append(&stop_output(alloc, run.stopped)?)?;
-    Ok(Print::new(dump_text(alloc, office)?, all.lines, all.refused, all.lost))
+    let waiting = waiting_text(alloc, certificate, names, replies)?;
+    let mut notes = all.lines;
+    notes.extend_from_slice(waiting.as_slice())?;
+    Ok(Print::new(dump_text(alloc, office)?, notes, all.refused, all.lost))
 }
 
 /// Merges workspaces in the order of their names, as far as that is quiet for a certificate and no member
 /// is merged before its turn, where the certificate is clear: the office that is left, and as notes a line
-/// for each merge that was performed and one that says where it stopped. Where the certificate isn't clear
-/// the verdict is the only note, and there is no text.
+/// for each merge that was performed, one that says where it stopped, and one that names the first member that has
+/// to be merged before, where there is one. Where the certificate isn't clear the verdict is the only note, and there is no text.
 fn merge_members(
     alloc: Global,
     office: &mut Office,
@@ -37,7 +48,7 @@ fn merge_members(
 {
     let commands = merge_commands(alloc, names)?;
     match perform_cleared(alloc, office, certificate, commands.as_slice()) {
-        Ok(run) => run_print(alloc, office, &run),
+        Ok(run) => run_print(alloc, office, certificate, names, &run),
         Err(verdict) => {
             let output = verdict_output(alloc, office.schema(), certificate, &verdict)?;
             Ok(Print::new(Vec::new(alloc), output.lines, output.refused, output.lost))

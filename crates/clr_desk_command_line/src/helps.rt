@@ -82,8 +82,8 @@ Example:
 pub(crate) const WORDS_PRINTS: &str =
     "It prints the plan of the designs in sentences: whether they can be merged in every order, and if
 not, an order in which a merge is refused, the rule, the rows, and where they meet; then what would
-help, each tried. Without names it takes all children of the root. The status is 0 where the designs
-are cleared, and 1 where they aren't.
+help, each tried, and in which order they can be merged, if any works. Without names it takes all
+children of the root. The status is 0 where the designs are cleared, and 1 where they aren't.
 
 Example:
   clr_desk words office.json Renewal Extension Bypass";

@@ -27,7 +27,7 @@ use Rattle.clr_order_search.proofs.Rests.{has_at}
 use Rattle.clr_ordered_needs.specs.Covers.{HasCover, IsUncovered}
 use Rattle.clr_ordered_needs.specs.Helpers.{HelpComesFirst, IsHelper, IsServedAlways}
 use Rattle.clr_ordered_needs.proofs.HelpLaws.{cover_is_help}
-use Rattle.clr_order_answers.proofs.Lists.{contained_at}
+use Rattle.clr_order_knots.proofs.Lists.{contained_at}
 use Rattle.clr_open_needs.specs.declared.listing.OpenNeeds.{OpenNeeds}
 use Rattle.clr_open_needs.specs.OpenNeeds.{AreOpenNeeds, HasSides, IsPicked}
 use Rattle.clr_scene_orders.proofs.Covering.{contained_of, picked_helps}

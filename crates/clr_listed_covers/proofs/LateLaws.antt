@@ -10,9 +10,10 @@ use Rattle.clr_order_search.specs.declared.open_needs.OpenNeed.{OpenNeed}
 use Rattle.clr_order_search.specs.OpenNeeds.{has}
 use Rattle.clr_order_search.proofs.Positions.{some_of}
 use Rattle.clr_order_search.proofs.Rests.{itself, same_of}
-use Rattle.clr_order_answers.specs.Answers.{AreWithin}
-use Rattle.clr_order_answers.specs.Pairs.{AreAllApart, AreHelpedInTime}
-use Rattle.clr_order_answers.proofs.Lists.{has_either, has_left}
+use Rattle.clr_order_knots.specs.OpenNeeds.{AreWithin}
+use Rattle.clr_order_knots.specs.Peeling.{AreHelpedInTime}
+use Rattle.clr_order_knots.proofs.Lists.{has_either, has_left}
+use Rattle.clr_order_answers.specs.Pairs.{AreAllApart}
 use Rattle.clr_listed_covers.specs.Late.{AreHelpedInList, IsEndOf, IsLateAt, is_helped_in_list}
 
 pub before_or_behind : (i j : ℕ) → (i < j) ⊎ (j ≤ i)

@@ -2,7 +2,7 @@
 
 ghost use Rattle.std.specs.Prelude.{◌≡◌, length, IfOk};
 ghost use Rattle.std.specs.List.{range_with_len};
-ghost use Rattle.clr_order_answers.specs.Answers.{AreWithin};
+ghost use Rattle.clr_order_knots.specs.OpenNeeds.{AreWithin};
 ghost use Rattle.clr_order_answers.specs.Pairs.{ArePairsFor};
 ghost use Rattle.clr_listed_covers.specs.Late.{AreHelpedInList};
 

@@ -149,7 +149,7 @@ module _ (o : Office) (s : MergeSet) where
   order_promise (scene_order.Order order pairs) is = cleared_by order.items pairs.items is.told.2 (mergeable_of o s is.free is.apart)
   order_promise (scene_order.Final need members) is = each_refused (mergeable_of o s is.free is.apart) is.apart
       (final_breaks o.book (root_content o s) (change_sets o s) need members.items is.told)
-  order_promise (scene_order.Stuck members) is = each_refused (mergeable_of o s is.free is.apart) is.apart is.told.3
+  order_promise (scene_order.Stuck members) is = each_refused (mergeable_of o s is.free is.apart) is.apart is.told.2
   order_promise (scene_order.TooMany members) is = tt
 
   pub promise : (m : MergeOrder) → IsMergeOrder o s m → Promises o s m

@@ -34,8 +34,8 @@ final_text tables members root need blockers =
 abbrev pub scene_order_text : List TableDef → List Name → Name → SceneOrder → List ℕ
 scene_order_text tables members root (scene_order.Order order pairs) = order_text members order.items pairs.items
 scene_order_text tables members root (scene_order.Final need blockers) = final_text tables members root need blockers.items
-scene_order_text tables members root (scene_order.Stuck concerned) = names_text (codes "stuck ") members concerned.items
-scene_order_text tables members root (scene_order.TooMany concerned) = names_text (codes "toomany ") members concerned.items
+scene_order_text tables members root (scene_order.Stuck stuck) = names_text (codes "stuck ") members stuck.items
+scene_order_text tables members root (scene_order.TooMany knot) = names_text (codes "toomany ") members knot.items
 
 -- the lines of what is said of the orders of members of a root
 abbrev pub merge_order_text : List TableDef → List Name → Name → MergeOrder → List ℕ

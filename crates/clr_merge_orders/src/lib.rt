@@ -4,7 +4,7 @@
 //! - `merge_order` [`IsMergeOrder`] says what `plan` does where a test of names fails, a member is in
 //!   conflict, two members change one cell, or memory is wanting. Else it says of the members, as
 //!   `order_scene` does of a scene, an order with its pairs, a need that no member helps, or that
-//!   there is no order, or that open needs concern too many members.
+//!   there is no order, with members that show it, or a knot of too many members.
 //! - `merge_order` [`promises`]: where it gives an order, some entries cover the members under the
 //!   pairs; so the headline holds for every list of quiet commands in which the merges come in turn.
 //!   Where it names a need that no member helps, or says that there is no order, in each order of all

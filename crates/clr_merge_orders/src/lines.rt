@@ -103,10 +103,8 @@ fn scene_order_lines(
             need,
             members: blockers,
         } => final_lines(alloc, schema, members, root, *need, blockers.as_slice()),
-        SceneOrder::Stuck(concerned) => names_line(alloc, "stuck ", members, concerned.as_slice()),
-        SceneOrder::TooMany(concerned) => {
-            names_line(alloc, "toomany ", members, concerned.as_slice())
-        }
+        SceneOrder::Stuck(stuck) => names_line(alloc, "stuck ", members, stuck.as_slice()),
+        SceneOrder::TooMany(knot) => names_line(alloc, "toomany ", members, knot.as_slice()),
     }
 }
 
@@ -114,8 +112,8 @@ fn scene_order_lines(
 /// they are `order`, how many members there are and their names in this order, and behind it for each
 /// pair `before` and the names of the two. Of a need that no member helps they are `final`, how many
 /// members block it and their names, and in a second line `cause` and the verdict. Where there is no
-/// order, the line is `stuck`, how many members open needs concern and their names; and where these
-/// are too many, `toomany` with the same. A plan has the lines that `plan_lines` gives it.
+/// order, the line is `stuck`, how many members show it and their names; and where a knot is too large,
+/// `toomany`, how many members it has and their names. A plan has the lines that `plan_lines` gives it.
 ///
 /// For example, the lines of an order are
 ///

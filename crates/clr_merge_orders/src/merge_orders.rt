@@ -64,8 +64,8 @@ pub fn order_of_changes(
 
 /// Returns in which order members of a root can be merged one after another, by position: an order of
 /// all with pairs of which the first goes before the second; or a need that is broken whenever all of
-/// the members are merged that block it; or that no order works; or that open needs concern too many
-/// members. Where a test of names fails, a member is in conflict or two change one cell, it returns
+/// the members are merged that block it; or that no order works, with members that show it; or a knot of
+/// too many members. Where a test of names fails, a member is in conflict or two change one cell, it returns
 /// what `plan` does; and `OutOfMemory` may come in place of anything but `Unfit`.
 ///
 /// For example, where no two mains may have one code, `W1` inserts main 30 with the code of main 1, and `W2` gives main 1

@@ -10,12 +10,13 @@ use Rattle.clr_order_search.specs.declared.open_needs.OpenNeed.{OpenNeed}
 use Rattle.clr_order_search.specs.OpenNeeds.{has}
 use Rattle.clr_order_search.specs.Laws.{IsHelpedInTime}
 use Rattle.clr_order_search.proofs.Helps.{helps}
+use Rattle.clr_order_knots.specs.OpenNeeds.{AreSidesApart}
 use Rattle.clr_order_answers.specs.declared.pairs.Pair.{Pair}
 use Rattle.clr_order_answers.specs.Choosing.{AddsPair, AreKeptOf, AreServingPairs, KeepsNeeded}
 use Rattle.clr_order_answers.specs.Laws.{KeptPairsLaw}
-use Rattle.clr_order_answers.specs.Pairs.{AreSidesApart, IsPairFor, StandsInOrder, are_served, is_served, serves}
+use Rattle.clr_order_answers.specs.Pairs.{IsPairFor, StandsInOrder, are_served, is_served, serves}
 use Rattle.clr_order_answers.specs.Places.{IsFirstAmong, IsLastAmong, IsNoneAmong}
-use Rattle.clr_order_answers.proofs.Lists.{Among, all_at, all_more, among, among_either, among_left, among_right, any_by, any_more, contained, some_of, split_last}
+use Rattle.clr_order_knots.proofs.Lists.{Among, all_at, all_more, among, among_either, among_left, among_right, any_by, any_more, contained, some_of, split_last}
 
 -- a pair for one need --------------------------------------------------------------------------------------------
 

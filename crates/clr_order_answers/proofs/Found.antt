@@ -1,48 +1,44 @@
--- What is found among the members whom needs concern is found among all.
-use Rattle.std.proofs.Common.{◌≡◌, ◌∙◌, ◌<◌, ℕ, Bool, true, false, not, List, Some, inl, inr}
-use Rattle.std.proofs.Common.{get_or, length, map, slice_get, take, refl, sym, ap, subst, arith}
-use Rattle.std.proofs.lemmas.Bool.{cases_Bool, false≢true, true≢false, or_left, or_right}
+-- What is found among the members of a knot is found among all.
+use Rattle.std.proofs.Common.{◌≡◌, ◌∙◌, ◌<◌, ℕ, true, List, Some}
+use Rattle.std.proofs.Common.{get_or, length, slice_get, take, sym, ap, subst, arith}
+use Rattle.std.proofs.lemmas.Bool.{false≢true, true≢false, or_left, or_right}
 use Rattle.std.proofs.lemmas.List.{take_all}
-use Rattle.std.proofs.lemmas.Map.Keys.{any_passes_from_place}
 use Rattle.std.proofs.lemmas.Option.{get_or_from_slice_get, slice_get-get_or, slice_get_within}
 use Rattle.clr_order_search.specs.declared.open_needs.OpenNeed.{OpenNeed}
-use Rattle.clr_order_search.specs.OpenNeeds.{has}
+use Rattle.clr_order_search.specs.OpenNeeds.{has, is_broken}
 use Rattle.clr_order_search.specs.Laws.{IsHelpedInTime}
 use Rattle.clr_order_search.specs.Orders.{IsOrder, IsWorkingOrder, NoneWorks, Works}
 use Rattle.clr_order_search.proofs.Circles.{broken_by, none_works}
 use Rattle.clr_order_search.proofs.Helps.{helps}
 use Rattle.clr_order_search.proofs.Rests.{at_of, has_at, order_of}
-use Rattle.clr_order_answers.specs.Answers.{AreWithin}
+use Rattle.clr_order_knots.specs.Members.{AreOnce, is_concerned}
+use Rattle.clr_order_knots.specs.OpenNeeds.{AreWithin}
+use Rattle.clr_order_knots.specs.Peeling.{AreHelpedInTime}
+use Rattle.clr_order_knots.proofs.Lists.{Among, among_at, any_more, at_mapped, mapped_at, same_bool}
+use Rattle.clr_order_knots.proofs.Places.{concerned_by}
 use Rattle.clr_order_answers.specs.Laws.{UnhelpedLaw}
-use Rattle.clr_order_answers.specs.Members.{AreMembersWhere, concerns, is_concerned}
-use Rattle.clr_order_answers.specs.Pairs.{AreAllApart, AreHelpedInTime}
+use Rattle.clr_order_answers.specs.Pairs.{AreAllApart}
 use Rattle.clr_order_answers.specs.Renumbering.{AreNumberedBy, AreRenumbered, IsRenumbered, members_at}
-use Rattle.clr_order_answers.proofs.Lists.{AreOnce, at_mapped, has_either, has_right, mapped_at, once_joined, place_left}
 use Rattle.clr_order_answers.proofs.Numbering.{renumbered_from, renumbered_to}
 use Rattle.clr_order_answers.proofs.Restricted.{before_restricted, of_restricted, once_restricted, place_is, place_there, restricted, to_restricted}
 
--- whoever blocks or helps a need is concerned
-concerned_at : (needs : List OpenNeed) (need : OpenNeed) (at m : ℕ) → slice_get needs at ≡ Some need → concerns m need ≡ true → is_concerned needs m ≡ true
-concerned_at needs need at m e is = any_passes_from_place (concerns m) needs at need e is
-
-module _ (needs : List OpenNeed) (count : ℕ) (within : AreWithin needs count) (list : List ℕ) (are : AreMembersWhere needs true count list) where
+module _ (needs : List OpenNeed) (count : ℕ) (within : AreWithin needs count) (list : List ℕ) (those : (m : ℕ) → has list m ≡ is_concerned needs m)
+    (below : (m : ℕ) → has list m ≡ true → m < count) (once : AreOnce list) where
   pub are_numbered : AreNumberedBy list needs
   are_numbered need at e = record {
-    blockers = λ m h. are.every m ((within need at e).blockers m h)
-        (concerned_at needs need at m e (or_left (has need.blockers.items m) (has need.helpers.items m) h));
-    helpers = λ m h. are.every m ((within need at e).helpers m h)
-        (concerned_at needs need at m e (or_right (has need.blockers.items m) (has need.helpers.items m) h));
+    blockers = λ m h. those m ∙ concerned_by needs m need (among_at needs at need e) (or_left (has need.blockers.items m) (has need.helpers.items m) h);
+    helpers = λ m h. those m ∙ concerned_by needs m need (among_at needs at need e) (or_right (has need.blockers.items m) (has need.helpers.items m) h);
   }
 
   module _ (news : List OpenNeed) (renumbered : AreRenumbered list needs news) where
-    -- ---- an order that works, of those whom needs concern, and of all
+    -- ---- an order of places that works, and of the members that stand there
 
-    module _ (places others : List ℕ) (working : IsWorkingOrder news (length list) places) (rest : AreMembersWhere needs false count others) where
+    module _ (places : List ℕ) (working : IsWorkingOrder news (length list) places) where
       abbrev read : ℕ → ℕ
       read p = get_or list p 0
 
       abbrev order : List ℕ
-      order = members_at list places others
+      order = members_at list places
 
       -- a place, and who stands there
       read_at : (p m : ℕ) → slice_get list p ≡ Some m → read p ≡ m
@@ -52,47 +48,29 @@ module _ (needs : List OpenNeed) (count : ℕ) (within : AreWithin needs count) 
       there k p e = slice_get-get_or list p 0 (working.is_order.below p (has_at places k p e))
 
       in_order : (k p m : ℕ) → slice_get places k ≡ Some p → slice_get list p ≡ Some m → slice_get order k ≡ Some m
-      in_order k p m e is = place_left (map read places) others k m (at_mapped read places k p e ∙ ap Some (read_at p m is))
+      in_order k p m e is = at_mapped read places k p e ∙ ap Some (read_at p m is)
 
-      first_is : (m : ℕ) → has (map read places) m ≡ true → has list m ≡ true
-      first_is m h =
-          let (k, e) = at_of (map read places) m h in
+      comes : (m : ℕ) → has list m ≡ true → has order m ≡ true
+      comes m h =
+          let (p, e) = at_of list m h in
+          let (k, f) = at_of places p (working.is_order.every p (slice_get_within list p m e)) in
+          has_at order k m (in_order k p m f e)
+
+      listed : (m : ℕ) → has order m ≡ true → has list m ≡ true
+      listed m h =
+          let (k, e) = at_of order m h in
           let (p, f, is) = mapped_at read places k m e in
           has_at list p m (there k p f ∙ ap Some is)
 
-      once_first : AreOnce (map read places)
-      once_first j k m e f =
+      pub found_those : (m : ℕ) → has order m ≡ has list m
+      found_those m = same_bool (has order m) (has list m) (listed m) (comes m)
+
+      pub found_once : AreOnce order
+      found_once j k m e f =
           let (p, at, is) = mapped_at read places j m e in
           let (q, to, too) = mapped_at read places k m f in
-          let same : p ≡ q = are.once p q m (there j p at ∙ ap Some is) (there k q to ∙ ap Some too) in
+          let same : p ≡ q = once p q m (there j p at ∙ ap Some is) (there k q to ∙ ap Some too) in
           working.is_order.once j k p at (to ∙ ap Some (sym same))
-
-      apart : (m : ℕ) → has (map read places) m ≡ true → has others m ≡ true → ⊥
-      apart m h k = true≢false (sym (are.such m (first_is m h)) ∙ unset (is_concerned needs m) (rest.such m k))
-        where
-          unset : (b : Bool) → not b ≡ true → b ≡ false
-          unset true h = absurd (false≢true h)
-          unset false h = refl
-
-      comes : (m : ℕ) → m < count → has order m ≡ true
-      comes m less = elim (cases_Bool (is_concerned needs m)) [
-        | inl is ↦ (
-            let (p, e) = at_of list m (are.every m less is) in
-            let (k, f) = at_of places p (working.is_order.every p (slice_get_within list p m e)) in
-            has_at order k m (in_order k p m f e)
-            )
-        | inr isnt ↦ has_right (map read places) others m (rest.every m less (ap not isnt))
-      ]
-
-      is_order : IsOrder count order
-      is_order = record {
-        below = λ m h. elim (has_either (map read places) others m h) [
-          | inl first ↦ are.below m (first_is m first)
-          | inr other ↦ rest.below m other
-        ];
-        every = comes;
-        once = once_joined (map read places) others once_first rest.once apart;
-      }
 
       helped_up : (need new : OpenNeed) → IsRenumbered list need new → IsHelpedInTime places new → IsHelpedInTime order need
       helped_up need new is help =
@@ -110,15 +88,13 @@ module _ (needs : List OpenNeed) (count : ℕ) (within : AreWithin needs count) 
             in_time = help.in_time;
           }
 
-      pub found_order : IsWorkingOrder needs count order
-      found_order = record {
-        is_order = is_order;
-        works = (helps needs count order is_order).1 (λ need at e only. (let (new, f, is) = renumbered_to list needs news renumbered at need e in
-            helped_up need new is ((helps news (length list) places working.is_order).0 working.works new at f (λ x h. (let (m, e, b) = is.blockers.only x h in
-            slice_get_within list x m e)))));
-      }
+      pub found_helps : AreHelpedInTime order needs
+      found_helps need at e =
+          let (new, f, is) = renumbered_to list needs news renumbered at need e in
+          helped_up need new is ((helps news (length list) places working.is_order).0 working.works new at f
+          (λ x h. (let (m, g, b) = is.blockers.only x h in slice_get_within list x m g)))
 
-    -- ---- where none of those whom needs concern works, none of all does
+    -- ---- where no order of places works, none of all members does
 
     module _ (order : List ℕ) (working : IsWorkingOrder needs count order) where
       abbrev some : List ℕ
@@ -134,8 +110,8 @@ module _ (needs : List OpenNeed) (count : ℕ) (within : AreWithin needs count) 
         every = λ i less. (
             let x = get_or list i 0 in
             let is = slice_get-get_or list i 0 less in
-            let (j, e) = at_of order x (working.is_order.every x (are.below x (has_at list i x is))) in
-            let (k, f) = to_restricted list order j x i e (place_there list are.once x i is) in
+            let (j, e) = at_of order x (working.is_order.every x (below x (has_at list i x is))) in
+            let (k, f) = to_restricted list order j x i e (place_there list once x i is) in
             has_at some k i f
             );
         once = once_restricted list order working.is_order.once;
@@ -146,7 +122,7 @@ module _ (needs : List OpenNeed) (count : ℕ) (within : AreWithin needs count) 
           let (h, at_h, helps_it) = is.helpers.every help.helper help.helps in
           let (b, at_b, blocks_it) = is.blockers.every help.blocker help.blocks in
           let come = before_restricted list order help.early help.late help.helper help.blocker h b help.helper_at help.blocker_at help.in_time
-          (place_there list are.once help.helper h at_h) (place_there list are.once help.blocker b at_b) in
+          (place_there list once help.helper h at_h) (place_there list once help.blocker b at_b) in
           record {
             helper = h;
             blocker = b;
@@ -168,6 +144,12 @@ module _ (needs : List OpenNeed) (count : ℕ) (within : AreWithin needs count) 
 
     pub none_found : NoneWorks news (length list) → NoneWorks needs count
     none_found none = none_works needs count (λ follow. none_here follow.0 (order_of needs count follow.0 follow.1) none)
+
+-- where no order works for some of the needs, none works for all
+pub none_of_more : (some needs : List OpenNeed) (count : ℕ) → ((n : OpenNeed) → Among n some → Among n needs) → NoneWorks some count → NoneWorks needs count
+none_of_more some needs count more none order is =
+    let (k, broken) = none order is in
+    (k, any_more (is_broken (has (take k order))) some needs more broken)
 
 -- a need that none helps is broken once all are merged
 pub unhelped : UnhelpedLaw

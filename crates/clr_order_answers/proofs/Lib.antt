@@ -1,7 +1,7 @@
 pub mod Choices
 pub mod Ends
 pub mod Found
-pub mod Lists
+pub mod KnotOrders
 pub mod Numbering
 pub mod Restricted
 pub mod Unhelped

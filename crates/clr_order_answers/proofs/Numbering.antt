@@ -1,68 +1,19 @@
 -- Members that are listed one after another, and their places in a list.
-use Rattle.std.proofs.Common.{◌≡◌, ◌∙◌, ◌<◌, ◌+◌, ◌==◌, ℕ, zero, suc, Bool, true, false, List, [], ◌∷◌, ◌++◌, Some, inl, inr}
-use Rattle.std.proofs.Common.{get_or, length, length-append, slice_get, take, refl, sym, ap, subst, arith}
-use Rattle.std.proofs.lemmas.Bool.{cases_lt, false≢true, true≢false, or_cases, or_left}
-use Rattle.std.proofs.lemmas.Bool.Decides.{Decides-eqb}
+use Rattle.std.proofs.Common.{◌≡◌, ◌∙◌, ◌<◌, ◌+◌, ◌==◌, ℕ, zero, suc, true, false, List, [], ◌∷◌, ◌++◌, Option, None, Some, inl, inr}
+use Rattle.std.proofs.Common.{get_or, length, slice_get, take, refl, sym, ap, subst}
+use Rattle.std.proofs.lemmas.Bool.{false≢true, or_left}
+use Rattle.std.specs.List.{cons_option}
 use Rattle.std.proofs.lemmas.List.{take_more}
+use Rattle.std.proofs.lemmas.List.Elements.{filter_map-append}
+use Rattle.std.proofs.lemmas.Option.{slice_get-get_or}
 use Rattle.clr_order_search.specs.declared.open_needs.OpenNeed.{OpenNeed}
 use Rattle.clr_order_search.specs.OpenNeeds.{has}
-use Rattle.clr_order_search.proofs.Rests.{itself, same_of}
-use Rattle.clr_order_answers.specs.Members.{AreMembersWhere, is_wanted}
-use Rattle.clr_order_answers.specs.Renumbering.{AreRenumbered, IsRenumbered, StandFor}
-use Rattle.clr_order_answers.proofs.Lists.{has_either, has_left, has_right, once_joined}
-
--- a list of one member
-pub alone : (y x : ℕ) → has (y ∷ []) x ≡ true → y ≡ x
-alone y x h = elim (or_cases (y == x) false h) [ inl same ↦ same_of y x same | inr none ↦ absurd (false≢true none) ]
-
-pub once_alone : (y : ℕ) (j k m : ℕ) → slice_get (y ∷ []) j ≡ Some m → slice_get (y ∷ []) k ≡ Some m → j ≡ k
-once_alone y zero zero m e f = refl
-once_alone y zero (suc k) m e f = absurd (cc)
-once_alone y (suc j) k m e f = absurd (cc)
-
--- the members that are wanted, one number after another ---------------------------------------------------------
-
-module _ (needs : List OpenNeed) (wanted : Bool) where
-  pub no_members_yet : (list : List ℕ) → list ≡ [] → AreMembersWhere needs wanted 0 list
-  no_members_yet list none = subst (AreMembersWhere needs wanted 0) (sym none) (record {
-    below = λ m h. absurd (false≢true h);
-    such = λ m h. absurd (false≢true h);
-    every = λ m less is. absurd (omega (arith, less));
-    once = λ j k m e f. absurd (cc);
-    short = omega arith;
-  })
-
-  pub one_wanted : (k : ℕ) (old new : List ℕ) → new ≡ old ++ k ∷ [] → is_wanted needs wanted k ≡ true → AreMembersWhere needs wanted k old
-      → AreMembersWhere needs wanted (k + 1) new
-  one_wanted k old new put is are = subst (AreMembersWhere needs wanted (k + 1)) (sym put) (record {
-    below = λ m h. elim (has_either old (k ∷ []) m h) [
-      | inl before ↦ (let less = are.below m before in omega (arith, less))
-      | inr last ↦ (let same = alone k m last in omega (arith, same))
-    ];
-    such = λ m h. elim (has_either old (k ∷ []) m h) [
-      | inl before ↦ are.such m before
-      | inr last ↦ subst (λ x. is_wanted needs wanted x ≡ true) (alone k m last) is
-    ];
-    every = λ m less such. elim (cases_lt m k) [
-      | inl before ↦ has_left old (k ∷ []) m (are.every m before such)
-      | inr most ↦ (let same : k ≡ m = omega (arith, less, most) in has_right old (k ∷ []) m (or_left (k == m) false ((Decides-eqb k m).1 same)))
-    ];
-    once = once_joined old (k ∷ []) are.once (once_alone k) (λ m h last. (let less = are.below m h in let same = alone k m last in absurd (omega (arith, less, same))));
-    short = (let short = are.short in let long = length-append old (k ∷ []) in omega (arith, short, long));
-  })
-
-  pub one_unwanted : (k : ℕ) (old : List ℕ) → is_wanted needs wanted k ≡ false → AreMembersWhere needs wanted k old
-      → AreMembersWhere needs wanted (k + 1) old
-  one_unwanted k old isnt are = record {
-    below = λ m h. (let less = are.below m h in omega (arith, less));
-    such = are.such;
-    every = λ m less such. elim (cases_lt m k) [
-      | inl before ↦ are.every m before such
-      | inr most ↦ (let same : k ≡ m = omega (arith, less, most) in absurd (true≢false (sym such ∙ ap (is_wanted needs wanted) (sym same) ∙ isnt)))
-    ];
-    once = are.once;
-    short = (let short = are.short in omega (arith, short));
-  }
+use Rattle.clr_order_search.proofs.Rests.{has_at, itself}
+use Rattle.clr_order_knots.specs.Members.{needs_at}
+use Rattle.clr_order_answers.specs.Renumbering.{AddsRenumbered, AreNumberedBy, AreRenumbered, IsAmong, IsRenumbered, StandFor}
+use Rattle.clr_order_knots.proofs.Lists.{contained, contained_at, has_either, has_left, has_right}
+use Rattle.clr_order_knots.proofs.Places.{at_place}
+use Rattle.clr_order_knots.proofs.Those.{alone}
 
 -- places of members, one after another --------------------------------------------------------------------------
 
@@ -113,13 +64,6 @@ module _ (list : List ℕ) where
   needs_joined (a ∷ xs) [] x y are is = absurd are
   needs_joined (a ∷ xs) (b ∷ ys) x y are is = (are.0, needs_joined xs ys x y are.1 is)
 
-  pub one_renumbered : (needs old new : List OpenNeed) (k : ℕ) (need other : OpenNeed) → k < length needs → need ≡ get_or needs k need → new ≡ old ++ other ∷ []
-      → AreRenumbered list (take k needs) old → IsRenumbered list need other → AreRenumbered list (take (k + 1) needs) new
-  one_renumbered needs old new k need other less read put are is =
-      subst (AreRenumbered list (take (k + 1) needs)) (sym put) (subst (λ ns. AreRenumbered list ns (old ++ other ∷ []))
-      (sym (take_more needs k need less)) (subst (λ n. AreRenumbered list (take k needs ++ n ∷ []) (old ++ other ∷ [])) read
-      (needs_joined (take k needs) old need other are is)))
-
   pub renumbered_from : (needs news : List OpenNeed) → AreRenumbered list needs news → (at : ℕ) (new : OpenNeed) → slice_get news at ≡ Some new
       → (need : OpenNeed) × (slice_get needs at ≡ Some need) × IsRenumbered list need new
   renumbered_from [] [] are at new e = absurd (cc)
@@ -134,3 +78,33 @@ module _ (list : List ℕ) where
   renumbered_to (a ∷ xs) [] are at need e = absurd are
   renumbered_to (a ∷ xs) (b ∷ ys) are zero need e = let one : a ≡ need = cc in (b, refl, subst (λ n. IsRenumbered list n b) one are.0)
   renumbered_to (a ∷ xs) (b ∷ ys) are (suc at) need e = renumbered_to xs ys are.1 at need e
+
+-- one more place, with the need that stands there, if any
+module _ (list : List ℕ) (needs : List OpenNeed) (places : List ℕ) (k : ℕ) (less : k < length places) where
+  abbrev at : ℕ
+  at = get_or places k 0
+
+  abbrev seen : List OpenNeed
+  seen = needs_at needs (take k places)
+
+  pub next_needs : needs_at needs (take (k + 1) places) ≡ seen ++ cons_option (slice_get needs at) []
+  next_needs = ap (needs_at needs) (take_more places k 0 less) ∙ filter_map-append (slice_get needs) (take k places) (at ∷ [])
+
+  append_none : (xs : List OpenNeed) → xs ++ [] ≡ xs
+  append_none [] = refl
+  append_none (x ∷ xs) = ap (λ ys. x ∷ ys) (append_none xs)
+
+  one_option : (o : Option OpenNeed) (old new : List OpenNeed) → AreRenumbered list seen old → AddsRenumbered list o old new
+      → AreRenumbered list (seen ++ cons_option o []) new
+  one_option None old new are same = subst (AreRenumbered list (seen ++ [])) (sym same) (subst (λ xs. AreRenumbered list xs old) (sym (append_none seen)) are)
+  one_option (Some need) old new are (other, is, put) = subst (AreRenumbered list (seen ++ need ∷ [])) (sym put) (needs_joined list seen old need other are is)
+
+  pub one_place_renumbered : (old new : List OpenNeed) → AreRenumbered list seen old → AddsRenumbered list (slice_get needs at) old new
+      → AreRenumbered list (needs_at needs (take (k + 1) places)) new
+  one_place_renumbered old new are adds = subst (λ xs. AreRenumbered list xs new) (sym next_needs) (one_option (slice_get needs at) old new are adds)
+
+  pub numbered_there : AreNumberedBy list (needs_at needs places) → (need : OpenNeed) → slice_get needs at ≡ Some need → IsAmong list need
+  numbered_there numbered need e =
+      let there = at_place needs places at need (has_at places k at (slice_get-get_or places k 0 less)) e in
+      let (j, f) = contained_at (needs_at needs places) need (contained need (needs_at needs places) there) in
+      numbered need j f

@@ -2,7 +2,8 @@
 use Rattle.std.proofs.Common.{◌≡◌, ◌∙◌, ◌≤◌, ◌==◌, ℕ, zero, suc, Bool, true, false, cond, List, [], ◌∷◌, Option, Some, None}
 use Rattle.std.proofs.Common.{option_map, slice_get, refl, sym, ap, subst, arith}
 use Rattle.clr_order_search.proofs.Rests.{itself, same_of}
-use Rattle.clr_order_answers.proofs.Lists.{AreOnce, not_behind, once_behind, once_in_front}
+use Rattle.clr_order_knots.specs.Members.{AreOnce}
+use Rattle.clr_order_knots.proofs.Lists.{not_behind, once_behind, once_in_front}
 
 -- the place of a member in a list, if it is there
 pub place : List ℕ → ℕ → Option ℕ

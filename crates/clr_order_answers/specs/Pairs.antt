@@ -2,8 +2,8 @@
 use Rattle.std.specs.Prelude.{◌≡◌, ℕ, ◌<◌, Bool, true, false, ◌&&◌, List, ◌∷◌, ◌++◌, Some, Contains, slice_get}
 use Rattle.std.specs.List.{list_all, list_any}
 use Rattle.clr_order_search.specs.declared.open_needs.OpenNeed.{OpenNeed}
-use Rattle.clr_order_search.specs.Laws.{IsHelpedInTime}
 use Rattle.clr_order_search.specs.OpenNeeds.{has}
+use Rattle.clr_order_knots.specs.OpenNeeds.{AreSidesApart}
 use Rattle.clr_order_answers.specs.declared.pairs.Pair.{Pair}
 
 -- the first of the pair helps the need, and the second blocks it
@@ -39,16 +39,8 @@ abbrev pub NoneIsLeftOver : List OpenNeed → List Pair → Type 0
 NoneIsLeftOver needs pairs = (firsts : List Pair) (pair : Pair) (others : List Pair) → pairs ≡ firsts ++ pair ∷ others
     → are_served (firsts ++ others) needs ≡ false
 
--- no helper of the need is a blocker
-abbrev pub AreSidesApart : OpenNeed → Type 0
-AreSidesApart need = (m : ℕ) → has need.helpers.items m ≡ true → has need.blockers.items m ≡ true → ⊥
-
 abbrev pub AreAllApart : List OpenNeed → Type 0
 AreAllApart needs = (need : OpenNeed) (at : ℕ) → slice_get needs at ≡ Some need → AreSidesApart need
-
--- each need is helped in time
-abbrev pub AreHelpedInTime : List ℕ → List OpenNeed → Type 0
-AreHelpedInTime order needs = (need : OpenNeed) (at : ℕ) → slice_get needs at ≡ Some need → IsHelpedInTime order need
 
 -- pairs that stand so in the order and serve each need, of which none can be left out
 pub record ArePairsFor (needs : List OpenNeed) (order : List ℕ) (pairs : List Pair) : Type 0 where

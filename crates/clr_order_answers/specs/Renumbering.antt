@@ -1,5 +1,5 @@
 -- Needs of members that are numbered by their places in a list.
-use Rattle.std.specs.Prelude.{◌≡◌, ℕ, true, List, [], ◌∷◌, ◌++◌, Some, ⊤, get_or, map, slice_get}
+use Rattle.std.specs.Prelude.{◌≡◌, ℕ, true, List, [], ◌∷◌, ◌++◌, Option, None, Some, ⊤, get_or, map, slice_get}
 use Rattle.clr_order_search.specs.declared.open_needs.OpenNeed.{OpenNeed}
 use Rattle.clr_order_search.specs.OpenNeeds.{has}
 
@@ -27,6 +27,11 @@ AreRenumbered list [] [] = ⊤
 AreRenumbered list (need ∷ needs) (new ∷ news) = IsRenumbered list need new × AreRenumbered list needs news
 AreRenumbered list _ _ = ⊥
 
--- the members at some places of a list, and behind them others
-abbrev pub members_at : List ℕ → List ℕ → List ℕ → List ℕ
-members_at list places others = map (λ place. get_or list place 0) places ++ others
+-- the need, if there is one, is put behind others with its members numbered
+abbrev pub AddsRenumbered : List ℕ → Option OpenNeed → List OpenNeed → List OpenNeed → Type 0
+AddsRenumbered list None old new = new ≡ old
+AddsRenumbered list (Some need) old new = (other : OpenNeed) × IsRenumbered list need other × (new ≡ old ++ other ∷ [])
+
+-- the members at some places of a list
+abbrev pub members_at : List ℕ → List ℕ → List ℕ
+members_at list places = map (λ place. get_or list place 0) places

@@ -2,9 +2,11 @@
 
 ghost use Rattle.std.specs.Prelude.{◌≡◌, ◌||◌, ◌<◌, ◌+◌, true, drop, length, IfOk, MatchOption, OnOk};
 ghost use Rattle.std.specs.List.{list_all};
-ghost use Rattle.clr_order_answers.specs.Pairs.{AreAllApart, AreHelpedInTime, ArePairsFor, AreSidesApart, IsPairFor, are_served, is_served, serves};
+ghost use Rattle.clr_order_answers.specs.Pairs.{AreAllApart, ArePairsFor, IsPairFor, are_served, is_served, serves};
 ghost use Rattle.clr_order_answers.specs.Choosing.{AddsPair, AreKeptOf, AreServingPairs, KeepsNeeded};
 ghost use Rattle.clr_order_answers.specs.Places.{IsFirstAmong, IsLastAmong, IsNoneAmong};
+ghost use Rattle.clr_order_knots.specs.OpenNeeds.{AreSidesApart};
+ghost use Rattle.clr_order_knots.specs.Peeling.{AreHelpedInTime};
 ghost use Rattle.clr_order_search.specs.Laws.{IsHelpedInTime};
 ghost use Rattle.clr_order_search.specs.OpenNeeds.{has};
 

@@ -10,7 +10,11 @@ pub(crate) type Blocked = (&'static [u16], &'static [u16]);
 /// How many members there are, their needs, and the order that is wanted, if one works.
 pub(crate) type Case = (u16, &'static [Blocked], Option<&'static [u16]>);
 
-fn open_need(alloc: Global, blockers: &[u16], helpers: &[u16]) -> Result<OpenNeed, AllocError> {
+pub(crate) fn open_need(
+    alloc: Global,
+    blockers: &[u16],
+    helpers: &[u16],
+) -> Result<OpenNeed, AllocError> {
     Ok(OpenNeed {
         blockers: Vec::from_slice(alloc, blockers)?,
         helpers: Vec::from_slice(alloc, helpers)?,
@@ -131,15 +135,15 @@ fn members_stand_between_others(rt: HostRuntime) -> Result<(), Fail> {
 }
 
 /// Sixteen in a row, each between those beside it.
-const ROW: [u16; 16] = [9, 3, 12, 0, 7, 14, 5, 1, 10, 15, 2, 8, 6, 13, 4, 11];
+pub(crate) const ROW: [u16; 16] = [9, 3, 12, 0, 7, 14, 5, 1, 10, 15, 2, 8, 6, 13, 4, 11];
 
-/// Returns the needs by which each in the row but the ends stands between those beside it.
-fn row_needs(alloc: Global) -> Result<Vec<OpenNeed>, AllocError> {
+/// Returns the needs by which each in a row but the ends stands between those beside it.
+pub(crate) fn row_needs(alloc: Global, row: &[u16]) -> Result<Vec<OpenNeed>, AllocError> {
     let mut list = Vec::new(alloc);
-    for at in 1..15_usize {
-        let beside = [ROW[at - 1], ROW[at + 1]];
-        list.push(open_need(alloc, &[ROW[at]], &beside)?)?;
-        list.push(open_need(alloc, &beside, &[ROW[at]])?)?;
+    for at in 2..row.len() {
+        let beside = [row[at - 2], row[at]];
+        list.push(open_need(alloc, &[row[at - 1]], &beside)?)?;
+        list.push(open_need(alloc, &beside, &[row[at - 1]])?)?;
     }
     Ok(list)
 }
@@ -147,7 +151,7 @@ fn row_needs(alloc: Global) -> Result<Vec<OpenNeed>, AllocError> {
 #[test]
 fn a_knot_of_sixteen_is_searched(rt: HostRuntime) -> Result<(), Fail> {
     let alloc = rt.alloc();
-    let mut needs = row_needs(alloc)?;
+    let mut needs = row_needs(alloc, &ROW)?;
     let found = first_order(alloc, needs.as_slice(), MOST_SEARCHED)?;
     assert!(rt; is_found(&found, Some(&ROW)));
     needs.push(open_need(alloc, &[9], &[11])?)?;

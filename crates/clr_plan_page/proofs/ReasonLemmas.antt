@@ -14,6 +14,7 @@ use Rattle.clr_merge_clashes.specs.MergeClashes.{IsFaultOfNames}
 use Rattle.clr_merge_sets.specs.declared.plans.Plan.{Plan}
 use Rattle.clr_merge_sets.specs.declared.plans.Plan.TheVariants as plan
 use Rattle.clr_plan_answers.specs.Answers.{answer_text}
+use Rattle.clr_order_sentences.specs.OrderSentences.{AreOrderSentences}
 use Rattle.clr_plan_sentences.specs.Causes.{IsCause}
 use Rattle.clr_plan_sentences.specs.declared.told_rows.CauseWords.{CauseWords}
 use Rattle.clr_work_orders.specs.declared.trials.Trial.{Trial}
@@ -53,14 +54,18 @@ pub no_reasons : (o : Office) (s : MergeSet) (sets : List Changes) (p : Plan) (t
     → AreReasons o s sets p trials [] → Adds (AreReasons o s sets p trials) old old
 no_reasons o s sets p trials old none = ([], none, sym (append-nil old))
 
-pub why_whole : (o : Office) (s : MergeSet) (sets : List Changes) (p : Plan) (trials : List Trial) (words : List ℕ) (none one two all : List Shown)
-    → sets ≡ change_sets o s → words ≡ answer_text s p → none ≡ [] → one ≡ none ++ Heading (codes "Why") ∷ [] → two ≡ one ++ said words
-    → Adds (AreReasons o s sets p trials) two all → IsWhy o s p trials all
-why_whole o s sets p trials words none one two all are answer nothing e f (more, reasons, g) = (
+pub why_whole : (o : Office) (s : MergeSet) (sets : List Changes) (p : Plan) (trials : List Trial) (words orders : List ℕ)
+    (none one two three all : List Shown)
+    → sets ≡ change_sets o s → words ≡ answer_text s p → AreOrderSentences o s p orders → none ≡ [] → one ≡ none ++ Heading (codes "Why") ∷ []
+    → two ≡ one ++ said words → Adds (AreReasons o s sets p trials) two three → all ≡ three ++ said orders → IsWhy o s p trials all
+why_whole o s sets p trials words orders none one two three all are answer told nothing e f (more, reasons, g) h = (
   more,
   subst (λ (changes : List Changes). AreReasons o s changes p trials more) are reasons,
-  in_a_row none one two all (Heading (codes "Why")) (said words) more nothing e f g
-      ∙ ap (λ (text : List ℕ). Heading (codes "Why") ∷ (said text ++ more)) answer,
+  orders,
+  told,
+  in_a_row none one two all (Heading (codes "Why")) (said words) (more ++ said orders) nothing e f
+      (h ∙ ap (λ (blocks : List Shown). blocks ++ said orders) g ∙ append_assoc two more (said orders))
+      ∙ ap (λ (text : List ℕ). Heading (codes "Why") ∷ (said text ++ (more ++ said orders))) answer,
 )
 
 pub designs_whole : (o : Office) (s : MergeSet) (sets : List Changes) (none one two all : List Shown) → sets ≡ change_sets o s → none ≡ []

@@ -22,6 +22,7 @@ use clr_clearance::Verdict;
 use clr_engine::Office;
 use clr_html::{HtmlPage, Section, write_page};
 use clr_member_changes::MemberChanges;
+use clr_order_sentences::order_sentences;
 use clr_plan::Plan;
 use clr_plan_answers::answer_words;
 use clr_plan_map::{leaders_of, plan_map, plan_title};
@@ -67,7 +68,7 @@ fn add_reasons(
     }
 }
 
-/// Returns why a plan says what it says, and what would help.
+/// Returns why a plan says what it says, what would help, and in which order blocked members can be merged.
 fn why_of(setting: Setting<'_>, plan: &Plan, trials: &[Trial]) -> Result<Section, AllocError>
     requires { AreMembers setting.office.now (set_of setting.members.now) setting.members.now }
     ensures { IfOk result (λ section. IsWhy setting.entry.office.now (set_of setting.entry.members.now)
@@ -78,6 +79,8 @@ fn why_of(setting: Setting<'_>, plan: &Plan, trials: &[Trial]) -> Result<Section
     let answer = answer_words(setting.alloc, setting.members, plan)?;
     section.add_paragraph(answer.as_str())?;
     add_reasons(&mut section, setting, plan, trials)?;
+    let orders = order_sentences(setting.alloc, setting.office, setting.members, plan)?;
+    section.add_paragraph(orders.as_str())?;
     Ok(section.into_section())
 }
 
@@ -146,11 +149,11 @@ fn page_of(
 }
 
 /// Returns the report of a plan of members whose changes were read of this office, as the text of a page of hypertext in one file, which loads nothing. It
-/// begins with the word for what the plan says and with the map. Then it says why, with the rows of the cause and what was tried to help, or what serves
-/// each need; what each design changes; the smallest sets of designs that can't be merged together; and, if the root breaks needs already, how many of
-/// each rule. It ends with the command of `clr_office` that prints the lines of the plan, with DB for the office's file, and with these lines. Each text of
-/// the office is escaped. Lengths and places are in metres with three decimals. Of a design or a certificate the first 400 rows are shown. The office is
-/// left as it was, unless memory runs out.
+/// begins with the word for what the plan says and with the map. Then it says why, with the rows of the cause, what was tried to help and in which order
+/// the designs can be merged, or what serves each need; what each design changes; the smallest sets of designs that can't be merged together; and, if the
+/// root breaks needs already, how many of each rule. It ends with the command of `clr_office` that prints the lines of the plan, with DB for the office's
+/// file, and with these lines. Each text of the office is escaped. Lengths and places are in metres with three decimals. Of a design or a certificate the
+/// first 400 rows are shown. The office is left as it was, unless memory runs out.
 pub fn plan_report(
     alloc: Global,
     office: &mut Office,

@@ -4,6 +4,7 @@ use Rattle.std.proofs.Common.{Contains, if◌then◌else◌, length, slice_get, 
 use Rattle.std.specs.List.{list_any}
 use Rattle.std.proofs.lemmas.Bool.{cases_Bool, false≢true, true≢false, or_cases, or_left, or_right}
 use Rattle.std.proofs.lemmas.List.{take_all}
+use Rattle.std.proofs.lemmas.List.FromFn.{length-range_with_len}
 use Rattle.std.proofs.lemmas.Map.Keys.{any_passes_from_place}
 use Rattle.std.proofs.lemmas.Option.{slice_get_within}
 use Rattle.clr_rows.specs.Contents.{Changes, Content}
@@ -27,17 +28,18 @@ use Rattle.clr_ordered_needs.specs.Helpers.{IsHelper}
 use Rattle.clr_ordered_needs.specs.States.{IsBrokenWith, IsOpen}
 use Rattle.clr_ordered_needs.specs.Turns.{ListsAll, is_earlier}
 use Rattle.clr_order_answers.specs.declared.pairs.Pair.{Pair}
-use Rattle.clr_order_answers.specs.Answers.{AreAllHelped, AreWithin, IsUnhelpedAt}
-use Rattle.clr_order_answers.specs.Members.{AreMembersWhere, concerns, is_concerned}
+use Rattle.clr_order_answers.specs.Answers.{AreAllHelped, IsUnhelpedAt}
 use Rattle.clr_order_answers.specs.Pairs.{AreInOrder, ArePairsFor}
-use Rattle.clr_order_answers.proofs.Lists.{contained_at, once_behind}
+use Rattle.clr_order_knots.specs.OpenNeeds.{AreWithin}
+use Rattle.clr_order_knots.proofs.Lists.{contained_at, once_behind}
 use Rattle.clr_open_needs.specs.declared.listing.OpenNeeds.{OpenNeeds}
 use Rattle.clr_open_needs.specs.OpenNeeds.{AreOpenNeeds, AreTouchedListed, HasSides, IsHelperOf, IsOpenNeed}
 use Rattle.clr_open_needs.proofs.HelperLaws.{helper_below}
 use Rattle.clr_scene_orders.specs.declared.scene_orders.SceneOrder.{SceneOrder}
 use Rattle.clr_scene_orders.specs.declared.scene_orders.SceneOrder.TheVariants as scene_order
-use Rattle.clr_scene_orders.specs.SceneOrders.{AreConcerned, AreHelped, EachListBreaks, IsBrokenOnTheWay, IsConcerned, IsFinal, IsFinalAt, IsOrderBy, IsSceneOrder}
+use Rattle.clr_scene_orders.specs.SceneOrders.{AreHelped, EachListBreaks, IsBrokenOnTheWay, IsFinal, IsFinalAt, IsOrderBy, IsSceneOrder}
 use Rattle.clr_scene_orders.specs.SceneOrders.{order_by}
+use Rattle.clr_scene_orders.proofs.Blocked.{touched_is_blocked}
 use Rattle.clr_scene_orders.proofs.Covering.{contained_of, covering_entries, each_covered, none_covered, pair_by}
 use Rattle.clr_scene_orders.proofs.Sides.{blocks_of, has_same, helps_of, is_broken_with, is_open, need_at, of_blocks, of_helps, opens, sides_at, sides_differ}
 
@@ -75,6 +77,10 @@ module _ (rules : List Rule) (root : Content) (sets : List Changes) where
 
   abbrev count : ℕ
   count = length sets
+
+  -- there are as many members as change sets
+  pub members_counted : length c.members ≡ count
+  members_counted = length-range_with_len 0 count
 
   -- lists of all members -----------------------------------------------------------------------------------------
 
@@ -127,6 +133,7 @@ module _ (rules : List Rule) (root : Content) (sets : List Changes) where
           blockers = λ m h. blocker_below rules root sets w.need o.first o.second o.possible m (blocks_of c w.need o side w.has_sides m h);
           helpers = λ m h. helper_below rules root sets w.need o.first o.second o.possible m (helps_of c w.need o side w.has_sides m h);
           apart = λ m h k. sides_differ c w.need o m (helps_of c w.need o side w.has_sides m h) (blocks_of c w.need o side w.has_sides m k);
+          blocked = (let (m, is) = touched_is_blocked c w.need o.first o.second o.possible o.touched in (m, of_blocks c w.need o side w.has_sides m is));
         }
 
     -- members help each need ---------------------------------------------------------------------------------------
@@ -140,43 +147,6 @@ module _ (rules : List Rule) (root : Content) (sets : List Changes) where
         empty : (xs : List ℕ) → ((x : ℕ) → has xs x ≡ true → ⊥) → xs ≡ []
         empty [] none = refl
         empty (x ∷ xs) none = absurd (none x (or_left (x == x) (has xs x) (itself x)))
-
-    -- whom open needs concern ----------------------------------------------------------------------------------------
-
-    pub are_concerned : (members : List ℕ) → AreMembersWhere sides true count members → AreConcerned c members
-    are_concerned members those = record {
-      exactly = λ x. (λ h. concerned x (those.such x (sym (has_same members x) ∙ h)), λ is. has_same members x ∙ listed x is);
-      once = those.once;
-    }
-      where
-        concerned : (x : ℕ) → is_concerned sides x ≡ true → IsConcerned c x
-        concerned x h =
-            let (side, there, is) = some_of (concerns x) sides h in
-            let (at, e) = contained_at sides side (contained side sides there) in
-            let w = open_at at side e in
-            let o = opens c w.need w.is_open in (
-              w.need,
-              w.is_open,
-              elim (or_cases (has side.blockers.items x) (has side.helpers.items x) is) [
-                | inl blocks ↦ inl (o.first, o.second, o.possible, blocks_of c w.need o side w.has_sides x blocks)
-                | inr helps ↦ inr (o.first, o.second, o.possible, helps_of c w.need o side w.has_sides x helps)
-              ],
-            )
-
-        listed : (x : ℕ) → IsConcerned c x → has members x ≡ true
-        listed x (n, is, by) =
-            let (at, side, e, has_sides) = side_of n is in
-            let o = opens c n is in
-            elim by [
-              | inl (a, b, possible, blocks) ↦ (let once = subjects_once c n o.first a o.second b o.possible possible in
-                  let here = subst (λ l. IsBlocker c n l o.second x) once.0 (subst (λ m. IsBlocker c n a m x) once.1 blocks) in
-                  those.every x (blocker_below rules root sets n a b possible x blocks) (any_passes_from_place (concerns x) sides at side e
-                  (or_left (has side.blockers.items x) (has side.helpers.items x) (of_blocks c n o side has_sides x here))))
-              | inr (a, b, possible, helps) ↦ (let once = subjects_once c n o.first a o.second b o.possible possible in
-                  let here = subst (λ l. IsHelper c n l o.second x) once.0 (subst (λ m. IsHelper c n a m x) once.1 helps) in
-                  those.every x (helper_below rules root sets n a b possible x helps) (any_passes_from_place (concerns x) sides at side e
-                  (or_right (has side.blockers.items x) (has side.helpers.items x) (of_helps c n o side has_sides x here))))
-            ]
 
     -- no order works ---------------------------------------------------------------------------------------------------
 

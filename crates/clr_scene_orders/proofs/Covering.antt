@@ -21,7 +21,7 @@ use Rattle.clr_ordered_needs.specs.Turns.{Order}
 use Rattle.clr_ordered_needs.proofs.HelpLaws.{cover_is_help}
 use Rattle.clr_order_answers.specs.declared.pairs.Pair.{Pair}
 use Rattle.clr_order_answers.specs.Pairs.{are_served, is_served, serves}
-use Rattle.clr_order_answers.proofs.Lists.{all_at, contained_at}
+use Rattle.clr_order_knots.proofs.Lists.{all_at, contained_at}
 use Rattle.clr_open_needs.specs.declared.listing.OpenNeeds.{OpenNeeds}
 use Rattle.clr_open_needs.specs.OpenNeeds.{AreOpenNeeds, AreSidesOf, HasSides}
 use Rattle.clr_scene_orders.specs.SceneOrders.{order_by}

@@ -1,3 +1,4 @@
 pub mod Answers
+pub mod Blocked
 pub mod Covering
 pub mod Sides

@@ -1,21 +1,20 @@
 -- What is said of the orders of a setting's members, by position.
-use Rattle.std.specs.Prelude.{◌≡◌, ◌↔◌, ◌⊎◌, ℕ, ◌<◌, ◌≤◌, ◌==◌, ◌&&◌, Bool, true, List, ◌∷◌, ◌++◌, Option, Some, length, slice_get, take}
+use Rattle.std.specs.Prelude.{◌≡◌, ℕ, ◌==◌, ◌&&◌, Bool, true, List, ◌∷◌, ◌++◌, Option, Some, length, slice_get, take}
 use Rattle.std.specs.List.{list_any}
 use Rattle.clr_needs.specs.declared.needs.Need.{Need}
-use Rattle.clr_needs.specs.Blocking.{IsBlockerOf}
 use Rattle.clr_needs.specs.Covers.{Entry}
 use Rattle.clr_needs.specs.Needs.{IsPossible}
 use Rattle.clr_needs.specs.Picks.{Blocks}
-use Rattle.clr_needs.specs.Settings.{Setting, Lived, has}
-use Rattle.clr_order_search.specs.declared.limits.TheConstants.{MOST_SEARCHED}
+use Rattle.clr_needs.specs.Settings.{Setting, Lived}
 use Rattle.clr_order_search.specs.declared.open_needs.OpenNeed.{OpenNeed}
 use Rattle.clr_ordered_needs.specs.Covers.{AreCovered, EachHasCover}
 use Rattle.clr_ordered_needs.specs.Helpers.{IsHelper}
 use Rattle.clr_ordered_needs.specs.States.{IsBrokenWith, IsOpen}
 use Rattle.clr_ordered_needs.specs.Turns.{Order, ListsAll, is_earlier}
 use Rattle.clr_order_answers.specs.declared.pairs.Pair.{Pair}
+use Rattle.clr_order_answers.specs.Answers.{AreFewLeft, IsCause, IsLargeKnotLeft}
 use Rattle.clr_open_needs.specs.declared.listing.OpenNeeds.{OpenNeeds}
-use Rattle.clr_open_needs.specs.OpenNeeds.{IsHelperOf, IsOpenNeed}
+use Rattle.clr_open_needs.specs.OpenNeeds.{AreOpenNeeds, IsHelperOf, IsOpenNeed}
 use Rattle.clr_scene_orders.specs.declared.scene_orders.SceneOrder.{SceneOrder}
 use Rattle.clr_scene_orders.specs.declared.scene_orders.SceneOrder.TheVariants as scene_order
 
@@ -53,30 +52,29 @@ IsBrokenOnTheWay c order = (k : ℕ) × (n : Need) × (a : Lived ℕ) × (b : Op
 abbrev pub EachListBreaks : Setting ℕ → Type 0
 EachListBreaks c = (order : List ℕ) → ListsAll c order → IsBrokenOnTheWay c order
 
--- an open need concerns the member
-abbrev pub IsConcerned : Setting ℕ → ℕ → Type 0
-IsConcerned c x = (n : Need) × IsOpenNeed c n × (IsBlockerOf c n x ⊎ IsHelperOf c n x)
-
--- exactly the members whom open needs concern, each once
-pub record AreConcerned (c : Setting ℕ) (members : List ℕ) : Type 0 where
-  pub exactly : (x : ℕ) → (has c.same members x ≡ true) ↔ IsConcerned c x
-  pub once : (j k x : ℕ) → slice_get members j ≡ Some x → slice_get members k ≡ Some x → j ≡ k
-
 -- members help each open need
 abbrev pub AreHelped : Setting ℕ → Type 0
 AreHelped c = (n : Need) → IsOpenNeed c n → ¬ (IsUnhelped c n)
 
--- the open needs concern no more members than are searched
-abbrev pub AreFewConcerned : Setting ℕ → Type 0
-AreFewConcerned c = (members : List ℕ) × AreConcerned c members × (length members ≤ MOST_SEARCHED)
+-- what is left of the open needs, once members that block none went first and members that help none last, has no knot that is too large
+abbrev pub AreKnotsFew : Setting ℕ → Type 0
+AreKnotsFew c = (found : OpenNeeds) × AreOpenNeeds c found × (left : List OpenNeed) × AreFewLeft found.sides.items left
 
--- an open need that no member helps; or else an order with its pairs, or that there is none, where the open needs concern no more members than are searched;
--- or else that they concern more
+-- why no order works, by the open needs: members wait for one another; or none do, and a knot of what is left has no order
+abbrev pub AreStuck : Setting ℕ → List ℕ → Type 0
+AreStuck c members = (found : OpenNeeds) × AreOpenNeeds c found × IsCause found.sides.items (length c.members) members
+
+-- no members wait for one another, and these are a knot of what is left that has more members than are searched
+abbrev pub AreTooMany : Setting ℕ → List ℕ → Type 0
+AreTooMany c members = (found : OpenNeeds) × AreOpenNeeds c found × IsLargeKnotLeft found.sides.items (length c.members) members
+
+-- an open need that no member helps; or else an order with its pairs, where no knot is too large; or that there is none, and the members that show it; or a
+-- knot that is too large
 abbrev pub IsSceneOrder : Setting ℕ → SceneOrder → Type 0
-IsSceneOrder c (scene_order.Order order pairs) = AreHelped c × AreFewConcerned c × IsOrderBy c order.items pairs.items
+IsSceneOrder c (scene_order.Order order pairs) = AreHelped c × AreKnotsFew c × IsOrderBy c order.items pairs.items
 IsSceneOrder c (scene_order.Final need members) = IsFinal c need members.items
-IsSceneOrder c (scene_order.Stuck members) = AreHelped c × AreConcerned c members.items × (length members.items ≤ MOST_SEARCHED) × EachListBreaks c
-IsSceneOrder c (scene_order.TooMany members) = AreHelped c × AreConcerned c members.items × (MOST_SEARCHED < length members.items)
+IsSceneOrder c (scene_order.Stuck members) = AreHelped c × AreStuck c members.items × EachListBreaks c
+IsSceneOrder c (scene_order.TooMany members) = AreHelped c × AreTooMany c members.items
 
 -- the open need at a place, with the members that block it
 abbrev pub IsFinalAt : OpenNeeds → ℕ → SceneOrder → Type 0

@@ -3,8 +3,9 @@
 //! - `order_scene` [`IsSceneOrder`] names an open need that no member helps, with its blockers, if
 //!   there is one. Else it gives an order of all members with pairs of which the first goes before
 //!   the second: under these pairs every touched need is covered, and without any of them one isn't.
-//!   Or it says that each list of all members breaks an open need on the way; or that open needs
-//!   concern more members than `MOST_SEARCHED`, and just this. It fails only if memory runs out.
+//!   Or it says that each list of all members breaks an open need on the way, with members that show
+//!   it; or that a knot of more members than `MOST_SEARCHED` is left, and just this. It fails only if
+//!   memory runs out.
 //! - `final_needs_break`: each list of all members breaks a need that no member helps.
 #![tactic(auto)]
 

@@ -20,9 +20,11 @@ pub enum SceneOrder {
     Order { order: Vec<u16>, pairs: Vec<Pair> },
     /// A touched need that nothing covers and no member helps, and exactly the members that block it.
     Final { need: Need, members: Vec<u16> },
-    /// Each list of all members breaks an open need on the way. Open needs concern exactly these.
+    /// Each list of all members breaks an open need on the way. Either each of these members alone
+    /// blocks an open need that only others of them help, or open needs join these and leave them no
+    /// order.
     Stuck(Vec<u16>),
-    /// Open needs concern exactly these members, more than `MOST_SEARCHED`; nothing is said of orders.
+    /// Open needs join these members, more than `MOST_SEARCHED`; nothing is said of orders.
     TooMany(Vec<u16>),
 }
 
@@ -39,8 +41,9 @@ fn final_at(alloc: Global, found: &OpenNeeds, at: usize) -> Result<SceneOrder, A
 
 /// Returns what can be said of the orders in which the members of a scene can be merged one after
 /// another: `Final` wherever no member helps some open need, with the least such need. Else `Order`
-/// where an order works, and `Stuck` where none does; and `TooMany` exactly where open needs concern
-/// more members than `MOST_SEARCHED`.
+/// where an order works, and `Stuck` where none does; and `TooMany` exactly where no members wait for one
+/// another and a knot of more members than `MOST_SEARCHED` is left once members that block no open need
+/// went first and members that help none last.
 /// For example, where no two mains may have one code, member 0 inserts main 30 with the code of main 1, and member 1
 /// gives main 1 another code, the order is 1 and then 0, with this pair. Where two members exchange the codes of
 /// mains 1 and 2, they are `Stuck`. Where both insert a main with one code, they are `Final`.

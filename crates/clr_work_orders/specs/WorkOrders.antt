@@ -1,4 +1,4 @@
--- What a work order is: sentences, the trials that were made, and the lines of the plan.
+-- What a work order is: sentences, the trials that were made, what is said of orders, and the lines of the plan.
 use Rattle.std.specs.Prelude.{◌≡◌, ◌++◌, ◌==◌, ℕ, Bool, true, false, List, [], codes, length, if◌then◌else◌}
 use Rattle.std.specs.List.{flat_map}
 use Rattle.clr_steps.specs.Offices.{Office}
@@ -6,6 +6,7 @@ use Rattle.clr_steps.specs.Quiet.{MergeSet}
 use Rattle.clr_merge_sets.specs.declared.plans.Plan.{Plan}
 use Rattle.clr_merge_sets.specs.Plans.{is_cleared, is_out_of_memory}
 use Rattle.clr_plan.specs.PlanLines.{plan_text}
+use Rattle.clr_order_sentences.specs.OrderSentences.{AreOrderSentences}
 use Rattle.clr_plan_sentences.specs.Sentences.{IsSentences}
 use Rattle.clr_work_orders.specs.declared.trials.Trial.{Trial}
 use Rattle.clr_work_orders.specs.declared.work_orders.WorkOrder.{WorkOrder}
@@ -29,7 +30,11 @@ abbrev pub trials_text : List Trial → List ℕ
 trials_text trials =
     if length trials == 0 then [] else codes "\nTried, each by itself:\n" ++ flat_map (trial_text true) trials ++ flat_map (trial_text false) trials
 
--- the sentences of the plan, the trials of its remedies, and then the lines of the plan, whose answer is that of the work order
+-- sentences behind an empty line; no sentences are nothing
+abbrev pub set_apart : List ℕ → List ℕ
+set_apart sentences = if length sentences == 0 then [] else codes "\n" ++ sentences
+
+-- the sentences of the plan, the trials of its remedies, the sentences of orders, and then the lines of the plan, whose answer is that of the work order
 pub record IsWorkOrder (o : Office) (s : MergeSet) (order : WorkOrder) : Type 0 where
   pub plan : Plan
   pub planned : IsAnswered o s plan
@@ -37,6 +42,8 @@ pub record IsWorkOrder (o : Office) (s : MergeSet) (order : WorkOrder) : Type 0 
   pub told : IsSentences o s plan sentences
   pub trials : List Trial
   pub tried : AreTrialsOf o s plan trials
-  pub text : order.text.items ≡ sentences ++ trials_text trials ++ codes "\n" ++ plan_text o.schema s.members s.root plan
+  pub orders : List ℕ
+  pub ordered : AreOrderSentences o s plan orders
+  pub text : order.text.items ≡ sentences ++ trials_text trials ++ set_apart orders ++ codes "\n" ++ plan_text o.schema s.members s.root plan
   pub cleared : order.is_cleared ≡ is_cleared plan
   pub lost : order.is_lost ≡ is_out_of_memory plan

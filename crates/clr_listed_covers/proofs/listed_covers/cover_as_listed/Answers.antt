@@ -1,7 +1,7 @@
 use Rattle.std.proofs.Common.{length, subst, sym}
 use Rattle.std.specs.List.{range_with_len}
 use Rattle.clr_foot.specs.Scenes.{model_of, setting_of}
-use Rattle.clr_order_answers.specs.Answers.{AreWithin}
+use Rattle.clr_order_knots.specs.OpenNeeds.{AreWithin}
 use Rattle.clr_order_answers.specs.Pairs.{ArePairsFor}
 use Rattle.clr_scene_orders.proofs.Answers.{are_within}
 use Rattle.clr_scene_orders.proofs.Covering.{each_covered}

@@ -1,5 +1,6 @@
 use Rattle.std.proofs.Common.{◌∙◌, subst, sym}
-use Rattle.clr_order_answers.specs.Pairs.{AreHelpedInTime, ArePairsFor}
+use Rattle.clr_order_knots.specs.Peeling.{AreHelpedInTime}
+use Rattle.clr_order_answers.specs.Pairs.{ArePairsFor}
 use Rattle.clr_listed_covers.proofs.LateLaws.{all_apart, helped_in_time}
 use Rattle.clr_listed_covers.proofs.listed_pairs.listed_pairs.Goals as goal
 

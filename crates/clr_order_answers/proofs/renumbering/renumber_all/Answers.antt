@@ -1,13 +1,18 @@
 use Rattle.std.proofs.Common.{subst}
 use Rattle.std.proofs.lemmas.List.{take_all}
+use Rattle.clr_order_knots.specs.Members.{needs_at}
 use Rattle.clr_order_answers.specs.Renumbering.{AreRenumbered}
-use Rattle.clr_order_answers.proofs.Numbering.{one_renumbered}
+use Rattle.clr_order_answers.proofs.Numbering.{numbered_there, one_place_renumbered}
 use Rattle.clr_order_answers.proofs.renumbering.renumber_all.Goals as goal
 
-pub loop-need-preserved : goal.loop-need-preserved
-loop-need-preserved c = one_renumbered c.args.list.now c.args.needs.now c.loop-need.renumbered.items c.push.new.self.items c.loop-need.need-index
-    c.need-item.result c.in_ok-other.other c.loop-need-test.true c.need-item.is c.in_ok-push.ensures.items c.loop-need.invariant c.in_ok-other.ensures
+pub add_renumbered-requires-clause-among : goal.add_renumbered-requires-clause-among
+add_renumbered-requires-clause-among c =
+    numbered_there c.args.list.now c.args.needs.now c.args.places.now c.loop-at.at-index c.loop-at-test.true c.requires.among
+
+pub loop-at-preserved : goal.loop-at-preserved
+loop-at-preserved c = one_place_renumbered c.args.list.now c.args.needs.now c.args.places.now c.loop-at.at-index c.loop-at-test.true
+    c.loop-at.renumbered.items c.add_renumbered.new.renumbered.items c.loop-at.invariant c.in_ok-add_renumbered.ensures
 
 pub returns : goal.returns
-returns c = subst (λ ns. AreRenumbered c.args.list.now ns c.loop-need.renumbered.items)
-    (take_all c.loop-need.need-index c.args.needs.now c.loop-need-test.false) c.loop-need.invariant
+returns c = subst (λ ps. AreRenumbered c.args.list.now (needs_at c.args.needs.now ps) c.loop-at.renumbered.items)
+    (take_all c.loop-at.at-index c.args.places.now c.loop-at-test.false) c.loop-at.invariant

@@ -1,7 +1,8 @@
 use Rattle.std.proofs.Common.{length, subst, sym}
 use Rattle.clr_foot.specs.Scenes.{model_of}
-use Rattle.clr_order_answers.specs.Answers.{AreWithin, IsAnswer}
-use Rattle.clr_scene_orders.proofs.Answers.{are_concerned, are_helped, are_within, each_list_breaks, final_order, order_by_pairs, within_needs, within_sides}
+use Rattle.clr_order_answers.specs.Answers.{IsAnswer, IsCause, IsLargeKnotLeft}
+use Rattle.clr_order_knots.specs.OpenNeeds.{AreWithin}
+use Rattle.clr_scene_orders.proofs.Answers.{are_helped, are_within, each_list_breaks, final_order, members_counted, order_by_pairs, within_needs, within_sides}
 use Rattle.clr_scene_orders.proofs.scene_orders.order_scene.Goals as goal
 
 pub answer_of-requires : goal.answer_of-requires
@@ -20,7 +21,7 @@ returns-in-Order g c =
     (subst (λ ss. IsAnswer ss c.len.result c.in_ok-answer.answer) c.as_slice.ensures.value c.in_ok-answer.ensures) in
     let a = subst (IsAnswer found.sides.items (length m.sets)) c.in-Order.is told in (
       are_helped m.rules m.root m.sets found are a.0,
-      (a.1.0, are_concerned m.rules m.root m.sets found are a.1.0 a.1.1, a.1.2),
+      (found, are, a.1.0, a.1.1),
       order_by_pairs m.rules m.root m.sets found are c.in_ok-found.ensures.touched c.in-Order.order.items c.in-Order.pairs.items a.2.is_order a.3,
     )
 
@@ -57,9 +58,8 @@ returns-in-Stuck g c =
     (subst (λ ss. IsAnswer ss c.len.result c.in_ok-answer.answer) c.as_slice.ensures.value c.in_ok-answer.ensures) in
     let a = subst (IsAnswer found.sides.items (length m.sets)) c.in-Stuck.is told in (
       are_helped m.rules m.root m.sets found are a.0,
-      are_concerned m.rules m.root m.sets found are c.in-Stuck.members.items a.1,
-      a.2,
-      each_list_breaks m.rules m.root m.sets found are a.3,
+      (found, are, subst (λ k. IsCause found.sides.items k c.in-Stuck.members.items) (sym (members_counted m.rules m.root m.sets)) a.1),
+      each_list_breaks m.rules m.root m.sets found are a.2,
     )
 
 pub returns : goal.returns
@@ -71,6 +71,5 @@ returns g c =
     (subst (λ ss. IsAnswer ss c.len.result c.in_ok-answer.answer) c.as_slice.ensures.value c.in_ok-answer.ensures) in
     let a = subst (IsAnswer found.sides.items (length m.sets)) c.in-TooMany.is told in (
       are_helped m.rules m.root m.sets found are a.0,
-      are_concerned m.rules m.root m.sets found are c.in-TooMany.members.items a.1,
-      a.2,
+      (found, are, subst (λ k. IsLargeKnotLeft found.sides.items k c.in-TooMany.members.items) (sym (members_counted m.rules m.root m.sets)) a.1),
     )

@@ -1,0 +1,3 @@
+mod HelperLemmas
+mod ListLemmas
+mod Possible

@@ -1,0 +1,16 @@
+use Rattle.std.proofs.Common.{ℕ, ◌≡◌, ◌∙◌, ◌+◌, ap, false, get_or, not, subst, sym}
+use Rattle.clr_order_knots.specs.Members.{AreThose}
+use Rattle.clr_order_knots.proofs.Those.{one_other, one_such}
+use Rattle.clr_order_knots.proofs.ends.unmarked.Goals as goal
+use Rattle.clr_order_knots.proofs.ends.unmarked.Goals.{else-not-is_marked, then-not-is_marked+in_ok-push}
+
+pub loop-member-preserved : goal.loop-member-preserved
+loop-member-preserved c =
+    let test = λ (m : ℕ). not (get_or c.args.table.now m false) in
+    let k = c.loop-member.member in
+    elim c.if-not-is_marked.branch [
+      | then-not-is_marked+in_ok-push w ↦ one_such test k c.loop-member.list.items _ (ap (λ v. v.items) w.list-is ∙ w.in_ok-push.ensures.items)
+          (ap not (sym c.is_marked.ensures ∙ w.if-not-is_marked.true)) c.loop-member.invariant
+      | else-not-is_marked w ↦ subst (λ v. AreThose (k + 1) test v.items) (sym w.list-is) (one_other test k c.loop-member.list.items
+          (ap not (sym c.is_marked.ensures ∙ w.if-not-is_marked.false)) c.loop-member.invariant)
+    ]

@@ -1,0 +1,11 @@
+//! In which order members can be merged that a plan for every order blocks, in sentences.
+//!
+//! - `order_sentences` looks for an order and tells exactly the sentences that are prescribed of the answer, with what that answer
+//!   promises (`AreOrderSentences`): an order with its pairs, that no order works, or that none was looked for. Nothing is told of
+//!   members in conflict, nor of a plan that isn't blocked. Where no memory is found for the answer, the call fails.
+#![tactic(auto)]
+
+mod pair_phrases;
+mod sentences;
+
+pub use sentences::order_sentences;
