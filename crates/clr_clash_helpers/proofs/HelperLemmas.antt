@@ -8,7 +8,7 @@ use Rattle.clr_needs.specs.declared.faults.SceneFault.{SceneFault}
 use Rattle.clr_needs.specs.declared.faults.SceneFault.TheVariants as scene
 use Rattle.clr_needs.specs.declared.needs.Need.{Need}
 use Rattle.clr_needs.specs.Members.{AreApart, IsSceneFault}
-use Rattle.clr_needs.specs.Needs.{AreTouchedNeeds, IsPossibleNeed, IsTouched}
+use Rattle.clr_needs.specs.Needs.{AreTouchedNeeds, IsPossibleNeed, IsTouched, Lists}
 use Rattle.clr_needs.specs.Settings.{Setting}
 use Rattle.clr_needs.specs.Tests.{IsTestOf}
 use Rattle.clr_needs.proofs.NeedSubjects.{subjects_once}

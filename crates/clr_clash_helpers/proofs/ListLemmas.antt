@@ -1,14 +1,13 @@
 -- Some members, and one more behind them; and lists of those that help.
-use Rattle.std.proofs.Common.{◌≡◌, ◌∙◌, ◌⊎◌, ◌+◌, ◌<◌, ◌≤◌, ◌∷◌, [], ◌++◌, ℕ, List, Option, Some, None, inl, inr}
-use Rattle.std.proofs.Common.{ap, ap₂, arith, get_or, length, map, refl, subst, sym, take}
+use Rattle.std.proofs.Common.{◌≡◌, ◌∙◌, ◌≤◌, ◌∷◌, [], ◌++◌, ℕ, List, Option, Some, None, ap, ap₂, arith, length, map, refl, subst, sym}
 use Rattle.std.specs.Prelude.{slice_get}
 use Rattle.std.specs.List.{cons_option, filter_map}
 use Rattle.std.specs.List.Sorted.{IsStrictlySortedBy}
 use Rattle.std.specs.Option.{option_map}
-use Rattle.std.proofs.lemmas.List.{map-append, take_more}
+use Rattle.std.proofs.lemmas.List.{map-append}
 use Rattle.std.proofs.lemmas.Option.{slice_get-map}
 use Rattle.clr_rows.specs.Contents.{Changes}
-use Rattle.clr_rules.proofs.Elements.{Among, among, among_either, contained}
+use Rattle.clr_rules.proofs.Elements.{among}
 use Rattle.clr_workspaces.specs.Marks.{Name}
 use Rattle.clr_needs.specs.declared.needs.Need.{Need}
 use Rattle.clr_needs.specs.Members.{AreApart, setting}
@@ -20,9 +19,7 @@ use Rattle.clr_steps.specs.Readings.{changes_in}
 use Rattle.clr_clearance.specs.MergeSets.{change_sets, setting_by_position}
 use Rattle.clr_clearance.specs.Plans.{members_at}
 use Rattle.clr_merge_clashes.specs.Laws.{merge_set_of_part}
-use Rattle.clr_merge_clashes.specs.declared.clash_sets.MergeClash.{MergeClash}
-use Rattle.clr_clash_helpers.specs.Helpers.{AreHelped, AreHelpers, AreHelpersIn, IsHelperAt, Touch}
-use Rattle.clr_clash_helpers.specs.declared.helped.HelpedClash.{HelpedClash}
+use Rattle.clr_clash_helpers.specs.Helpers.{AreHelpers, IsHelperAt, Touch}
 use Rattle.clr_clash_helpers.proofs.Possible.{possible_beside}
 
 map_cons : {X Y : Type 0} (f : X → Y) (o : Option X) (xs : List X) → map f (cons_option o xs) ≡ cons_option (option_map f o) (map f xs)
@@ -73,20 +70,3 @@ module _ (o : Office) (s : MergeSet) (others : List ℕ) (n : Need) where
 
   pub all_helpers : (k : ℕ) (list : List ℕ) → length s.members ≤ k → AreListedTo (IsHelperAt o s others n) k list → AreHelpers o s others n list
   all_helpers k list past are = all_listed (IsHelperAt o s others n) k list (λ x w. let below = w.member in omega (arith, below, past)) are
-
--- lists of sets ----------------------------------------------------------------------------------------------
-
-module _ (o : Office) (s : MergeSet) where
-  pub one_helped : (clashes : List MergeClash) (k : ℕ) (d : MergeClash) (helped more : List HelpedClash) (h : HelpedClash) → k < length clashes
-      → h.clash.now ≡ get_or clashes k d → more ≡ helped ++ h ∷ [] → AreHelpersIn o s h.clash.now.members.items h.clash.now.cause h.helpers.items
-      → AreHelped o s (take k clashes) helped → AreHelped o s (take (k + 1) clashes) more
-  one_helped clashes k d helped more h less same is here are = subst (AreHelped o s (take (k + 1) clashes)) (sym is) (record {
-    sets = map-append (λ (x : HelpedClash). x.clash.now) helped (h ∷ [])
-        ∙ ap₂ (λ (ks : List MergeClash) (c : MergeClash). ks ++ c ∷ []) are.sets same ∙ sym (take_more clashes k d less);
-    helpers = λ x inside. told x (among_either x helped (h ∷ []) (among x (helped ++ h ∷ []) inside));
-  })
-    where
-      told : (x : HelpedClash) → Among x helped ⊎ Among x (h ∷ []) → AreHelpersIn o s x.clash.now.members.items x.clash.now.cause x.helpers.items
-      told x (inl one) = are.helpers x (contained x helped one)
-      told x (inr (inl e)) = subst (λ (y : HelpedClash). AreHelpersIn o s y.clash.now.members.items y.clash.now.cause y.helpers.items) e here
-      told x (inr (inr e)) = absurd e

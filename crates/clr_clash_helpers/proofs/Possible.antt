@@ -14,7 +14,7 @@ use Rattle.clr_rules.proofs.Elements.{Among, all_by, among}
 use Rattle.clr_needs.specs.declared.needs.Need.{Need}
 use Rattle.clr_needs.specs.Members.{AreApart, setting}
 use Rattle.clr_needs.specs.Needs.{IsPossibleNeed}
-use Rattle.clr_needs.specs.Parts.{setting_at}
+use Rattle.clr_needs.specs.Parts.{setting_at, sets_at}
 use Rattle.clr_needs.specs.Settings.{Setting, has}
 use Rattle.clr_needs.proofs.PartLaws.{possible_up}
 use Rattle.clr_needs.proofs.PartPositions.{StandsIn, below_member, is_part}

@@ -47,5 +47,5 @@ AreHelpersIn o s others _ list = list ≡ []
 
 -- these sets, each with the members that help it
 pub record AreHelped (o : Office) (s : MergeSet) (clashes : List MergeClash) (helped : List HelpedClash) : Type 0 where
-  pub sets : map (λ (h : HelpedClash). h.clash.now) helped ≡ clashes
+  pub clashes : map (λ (h : HelpedClash). h.clash.now) helped ≡ clashes
   pub helpers : (h : HelpedClash) → Contains helped h → AreHelpersIn o s h.clash.now.members.items h.clash.now.cause h.helpers.items

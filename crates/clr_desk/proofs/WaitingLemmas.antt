@@ -1,8 +1,7 @@
 -- The first element that passes a test, where elements are read one after another.
 use Rattle.std.proofs.Common.{◌≡◌, ◌∙◌, ◌+◌, ◌<◌, ◌≤◌, ◌∷◌, [], ℕ, zero, suc, Bool, true, false, cond, List, Option, Some, None}
 use Rattle.std.proofs.Common.{ap, arith, get_or, length, refl, sym, take}
-use Rattle.std.specs.Prelude.{find}
-use Rattle.std.specs.Option.{option_or}
+use Rattle.std.specs.Prelude.{find, option_or}
 use Rattle.std.proofs.lemmas.List.{take_more}
 use Rattle.std.proofs.lemmas.List.Folds.{find-append}
 
@@ -15,13 +14,13 @@ module _ {X : Type 0} (p : X → Bool) where
   pub first_passes : (xs : List X) (k : ℕ) (d : X) → k < length xs → p (get_or xs k d) ≡ true → find p (take k xs) ≡ None → find p xs ≡ Some (get_or xs k d)
   first_passes [] k d less passes none = absurd (omega (arith, less))
   first_passes (y ∷ ys) zero d less passes none = ap (λ b. cond b (Some y) (find p ys)) passes
-  first_passes (y ∷ ys) (suc k) d less passes none = by (p y) refl (λ rest. first_passes ys k d (omega (arith, less)) passes rest)
+  first_passes (y ∷ ys) (suc k) d less passes none = by (p y) refl
     where
-      by : (b : Bool) → p y ≡ b → (find p (take k ys) ≡ None → find p ys ≡ Some (get_or ys k d)) → find p (y ∷ ys) ≡ Some (get_or ys k d)
-      by true e later = let one : Some y ≡ None = sym (ap (λ b. cond b (Some y) (find p (take k ys))) e) ∙ none in absurd (cc)
-      by false e later =
+      by : (b : Bool) → p y ≡ b → find p (y ∷ ys) ≡ Some (get_or ys k d)
+      by true e = let one : Some y ≡ None = sym (ap (λ b. cond b (Some y) (find p (take k ys))) e) ∙ none in absurd (cc)
+      by false e =
           let rest = sym (ap (λ b. cond b (Some y) (find p (take k ys))) e) ∙ none in
-          ap (λ b. cond b (Some y) (find p ys)) e ∙ later rest
+          ap (λ b. cond b (Some y) (find p ys)) e ∙ first_passes ys k d (omega (arith, less)) passes rest
 
   all_read : (xs : List X) (k : ℕ) → length xs ≤ k → take k xs ≡ xs
   all_read [] zero past = refl

@@ -1,6 +1,6 @@
 //! The member for which a merge waits that comes before its turn.
 ghost use Rattle.std.specs.Prelude.{◌≡◌, ◌&&◌, ◌++◌, ◌∷◌, [], filter, length, map, option_map, IfOk, OnOk};
-ghost use Rattle.std.specs.List.{list_any, range_with_len};
+ghost use Rattle.std.specs.List.{range_with_len};
 ghost use Rattle.clr_merge_sets.specs.Certificates.{ordered_merge_set_of};
 ghost use Rattle.clr_ordered_clearance.specs.MergeSets.{goes_before};
 ghost use Rattle.clr_steps.specs.Names.{has, same_name};
@@ -75,20 +75,15 @@ fn is_of_these(precedence: &Precedence, earlier: &str, later: &str) -> bool
     precedence.earlier.as_str() == earlier && precedence.later.as_str() == later
 }
 
-/// Returns whether one of some precedences names these two.
-fn is_among(precedences: &[Precedence], earlier: &str, later: &str) -> bool
-    ensures { result ≡ list_any (λ p. same_name p.earlier earlier.now && same_name p.later later.now) precedences.now }
-{
-    precedences
-        .iter()
-        .any(|precedence| is_of_these(precedence, earlier, later))
-}
-
 /// Returns whether a member goes before another.
 fn goes_before(certificate: &Certificate, earlier: &str, later: &str) -> bool
     ensures { result ≡ goes_before (ordered_merge_set_of certificate.now) earlier.now later.now }
 {
-    is_among(certificate.before.as_slice(), earlier, later)
+    certificate
+        .before
+        .as_slice()
+        .iter()
+        .any(|precedence| is_of_these(precedence, earlier, later))
 }
 
 /// Returns whether a name waits for a member.
@@ -113,7 +108,7 @@ fn first_awaited<'a>(certificate: &'a Certificate, done: &[&str], name: &str) ->
 
 /// Returns the line that says for whom a merge waits, if it waits for anybody.
 fn waiting_line(alloc: Global, awaited: Option<&str>) -> Result<Vec<u8>, AllocError>
-    ensures { IfOk result (λ line. line.items ≡ waiting_line (option_map (λ member. member.now) awaited.entry)) }
+    ensures { IfOk result (λ line. line.items ≡ waiting_line (option_map (λ member. member.now) awaited)) }
 {
     let mut line = Vec::new(alloc);
     let Some(member) = awaited else {

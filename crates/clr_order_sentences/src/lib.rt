@@ -5,7 +5,7 @@
 //!   members in conflict, nor of a plan that isn't blocked. Where no memory is found for the answer, the call fails.
 #![tactic(auto)]
 
+mod order_sentences;
 mod pair_phrases;
-mod sentences;
 
-pub use sentences::order_sentences;
+pub use order_sentences::order_sentences;

@@ -20,8 +20,8 @@ returns-in-Ok c =
     let of = c.in-Ok.ensures.scene s c.requires.parts in
     IfOk-weaker c.is_helper.result _ _ (help_told o s c.args.need.now c.args.place _ of.setting c.requires.parts.free of.apart) c.is_helper.ensures
 
-pub returns-in-Err : goal.returns-in-Err
-returns-in-Err c =
+pub returns : goal.returns
+returns c =
     let o = c.args.office.now in
     let s = merge_set c.args.root.now (map (λ name. name.now) c.args.names.now) in
     let fault = c.in-Err.fault in

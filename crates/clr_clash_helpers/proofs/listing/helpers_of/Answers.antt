@@ -1,4 +1,4 @@
-use Rattle.std.proofs.Common.{◌∙◌, ◌+◌, ap, arith, subst, sym}
+use Rattle.std.proofs.Common.{◌∙◌, ◌+◌, ap, arith, length, map, subst, sym}
 use Rattle.std.proofs.lemmas.List.{length-map}
 use Rattle.clr_needs.specs.Tests.{IsTestOf}
 use Rattle.clr_needs.proofs.ListedNumbers.{AreListedTo, none_listed, one_left_out, one_listed}
@@ -7,27 +7,7 @@ use Rattle.clr_merge_sets.specs.MemberChanges.{set_of}
 use Rattle.clr_clash_helpers.specs.Helpers.{IsHelperAt, Touch}
 use Rattle.clr_clash_helpers.proofs.ListLemmas.{all_helpers, nobody_helps}
 use Rattle.clr_clash_helpers.proofs.listing.helpers_of.Goals as goal
-use Rattle.clr_clash_helpers.proofs.listing.helpers_of.Goals.{else-branch, then-branch+in_ok-push}
-
-pub is_helper-requires-clause-touched : goal.is_helper-requires-clause-touched
-is_helper-requires-clause-touched c =
-    let touch = Touch c.args.office.now (merge_set_of_part (set_of c.args.members.now) c.args.others.now) c.args.need.now in
-    subst (λ told. IsTestOf told touch) c.if-not-branch.false c.in_ok-are_touching.ensures
-
-pub is_helper-requires-clause-member : goal.is_helper-requires-clause-member
-is_helper-requires-clause-member c =
-    let long = length-map c.args.members.now.names.now (λ name. name.now) in
-    let less = c.loop-at-test.true in
-    omega (arith, less, long)
-
-pub returns-then-not-branch : goal.returns-then-not-branch
-returns-then-not-branch c =
-    let o = c.args.office.now in
-    let s = set_of c.args.members.now in
-    let others = c.args.others.now in
-    let touch = Touch o (merge_set_of_part s others) c.args.need.now in
-    nobody_helps o s others c.args.need.now (subst (λ told. IsTestOf told touch) c.if-not-branch.true c.in_ok-are_touching.ensures)
-    c.new-list.result.items c.new-list.ensures.items
+use Rattle.clr_clash_helpers.proofs.listing.helpers_of.Goals.{else-is_helper, then-is_helper+in_ok-push}
 
 pub loop-at-init : goal.loop-at-init
 loop-at-init c =
@@ -41,16 +21,15 @@ loop-at-preserved c =
     let others = c.args.others.now in
     let n = c.args.need.now in
     let k = c.loop-at.at in
-    elim c.if-branch.branch [
-      | then-branch+in_ok-push w ↦ one_listed (IsHelperAt o s others n) k c.loop-at.list.items _ (ap (λ v. v.items) w.list-is ∙ w.in_ok-push.ensures.items)
-          (subst (λ told. IsTestOf told (IsHelperAt o s others n k)) w.if-branch.true c.in_ok-is_helper.ensures) c.loop-at.invariant
-      | else-branch w ↦ subst (λ v. AreListedTo (IsHelperAt o s others n) (k + 1) v.items) (sym w.list-is) (one_left_out (IsHelperAt o s others n) k
-          c.loop-at.list.items (subst (λ told. IsTestOf told (IsHelperAt o s others n k)) w.if-branch.false c.in_ok-is_helper.ensures) c.loop-at.invariant)
+    elim c.if-is_helper.branch [
+      | then-is_helper+in_ok-push w ↦ one_listed (IsHelperAt o s others n) k c.loop-at.list.items _ (ap (λ v. v.items) w.list-is ∙ w.in_ok-push.ensures.items)
+          (subst (λ told. IsTestOf told (IsHelperAt o s others n k)) w.if-is_helper.true c.in_ok-is_helper.ensures) c.loop-at.invariant
+      | else-is_helper w ↦ subst (λ v. AreListedTo (IsHelperAt o s others n) (k + 1) v.items) (sym w.list-is) (one_left_out (IsHelperAt o s others n) k
+          c.loop-at.list.items (subst (λ told. IsTestOf told (IsHelperAt o s others n k)) w.if-is_helper.false c.in_ok-is_helper.ensures) c.loop-at.invariant)
     ]
 
 pub returns : goal.returns
 returns c =
     let long = length-map c.args.members.now.names.now (λ name. name.now) in
-    let past = c.loop-at-test.false in
-    all_helpers c.args.office.now (set_of c.args.members.now) c.args.others.now c.args.need.now c.loop-at.at c.loop-at.list.items (omega (arith, past, long))
+    all_helpers c.args.office.now (set_of c.args.members.now) c.args.others.now c.args.need.now c.loop-at.at c.loop-at.list.items (omega (arith, long))
     c.loop-at.invariant

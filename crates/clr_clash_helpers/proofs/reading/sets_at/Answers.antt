@@ -1,4 +1,4 @@
-use Rattle.std.proofs.Common.{◌∙◌, ◌++◌, ap, get_or, option_to_list, slice_get, sym}
+use Rattle.std.proofs.Common.{◌∙◌, ◌++◌, ap, get_or, map, option_to_list, slice_get, sym}
 use Rattle.clr_merge_sets.proofs.ListLemmas.{filter_map_more}
 use Rattle.clr_clash_helpers.proofs.reading.sets_at.Goals as goal
 

@@ -13,8 +13,8 @@ returns-in-Ok c =
     let of = c.in-Ok.ensures.scene s c.requires in
     IfOk-weaker c.is_touched.result _ _ (touch_told o s c.args.need.now _ of.setting c.requires.free of.apart) c.is_touched.ensures
 
-pub returns-in-Err : goal.returns-in-Err
-returns-in-Err c =
+pub returns : goal.returns
+returns c =
     let o = c.args.office.now in
     let s = merge_set c.args.root.now (map (λ name. name.now) c.args.names.now) in
     let fault = c.in-Err.fault in

@@ -9,6 +9,4 @@ use Rattle.clr_desk.proofs.waiting.goes_before.Goals as goal
 pub returns : goal.returns
 returns c =
     let says = λ (p : Name × Name). same_name p.0 c.args.earlier.now && same_name p.1 c.args.later.now in
-    c.is_among.ensures
-    ∙ ap (list_any (λ (p : Precedence). same_name p.earlier c.args.earlier.now && same_name p.later c.args.later.now)) c.as_slice.ensures
-    ∙ sym (list_any-map says (λ (p : Precedence). (p.earlier, p.later)) c.args.certificate.now.before)
+    c.any.ensures ∙ sym (list_any-map says (λ (p : Precedence). (p.earlier, p.later)) c.args.certificate.now.before)
