@@ -1,11 +1,10 @@
 -- What is said of the orders of members that a plan blocks, in sentences.
-use Rattle.std.specs.Prelude.{◌≡◌, ◌++◌, ◌==◌, ℕ, Bool, false, List, [], ◌∷◌, codes, length, map, if◌then◌else◌}
+use Rattle.std.specs.Prelude.{◌≡◌, ◌++◌, ◌==◌, ℕ, List, [], ◌∷◌, codes, length, map, if◌then◌else◌}
 use Rattle.clr_workspaces.specs.Marks.{Name}
 use Rattle.clr_steps.specs.Offices.{Office}
 use Rattle.clr_steps.specs.Quiet.{MergeSet}
 use Rattle.clr_clearance.specs.Plans.{members_at}
 use Rattle.clr_member_changes.specs.Names.{member_name}
-use Rattle.clr_merge_sets.specs.Plans.{is_out_of_memory}
 use Rattle.clr_merge_sets.specs.declared.plans.Plan.{Plan}
 use Rattle.clr_merge_sets.specs.declared.plans.Plan.TheVariants as plan
 use Rattle.clr_phrases.specs.Lists.{names_text}
@@ -14,7 +13,7 @@ use Rattle.clr_scene_orders.specs.declared.scene_orders.SceneOrder.{SceneOrder}
 use Rattle.clr_scene_orders.specs.declared.scene_orders.SceneOrder.TheVariants as scene_order
 use Rattle.clr_merge_orders.specs.declared.merge_orders.MergeOrder.{MergeOrder}
 use Rattle.clr_merge_orders.specs.declared.merge_orders.MergeOrder.TheVariants as merge_order
-use Rattle.clr_merge_orders.specs.MergeOrders.{IsMergeOrder, Promises}
+use Rattle.clr_merge_orders.specs.MergeOrders.{IsFoundOrder}
 
 -- an order ----------------------------------------------------------------------------------------------------
 
@@ -35,16 +34,20 @@ ordered_text s order pairs =
 
 -- no order ----------------------------------------------------------------------------------------------------
 
--- the one member that blocks a need is refused whenever it is merged
-abbrev pub alone_text : MergeSet → List ℕ → List ℕ
-alone_text s blockers =
-    codes "No order helps: " ++ names_text (members_at s blockers) ++ codes " is refused whenever it is merged. Change it, or leave it out.\n"
+-- behind the name of the one member that blocks a need which none of so many members helps
+abbrev pub refused_end : ℕ → List ℕ
+refused_end count =
+    if count == 1 then codes " is refused. Change it, or name a design that helps it.\n"
+    else codes " is refused in each order of these designs. Change it, leave it out, or name a design that helps it.\n"
 
--- each order that merges all members that block a need is refused
+abbrev pub alone_text : MergeSet → List ℕ → List ℕ
+alone_text s blockers = names_text (members_at s blockers) ++ refused_end (length s.members)
+
+-- each order of members is refused that merges all of those which block a need
 abbrev pub together_text : MergeSet → List ℕ → List ℕ
 together_text s blockers =
-    codes "No order of " ++ names_text (members_at s blockers)
-    ++ codes " works: each order that merges them all is refused. Change one of them, or leave it out.\n"
+    codes "No order of these designs works: each that merges " ++ names_text (members_at s blockers)
+    ++ codes " is refused. Change one of them, leave one out, or name a design that helps.\n"
 
 -- a need that no member helps, by the members that block it
 abbrev pub final_text : MergeSet → List ℕ → List ℕ
@@ -74,20 +77,9 @@ abbrev pub merge_order_sentences : MergeSet → MergeOrder → List ℕ
 merge_order_sentences s (merge_order.Planned p) = []
 merge_order_sentences s (merge_order.Ordered order) = scene_order_sentences s order
 
--- no memory was found
-abbrev pub is_lost : MergeOrder → Bool
-is_lost (merge_order.Planned p) = is_out_of_memory p
-is_lost (merge_order.Ordered order) = false
-
--- what is said of the orders of a merge set, with what it promises, for which memory was found
-pub record IsToldOrder (o : Office) (s : MergeSet) (order : MergeOrder) : Type 0 where
-  pub told : IsMergeOrder o s order
-  pub promises : Promises o s order
-  pub found : is_lost order ≡ false
-
 -- the sentences of what is said of the orders of members
 abbrev pub AreSentencesOfMembers : Office → MergeSet → List ℕ → Type 0
-AreSentencesOfMembers o s text = (found : MergeOrder) × IsToldOrder o s found × (text ≡ merge_order_sentences s found)
+AreSentencesOfMembers o s text = (found : MergeOrder) × IsFoundOrder o s found × (text ≡ merge_order_sentences s found)
 
 -- of members that a plan blocks; nothing of any other plan
 abbrev pub AreOrderSentences : Office → MergeSet → Plan → List ℕ → Type 0

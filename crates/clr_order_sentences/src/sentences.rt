@@ -1,17 +1,16 @@
 //! What is said of the orders of members, in sentences.
 
-ghost use Rattle.std.specs.Prelude.{◌≡◌, ◌++◌, IfOk, OnOk, string_bytes};
+ghost use Rattle.std.specs.Prelude.{◌≡◌, ◌++◌, IfOk, OnOk, length, string_bytes};
 ghost use Rattle.clr_clearance.specs.Plans.{members_at};
 ghost use Rattle.clr_merge_sets.specs.MemberChanges.{AreMembers, set_of};
 ghost use Rattle.clr_order_sentences.specs.OrderSentences.{
   AreOrderSentences,
   AreSentencesOfMembers,
-  IsToldOrder,
   alone_text,
   final_text,
-  is_lost,
   merge_order_sentences,
   ordered_text,
+  refused_end,
   scene_order_sentences,
   stuck_text,
   together_text,
@@ -63,7 +62,18 @@ fn add_ordered(
     Ok(())
 }
 
-/// Adds that the one member that blocks a need is refused whenever it is merged.
+/// Returns what is said of the one member that blocks a need which none of the members helps.
+fn refused_end(members: &MemberChanges<'_>) -> &'static str
+    ensures { result.now ≡ refused_end (length (set_of members.now).members) }
+{
+    if members.names.len() == 1 {
+        " is refused. Change it, or name a design that helps it.\n"
+    } else {
+        " is refused in each order of these designs. Change it, leave it out, or name a design that helps it.\n"
+    }
+}
+
+/// Adds that the one member that blocks a need is refused.
 fn add_alone(
     alloc: Global,
     text: &mut String,
@@ -72,13 +82,12 @@ fn add_alone(
 ) -> Result<(), AllocError>
     ensures { OnOk result (string_bytes text.new ≡ string_bytes text.old ++ alone_text (set_of members.now) blockers.now) }
 {
-    text.push_str("No order helps: ")?;
     add_members_at(alloc, text, members, blockers)?;
-    text.push_str(" is refused whenever it is merged. Change it, or leave it out.\n")?;
+    text.push_str(refused_end(members))?;
     Ok(())
 }
 
-/// Adds that each order is refused that merges all members that block a need.
+/// Adds that each order of members is refused that merges all of those which block a need.
 fn add_together(
     alloc: Global,
     text: &mut String,
@@ -87,15 +96,15 @@ fn add_together(
 ) -> Result<(), AllocError>
     ensures { OnOk result (string_bytes text.new ≡ string_bytes text.old ++ together_text (set_of members.now) blockers.now) }
 {
-    text.push_str("No order of ")?;
+    text.push_str("No order of these designs works: each that merges ")?;
     add_members_at(alloc, text, members, blockers)?;
     text.push_str(
-        " works: each order that merges them all is refused. Change one of them, or leave it out.\n",
+        " is refused. Change one of them, leave one out, or name a design that helps.\n",
     )?;
     Ok(())
 }
 
-/// Adds that no order helps the members that block a need.
+/// Adds that no member helps those that block a need.
 fn add_final(
     alloc: Global,
     text: &mut String,
@@ -192,38 +201,6 @@ fn merge_order_sentences(
     }
 }
 
-/// Returns whether no memory was found for an order.
-fn is_lost(order: &MergeOrder) -> bool
-    ensures { result ≡ is_lost order.now }
-{
-    match order {
-        MergeOrder::Planned(plan) => plan.is_out_of_memory(),
-        MergeOrder::Ordered(_) => false,
-    }
-}
-
-/// Returns what is said of the orders of members that were read from an office. Where no memory is found for it, this call fails.
-fn told_order(
-    alloc: Global,
-    office: &Office,
-    members: &MemberChanges<'_>,
-) -> Result<MergeOrder, AllocError>
-    requires { AreMembers office.now (set_of members.now) members.now }
-    ensures { IfOk result (IsToldOrder office.now (set_of members.now)) }
-{
-    let order = order_of_changes(
-        alloc,
-        office,
-        members.root,
-        members.names,
-        members.changes.as_slice(),
-    );
-    if is_lost(&order) {
-        return Err(AllocError);
-    }
-    Ok(order)
-}
-
 /// Returns what is said of the orders of members that were read from an office, with what it promises.
 fn blocked_sentences(
     alloc: Global,
@@ -233,7 +210,8 @@ fn blocked_sentences(
     requires { AreMembers office.now (set_of members.now) members.now }
     ensures { IfOk result (λ text. AreSentencesOfMembers office.now (set_of members.now) (string_bytes text)) }
 {
-    let order = told_order(alloc, office, members)?;
+    let (root, names) = (members.root, members.names);
+    let order = order_of_changes(alloc, office, root, names, members.changes.as_slice())?;
     merge_order_sentences(alloc, members, &order)
 }
 
