@@ -4,7 +4,8 @@ use Rattle.std.specs.Prelude.{IfOk}
 use Rattle.clr_steps.specs.Offices.{Office}
 use Rattle.clr_steps.specs.Quiet.{MergeSet}
 use Rattle.clr_merge_orders.specs.declared.merge_orders.MergeOrder.{MergeOrder}
-use Rattle.clr_desk_orders.specs.MergeOrders.{IsFoundOrder, order_in, order_lines}
+use Rattle.clr_merge_orders.specs.MergeOrders.{IsFoundOrder}
+use Rattle.clr_desk_orders.specs.MergeOrders.{order_in, order_lines}
 use Rattle.clr_desk_orders.specs.OrderCertificates.{IsOrderCertificateOfSet, behind_lines, in_this_order, of_order}
 use Rattle.clr_desk_orders.specs.PlansInOrder.{IsPlanInOrderPrint}
 use Rattle.clr_desk_prints.specs.Printing.{PrintoutOrFault, printed}

@@ -1,14 +1,13 @@
 -- What is printed of an order in which members can be merged, or of why none was found.
-use Rattle.std.specs.Prelude.{◌≡◌, ℕ, Bool, false, List, [], Option, Some, None, is_none}
+use Rattle.std.specs.Prelude.{◌≡◌, ℕ, List, [], Option, Some, None, is_none}
 use Rattle.clr_workspaces.specs.Marks.{Name}
 use Rattle.clr_steps.specs.Offices.{Office}
 use Rattle.clr_steps.specs.Quiet.{MergeSet}
-use Rattle.clr_merge_sets.specs.Plans.{is_out_of_memory}
 use Rattle.clr_scene_orders.specs.declared.scene_orders.SceneOrder.{SceneOrder}
 use Rattle.clr_scene_orders.specs.declared.scene_orders.SceneOrder.TheVariants as scene_order
 use Rattle.clr_merge_orders.specs.declared.merge_orders.MergeOrder.{MergeOrder}
 use Rattle.clr_merge_orders.specs.declared.merge_orders.MergeOrder.TheVariants as merge_order
-use Rattle.clr_merge_orders.specs.MergeOrders.{IsMergeOrder, Promises}
+use Rattle.clr_merge_orders.specs.MergeOrders.{IsFoundOrder}
 use Rattle.clr_merge_orders.specs.OrderLines.{merge_order_text}
 use Rattle.clr_desk_prints.specs.Members.{set_asked}
 use Rattle.clr_desk_prints.specs.Printing.{PrintoutOrFault, printout_of}
@@ -25,18 +24,7 @@ abbrev pub order_in : MergeOrder → Option (List ℕ)
 order_in (merge_order.Ordered order) = order_in_scene order
 order_in (merge_order.Planned p) = None
 
--- no memory was found
-abbrev pub is_lost : MergeOrder → Bool
-is_lost (merge_order.Planned p) = is_out_of_memory p
-is_lost (merge_order.Ordered order) = false
-
--- what is said of the orders of a merge set, with what it promises, for which memory was found
-pub record IsFoundOrder (o : Office) (s : MergeSet) (order : MergeOrder) : Type 0 where
-  pub told : IsMergeOrder o s order
-  pub promises : Promises o s order
-  pub found : is_lost order ≡ false
-
--- its lines
+-- the lines of what is said of orders
 abbrev pub order_lines : Office → MergeSet → MergeOrder → List ℕ
 order_lines o s order = merge_order_text o.schema s.members s.root order
 

@@ -9,7 +9,8 @@ use Rattle.clr_merge_sets.specs.declared.plans.Plan.{Plan}
 use Rattle.clr_merge_orders.specs.declared.merge_orders.MergeOrder.{MergeOrder}
 use Rattle.clr_desk_prints.specs.Members.{set_asked}
 use Rattle.clr_desk_prints.specs.Printing.{PrintoutOrFault, printout_of}
-use Rattle.clr_desk_orders.specs.MergeOrders.{IsFoundOrder, order_in, order_lines}
+use Rattle.clr_merge_orders.specs.MergeOrders.{IsFoundOrder}
+use Rattle.clr_desk_orders.specs.MergeOrders.{order_in, order_lines}
 use Rattle.clr_desk_orders.specs.PlanPrints.{plan_print}
 use Rattle.clr_desk_orders.specs.PlansInOrder.{IsPlannedInOrder}
 

@@ -2,16 +2,7 @@
 ghost use Rattle.std.specs.Prelude.{◌≡◌, ◌∷◌, map, option_map, IfOk};
 ghost use Rattle.clr_merge_sets.specs.MergeSetNames.{merge_set};
 ghost use Rattle.clr_office_texts.specs.Drafts.{opened_in};
-ghost use Rattle.clr_desk_orders.specs.MergeOrders.{
-  IsFoundOrder,
-  IsMergeOrderOfSet,
-  IsMergeOrderPrint,
-  is_lost,
-  order_in,
-  order_in_scene,
-  order_lines,
-  order_print,
-};
+ghost use Rattle.clr_desk_orders.specs.MergeOrders.{IsMergeOrderOfSet, IsMergeOrderPrint, order_in, order_in_scene, order_lines, order_print};
 ghost use Rattle.clr_desk_prints.specs.NameHints.{IsHinted};
 ghost use Rattle.clr_desk_prints.specs.Printing.{IsMadePrintout, IsPrintoutIn, printed};
 
@@ -39,32 +30,6 @@ pub(crate) fn order_in(order: &MergeOrder) -> Option<&[u16]>
         MergeOrder::Ordered(order) => order_in_scene(order),
         MergeOrder::Planned(_) => None,
     }
-}
-
-/// Returns whether no memory was found for an order.
-fn is_lost(order: &MergeOrder) -> bool
-    ensures { result ≡ is_lost order.now }
-{
-    match order {
-        MergeOrder::Planned(plan) => plan.is_out_of_memory(),
-        MergeOrder::Ordered(_) => false,
-    }
-}
-
-/// Returns what is said of the orders of members. Where no memory is found for it, this call fails.
-pub(crate) fn found_order(
-    alloc: Global,
-    office: &Office,
-    root: &str,
-    members: &[&str],
-) -> Result<MergeOrder, AllocError>
-    ensures { IfOk result (IsFoundOrder office.now (merge_set root.now (map (λ name. name.now) members.now))) }
-{
-    let order = merge_order(alloc, office, root, members);
-    if is_lost(&order) {
-        return Err(AllocError);
-    }
-    Ok(order)
 }
 
 /// Returns the lines of what is said of the orders of members.
@@ -104,7 +69,7 @@ fn print_of_set(
 ) -> Result<Print, AllocError>
     ensures { IfOk result (λ p. IsMergeOrderOfSet office.now (merge_set root.now (map (λ name. name.now) members.now)) (printed p)) }
 {
-    let order = found_order(alloc, office, root, members)?;
+    let order = merge_order(alloc, office, root, members)?;
     order_print(alloc, office, root, members, &order)
 }
 

@@ -2,7 +2,8 @@
 ghost use Rattle.std.specs.Prelude.{◌≡◌, ◌∷◌, map, None, Some, IfOk};
 ghost use Rattle.clr_merge_sets.specs.MergeSetNames.{merge_set};
 ghost use Rattle.clr_office_texts.specs.Drafts.{opened_in};
-ghost use Rattle.clr_desk_orders.specs.MergeOrders.{IsFoundOrder, order_in};
+ghost use Rattle.clr_merge_orders.specs.MergeOrders.{IsFoundOrder};
+ghost use Rattle.clr_desk_orders.specs.MergeOrders.{order_in};
 ghost use Rattle.clr_desk_orders.specs.OrderCertificates.{
   IsOrderCertificateOfSet,
   IsOrderCertificatePrint,
@@ -14,10 +15,10 @@ ghost use Rattle.clr_desk_prints.specs.NameHints.{IsHinted};
 ghost use Rattle.clr_desk_prints.specs.Printing.{IsMadePrintout, IsPrintoutIn, printed};
 
 use crate::certificates::print_in_order;
-use crate::merge_orders::{found_order, order_in, order_lines};
+use crate::merge_orders::{order_in, order_lines};
 use clr_desk_prints::{Print, RunFault, Words, answer_over_members};
 use clr_engine::Office;
-use clr_merge_orders::MergeOrder;
+use clr_merge_orders::{MergeOrder, merge_order};
 use clr_ordered_plans::names_in_order;
 use std::alloc::{AllocError, Global};
 
@@ -82,7 +83,7 @@ fn print_of_set(
 ) -> Result<Print, AllocError>
     ensures { IfOk result (λ p. IsOrderCertificateOfSet office.now (merge_set root.now (map (λ name. name.now) members.now)) (printed p)) }
 {
-    let order = found_order(alloc, office, root, members)?;
+    let order = merge_order(alloc, office, root, members)?;
     print_of_order(alloc, office, root, members, &order)
 }
 

@@ -1,2 +1,3 @@
 pub mod MoreBefore
 pub mod PromiseLaws
+pub mod WithoutOrders

@@ -41,9 +41,8 @@ use Rattle.clr_scene_orders.specs.declared.scene_orders.SceneOrder.TheVariants a
 use Rattle.clr_scene_orders.specs.SceneOrders.{EachListBreaks, IsOrderBy, order_by}
 use Rattle.clr_scene_orders.proofs.Answers.{final_breaks}
 use Rattle.clr_scene_orders.proofs.Covering.{pair_by}
-use Rattle.clr_merge_orders.specs.declared.merge_orders.MergeOrder.{MergeOrder}
 use Rattle.clr_merge_orders.specs.declared.merge_orders.MergeOrder.TheVariants as merge_order
-use Rattle.clr_merge_orders.specs.MergeOrders.{IsClearedBy, IsEachOrderRefused, IsMergeOrder, IsOrderOf, Promises, PromisesOrder, name_at, ordered_by}
+use Rattle.clr_merge_orders.specs.MergeOrders.{IsClearedBy, IsEachOrderRefused, IsFoundOrder, IsOrderOf, PromisesOrder, name_at, ordered_by}
 use Rattle.clr_merge_orders.proofs.MoreBefore.{covered_by_more}
 
 -- who is among the first members of a list is in it
@@ -152,6 +151,5 @@ module _ (o : Office) (s : MergeSet) where
   order_promise (scene_order.Stuck members) is = each_refused (mergeable_of o s is.free is.apart) is.apart is.told.2
   order_promise (scene_order.TooMany members) is = tt
 
-  pub promise : (m : MergeOrder) → IsMergeOrder o s m → Promises o s m
-  promise (merge_order.Planned p) is = tt
-  promise (merge_order.Ordered order) is = order_promise order is
+  pub found_in_scene : (order : SceneOrder) → IsOrderOf o s order → IsFoundOrder o s (merge_order.Ordered order)
+  found_in_scene order is = record { told = is; promises = order_promise order is }

@@ -1,5 +1,5 @@
 -- What is said of the orders of a merge set's members, and what it promises.
-use Rattle.std.specs.Prelude.{◌≡◌, ℕ, true, List, [], None, get_or, map}
+use Rattle.std.specs.Prelude.{◌≡◌, ℕ, true, false, List, [], None, get_or, map}
 use Rattle.clr_workspaces.specs.Marks.{Name}
 use Rattle.clr_needs.specs.Covers.{Entry}
 use Rattle.clr_needs.specs.Members.{AreApart}
@@ -11,7 +11,10 @@ use Rattle.clr_clearance.specs.Verdicts.{member_fault}
 use Rattle.clr_ordered_needs.specs.Turns.{ListsAll}
 use Rattle.clr_ordered_clearance.specs.Headlines.{HeadlineInTurn}
 use Rattle.clr_ordered_clearance.specs.MergeSets.{CoversInTurn, OrderedMergeSet}
+use Rattle.clr_merge_sets.specs.Plans.{is_out_of_memory}
+use Rattle.clr_merge_sets.specs.declared.plans.Plan.{Plan}
 use Rattle.clr_plan.specs.Plans.{IsPlan}
+use Rattle.clr_plan.specs.Promises.{Promises as PromisesOfPlan}
 use Rattle.clr_order_answers.specs.declared.pairs.Pair.{Pair}
 use Rattle.clr_scene_orders.specs.declared.scene_orders.SceneOrder.{SceneOrder}
 use Rattle.clr_scene_orders.specs.declared.scene_orders.SceneOrder.TheVariants as scene_order
@@ -25,8 +28,14 @@ pub record IsOrderOf (o : Office) (s : MergeSet) (order : SceneOrder) : Type 0 w
   pub apart : AreApart (change_sets o s)
   pub told : IsSceneOrder (setting_by_position o s) order
 
+-- the plan of members whose orders aren't looked at: some test of members fails, or two members change one cell
+pub record IsPlanWithoutOrders (o : Office) (s : MergeSet) (p : Plan) : Type 0 where
+  pub planned : IsPlan o s p
+  pub barred : ¬ ((member_fault o s ≡ None) × AreApart (change_sets o s))
+  pub found : is_out_of_memory p ≡ false
+
 abbrev pub IsMergeOrder : Office → MergeSet → MergeOrder → Type 0
-IsMergeOrder o s (merge_order.Planned p) = IsPlan o s p
+IsMergeOrder o s (merge_order.Planned p) = IsPlanWithoutOrders o s p
 IsMergeOrder o s (merge_order.Ordered order) = IsOrderOf o s order
 
 -- what it promises ---------------------------------------------------------------------------------------------
@@ -53,6 +62,12 @@ PromisesOrder o s (scene_order.Final need members) = IsEachOrderRefused o s
 PromisesOrder o s (scene_order.Stuck members) = IsEachOrderRefused o s
 PromisesOrder o s (scene_order.TooMany members) = Unit {0}
 
+-- a plan promises what it promises where it is asked for
 abbrev pub Promises : Office → MergeSet → MergeOrder → Type 0
-Promises o s (merge_order.Planned p) = Unit {0}
+Promises o s (merge_order.Planned p) = PromisesOfPlan o s p
 Promises o s (merge_order.Ordered order) = PromisesOrder o s order
+
+-- what is said of the orders of members, with what it promises
+pub record IsFoundOrder (o : Office) (s : MergeSet) (order : MergeOrder) : Type 0 where
+  pub told : IsMergeOrder o s order
+  pub promises : Promises o s order

@@ -1,14 +1,15 @@
 //! The planner of orders: in which order children of a kept workspace can be merged into it one after
 //! another, where they can't be merged in every order.
 //!
-//! - `merge_order` [`IsMergeOrder`] says what `plan` does where a test of names fails, a member is in
-//!   conflict, two members change one cell, or memory is wanting. Else it says of the members, as
-//!   `order_scene` does of a scene, an order with its pairs, a need that no member helps, or that
-//!   there is no order, with members that show it, or a knot of too many members.
-//! - `merge_order` [`promises`]: where it gives an order, some entries cover the members under the
+//! - `merge_order` [`IsFoundOrder`] says what `plan` does exactly where a test of names fails, a member is in
+//!   conflict or two members change one cell. Else it says of the members, as `order_scene` does of a scene,
+//!   an order with its pairs, a need that no member helps, or that there is no order, with members that show
+//!   it, or a knot of too many members.
+//! - What it promises (`Promises`): where it gives an order, some entries cover the members under the
 //!   pairs; so the headline holds for every list of quiet commands in which the merges come in turn.
 //!   Where it names a need that no member helps, or says that there is no order, in each order of all
 //!   members some merge is refused.
+//! - `merge_order` [`lost`] fails only for want of memory, and never where a test of names fails.
 //! - `merge_order_lines` gives exactly the bytes of the lines of it, with the names of members, memory
 //!   aside.
 //! - `order_of_changes` says the same, with the same clauses, of members whose changes were read before.

@@ -1,11 +1,10 @@
 -- What is said of the orders of members that a plan blocks, in sentences.
-use Rattle.std.specs.Prelude.{◌≡◌, ◌++◌, ◌==◌, ℕ, Bool, false, List, [], ◌∷◌, codes, length, map, if◌then◌else◌}
+use Rattle.std.specs.Prelude.{◌≡◌, ◌++◌, ◌==◌, ℕ, List, [], ◌∷◌, codes, length, map, if◌then◌else◌}
 use Rattle.clr_workspaces.specs.Marks.{Name}
 use Rattle.clr_steps.specs.Offices.{Office}
 use Rattle.clr_steps.specs.Quiet.{MergeSet}
 use Rattle.clr_clearance.specs.Plans.{members_at}
 use Rattle.clr_member_changes.specs.Names.{member_name}
-use Rattle.clr_merge_sets.specs.Plans.{is_out_of_memory}
 use Rattle.clr_merge_sets.specs.declared.plans.Plan.{Plan}
 use Rattle.clr_merge_sets.specs.declared.plans.Plan.TheVariants as plan
 use Rattle.clr_phrases.specs.Lists.{names_text}
@@ -14,7 +13,7 @@ use Rattle.clr_scene_orders.specs.declared.scene_orders.SceneOrder.{SceneOrder}
 use Rattle.clr_scene_orders.specs.declared.scene_orders.SceneOrder.TheVariants as scene_order
 use Rattle.clr_merge_orders.specs.declared.merge_orders.MergeOrder.{MergeOrder}
 use Rattle.clr_merge_orders.specs.declared.merge_orders.MergeOrder.TheVariants as merge_order
-use Rattle.clr_merge_orders.specs.MergeOrders.{IsMergeOrder, Promises}
+use Rattle.clr_merge_orders.specs.MergeOrders.{IsFoundOrder}
 
 -- an order ----------------------------------------------------------------------------------------------------
 
@@ -74,20 +73,9 @@ abbrev pub merge_order_sentences : MergeSet → MergeOrder → List ℕ
 merge_order_sentences s (merge_order.Planned p) = []
 merge_order_sentences s (merge_order.Ordered order) = scene_order_sentences s order
 
--- no memory was found
-abbrev pub is_lost : MergeOrder → Bool
-is_lost (merge_order.Planned p) = is_out_of_memory p
-is_lost (merge_order.Ordered order) = false
-
--- what is said of the orders of a merge set, with what it promises, for which memory was found
-pub record IsToldOrder (o : Office) (s : MergeSet) (order : MergeOrder) : Type 0 where
-  pub told : IsMergeOrder o s order
-  pub promises : Promises o s order
-  pub found : is_lost order ≡ false
-
 -- the sentences of what is said of the orders of members
 abbrev pub AreSentencesOfMembers : Office → MergeSet → List ℕ → Type 0
-AreSentencesOfMembers o s text = (found : MergeOrder) × IsToldOrder o s found × (text ≡ merge_order_sentences s found)
+AreSentencesOfMembers o s text = (found : MergeOrder) × IsFoundOrder o s found × (text ≡ merge_order_sentences s found)
 
 -- of members that a plan blocks; nothing of any other plan
 abbrev pub AreOrderSentences : Office → MergeSet → Plan → List ℕ → Type 0

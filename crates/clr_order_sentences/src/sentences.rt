@@ -6,10 +6,8 @@ ghost use Rattle.clr_merge_sets.specs.MemberChanges.{AreMembers, set_of};
 ghost use Rattle.clr_order_sentences.specs.OrderSentences.{
   AreOrderSentences,
   AreSentencesOfMembers,
-  IsToldOrder,
   alone_text,
   final_text,
-  is_lost,
   merge_order_sentences,
   ordered_text,
   scene_order_sentences,
@@ -192,38 +190,6 @@ fn merge_order_sentences(
     }
 }
 
-/// Returns whether no memory was found for an order.
-fn is_lost(order: &MergeOrder) -> bool
-    ensures { result ≡ is_lost order.now }
-{
-    match order {
-        MergeOrder::Planned(plan) => plan.is_out_of_memory(),
-        MergeOrder::Ordered(_) => false,
-    }
-}
-
-/// Returns what is said of the orders of members that were read from an office. Where no memory is found for it, this call fails.
-fn told_order(
-    alloc: Global,
-    office: &Office,
-    members: &MemberChanges<'_>,
-) -> Result<MergeOrder, AllocError>
-    requires { AreMembers office.now (set_of members.now) members.now }
-    ensures { IfOk result (IsToldOrder office.now (set_of members.now)) }
-{
-    let order = order_of_changes(
-        alloc,
-        office,
-        members.root,
-        members.names,
-        members.changes.as_slice(),
-    );
-    if is_lost(&order) {
-        return Err(AllocError);
-    }
-    Ok(order)
-}
-
 /// Returns what is said of the orders of members that were read from an office, with what it promises.
 fn blocked_sentences(
     alloc: Global,
@@ -233,7 +199,8 @@ fn blocked_sentences(
     requires { AreMembers office.now (set_of members.now) members.now }
     ensures { IfOk result (λ text. AreSentencesOfMembers office.now (set_of members.now) (string_bytes text)) }
 {
-    let order = told_order(alloc, office, members)?;
+    let (root, names) = (members.root, members.names);
+    let order = order_of_changes(alloc, office, root, names, members.changes.as_slice())?;
     merge_order_sentences(alloc, members, &order)
 }
 
