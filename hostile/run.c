@@ -21,9 +21,7 @@
  *       or, of a merge, the same as of a script, names being its steps;
  *     - of words of clr_desk, which a session's file `program` names: text, notes and status of the session; or with status 3 no text,
  *       and notes that have a line which says so; or, where the session is refused with status 2, its first note without what stands behind it, which is
- *       where the fault is or what a misspelt name may have meant; or, where the session has a file `scarce_stdout` or `scarce_stderr`,
- *       what these have (no file: nothing), with the status of the session or of its file `scarce_status`. So it is of designs whose orders
- *       are looked for: without memory for an order, the answer is the one for every order.
+ *       where the fault is or what a misspelt name may have meant.
  *
  * Without a refusal the program has to print what the session says. In the ways `once` and `again` some step of each script has to
  * be lost while the run goes on: a program that ends at each refusal would never show what it does next. The last line is
@@ -71,9 +69,6 @@ struct session {
     bool is_script, is_merge, is_doubled;
     bool is_desk;                    /* of clr_desk, which prints a text and notes */
     struct bytes lines, error;       /* what is printed where nothing is refused, and the line on standard error */
-    struct bytes scarce_lines, scarce_error; /* what may be printed where memory for an order was refused */
-    int scarce_status;
-    bool is_scarce_told;             /* whether the session says so */
     int status;
 };
 
@@ -265,12 +260,6 @@ static struct session *read_session(const char *name, bool is_doubled) {
     struct bytes status = file_of(name, "status", &is_there);
     session->status = is_there ? atoi(status.start) : 0;
     session->is_desk = begins(file_of(name, "program", &is_there), text("clr_desk"));
-    bool has_lines, has_error;
-    session->scarce_lines = file_of(name, "scarce_stdout", &has_lines);
-    session->scarce_error = file_of(name, "scarce_stderr", &has_error);
-    session->is_scarce_told = has_lines || has_error;
-    struct bytes scarce_status = file_of(name, "scarce_status", &is_there);
-    session->scarce_status = is_there ? atoi(scarce_status.start) : session->status;
     struct bytes words = file_of(name, "words", &is_there);
     session->is_script = !is_there;
     if (is_there) {
@@ -490,12 +479,6 @@ static bool is_lost_text(const struct session *session, const struct end *end) {
     return end->status == 2 && session->status == 2 && same(end->err, line_of(session->error));
 }
 
-/* Whether a run prints what the session says for one that had no memory for an order. */
-static bool is_scarce(const struct session *session, const struct end *end) {
-    return session->is_scarce_told && end->status == session->scarce_status && same(end->out, session->scarce_lines)
-        && same(end->err, session->scarce_error);
-}
-
 static bool is_right(const struct session *session, const struct end *end) {
     if (end->refused > 0 && is_no_memory(end)) {
         return true;
@@ -507,7 +490,7 @@ static bool is_right(const struct session *session, const struct end *end) {
         return true;
     }
     if (session->is_desk) {
-        return end->refused > 0 && (is_lost_text(session, end) || is_scarce(session, end));
+        return end->refused > 0 && is_lost_text(session, end);
     }
     return end->refused > 0 && (is_lost_answer(session, end) || (session->is_merge && is_right_merge(session, end)));
 }

@@ -1,5 +1,5 @@
 -- The features of rows that stand, and of what members change.
-use Rattle.std.specs.Prelude.{Bool, not, List, [], ◌∷◌, filter, map, Option, Some, None, is_some}
+use Rattle.std.specs.Prelude.{ℕ, Bool, not, List, [], ◌∷◌, filter, map, option_map, Option, Some, None, is_some}
 use Rattle.std.specs.FinMap as finite
 use Rattle.std.specs.List.{flat_map, list_any, zip}
 use Rattle.clr_rows.specs.declared.cells.CellId.{CellId}
@@ -8,10 +8,12 @@ use Rattle.clr_rows.specs.declared.rows.Row.{Row}
 use Rattle.clr_rows.specs.declared.tables.TableDef.{TableDef}
 use Rattle.clr_rows.specs.Contents.{Changes, Content}
 use Rattle.clr_workspaces.specs.Marks.{Name}
+use Rattle.clr_cert.specs.declared.certificates.Precedence.{Precedence}
 use Rattle.clr_geojson.specs.declared.features.Feature.{Feature}
 use Rattle.clr_plan_features.specs.declared.row_features.What.{What}
 use Rattle.clr_plan_features.specs.declared.row_features.What.TheVariants.{Stands, Added, Changed, Removed}
 use Rattle.clr_plan_features.specs.RowFeatures.{row_feature}
+use Rattle.clr_plan_features.specs.Turns.{names_before_text, told_after}
 
 -- what stands --------------------------------------------------------------------------------
 
@@ -37,13 +39,16 @@ change_shown before (Some after) = (what_came before, after) ∷ []
 change_shown (Some before) None = (Removed, before) ∷ []
 change_shown None None = []
 
-abbrev pub change_features : List TableDef → List CellId → Name → CellId × Change → List Feature
-change_features tables causes name e = map (λ p. row_feature tables causes name p.0 e.0 p.1) (change_shown e.1.before e.1.after)
+-- a change by a design, and the names of those that go before the design, if that is told
+abbrev pub change_features : List TableDef → List CellId → Name → Option (List ℕ) → CellId × Change → List Feature
+change_features tables causes name after e =
+    map (λ p. told_after after (row_feature tables causes name p.0 e.0 p.1)) (change_shown e.1.before e.1.after)
 
 -- what a member changes, ascending
-unfoldable pub member_features : List TableDef → List CellId → Name × Changes → List Feature
-member_features tables causes member = flat_map (change_features tables causes member.0) (finite.entries member.1)
+unfoldable pub member_features : List TableDef → List CellId → Option (List Precedence) → Name × Changes → List Feature
+member_features tables causes before member =
+    flat_map (change_features tables causes member.0 (option_map (names_before_text member.0) before)) (finite.entries member.1)
 
 -- what the members change, in the order of their names
-abbrev pub changed_features : List TableDef → List CellId → List Name → List Changes → List Feature
-changed_features tables causes names sets = flat_map (member_features tables causes) (zip names sets)
+abbrev pub changed_features : List TableDef → List CellId → Option (List Precedence) → List Name → List Changes → List Feature
+changed_features tables causes before names sets = flat_map (member_features tables causes before) (zip names sets)

@@ -2,3 +2,4 @@ pub mod CausePlaces
 pub mod ChangeFeatures
 pub mod PlanFeatures
 pub mod RowFeatures
+pub mod Turns

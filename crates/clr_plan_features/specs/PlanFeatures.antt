@@ -11,12 +11,14 @@ use Rattle.clr_steps.specs.Quiet.{MergeSet}
 use Rattle.clr_clearance.specs.declared.verdicts.Verdict.{Verdict}
 use Rattle.clr_clearance.specs.declared.verdicts.Verdict.TheVariants as verdict
 use Rattle.clr_clearance.specs.MergeSets.{change_sets}
+use Rattle.clr_cert.specs.declared.certificates.Precedence.{Precedence}
 use Rattle.clr_merge_sets.specs.MemberChanges.{rows_of_root}
 use Rattle.clr_merge_sets.specs.declared.plans.Plan.{Plan}
 use Rattle.clr_merge_sets.specs.declared.plans.Plan.TheVariants as plan
 use Rattle.clr_geojson.specs.declared.features.Feature.{Feature}
 use Rattle.clr_geojson.specs.Collections.{collection_text}
 use Rattle.clr_geojson.specs.Properties.{flag_property, number_property, text_property}
+use Rattle.clr_plan_precedences.specs.PlanPrecedences.{ArePrecedencesOfPlan}
 use Rattle.clr_plan_features.specs.declared.cause_features.MarkedPlace.{MarkedPlace}
 use Rattle.clr_plan_features.specs.CausePlaces.{IsPlaceOfPlan}
 use Rattle.clr_plan_features.specs.ChangeFeatures.{changed_features, standing_features}
@@ -56,15 +58,16 @@ place_features (Some marked) = place_feature marked ∷ []
 
 -- all ----------------------------------------------------------------------------------------
 
--- what stands in a root and isn't changed, what each member changes, and the place of a cause, if there is one
-abbrev pub features_of : List TableDef → List CellId → Name → List Name → List Changes → Content → Option MarkedPlace → List Feature
-features_of tables causes root names sets rows marked =
-    standing_features tables causes root sets rows ++ changed_features tables causes names sets ++ place_features marked
+-- what stands in a root and isn't changed, what each member changes, with who goes before it, if that is told, and the place of a cause, if there is one
+abbrev pub features_of : List TableDef → List CellId → Option (List Precedence) → Name → List Name → List Changes → Content → Option MarkedPlace → List Feature
+features_of tables causes before root names sets rows marked =
+    standing_features tables causes root sets rows ++ changed_features tables causes before names sets ++ place_features marked
 
-abbrev pub plan_features : Office → MergeSet → Plan → Option MarkedPlace → List Feature
-plan_features o s p marked = features_of o.schema (cause_cells p) s.root s.members (change_sets o s) (rows_of_root o s.root) marked
+abbrev pub plan_features : Office → MergeSet → Plan → Option (List Precedence) → Option MarkedPlace → List Feature
+plan_features o s p before marked = features_of o.schema (cause_cells p) before s.root s.members (change_sets o s) (rows_of_root o s.root) marked
 
 -- the text of these features
 abbrev pub AreFeatures : Office → MergeSet → Plan → Option ℕ → List ℕ → Type 0
 AreFeatures o s p system text =
-    (marked : Option MarkedPlace) × IsPlaceOfPlan o s p marked × (text ≡ collection_text system (plan_features o s p marked))
+    (before : Option (List Precedence)) × (marked : Option MarkedPlace) × ArePrecedencesOfPlan o s p before × IsPlaceOfPlan o s p marked
+    × (text ≡ collection_text system (plan_features o s p before marked))

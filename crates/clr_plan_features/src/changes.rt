@@ -1,15 +1,25 @@
 //! The features of what designs change.
 
 ghost use Rattle.std.specs.Prelude.{◌≡◌, ◌++◌, map, OnOk};
+ghost use Rattle.std.specs.FinMap as finite;
 ghost use Rattle.std.specs.List.{flat_map};
 ghost use Rattle.clr_geojson.specs.Collections.{line_with_comma};
 ghost use Rattle.clr_plan_features.specs.ChangeFeatures.{change_features, changed_features, member_features};
 
 use crate::row_features::{What, row_feature};
+use crate::turns::{told_after, told_of_design};
+use clr_cert::Precedences;
 use clr_change::ChangeSet;
 use clr_geojson::add_feature;
-use clr_rows::{CellId, Change, Schema};
+use clr_rows::{CellId, Change, Schema, Words};
 use std::alloc::{AllocError, Global};
+
+/// A design, and the names of those that go before it, if that is told.
+#[derive(Drop)]
+struct Design<'a> {
+    name: &'a str,
+    after: Option<Words>,
+}
 
 /// Adds the feature of a change: of the new row, or else of the one that is taken away.
 fn add_change(
@@ -17,11 +27,12 @@ fn add_change(
     text: &mut Vec<u8>,
     schema: &Schema,
     causes: &[CellId],
-    name: &str,
+    design: &Design<'_>,
     cell: CellId,
     change: &Change,
 ) -> Result<(), AllocError>
-    ensures { OnOk result (text.new.items ≡ text.old.items ++ flat_map line_with_comma (change_features schema.now causes.now name.now (cell, change.now))) }
+    ensures { OnOk result (text.new.items ≡ text.old.items
+        ++ flat_map line_with_comma (change_features schema.now causes.now design.now.name.now design.now.after (cell, change.now))) }
 {
     let (what, row) = match (&change.before, &change.after) {
         (None, Some(after)) => (What::Added, after),
@@ -29,43 +40,64 @@ fn add_change(
         (Some(before), None) => (What::Removed, before),
         (None, None) => return Ok(()),
     };
-    let feature = row_feature(alloc, schema, causes, name, what, cell, row)?;
-    add_feature(text, &feature)
+    let feature = row_feature(alloc, schema, causes, design.name, what, cell, row)?;
+    let told = told_after(alloc, feature, &design.after)?;
+    add_feature(text, &told)
 }
 
 /// Adds the features of what a design changes, ascending.
+fn add_design(
+    alloc: Global,
+    text: &mut Vec<u8>,
+    schema: &Schema,
+    causes: &[CellId],
+    design: &Design<'_>,
+    set: &ChangeSet,
+) -> Result<(), AllocError>
+    ensures { OnOk result (text.new.items ≡ text.old.items
+        ++ flat_map line_with_comma (flat_map (change_features schema.now causes.now design.now.name.now design.now.after) (finite.entries set.now))) }
+{
+    for (cell, change) in set.iter() {
+        add_change(alloc, text, schema, causes, design, *cell, change)?;
+    }
+    Ok(())
+}
+
+/// Adds the features of what the design of a name changes, with the names of those that go before it, if that is told.
 #[tactic(auto, unfolding(crate::specs::ChangeFeatures::member_features))]
 fn add_member(
     alloc: Global,
     text: &mut Vec<u8>,
     schema: &Schema,
     causes: &[CellId],
+    before: &Option<Precedences>,
     name: &str,
     set: &ChangeSet,
 ) -> Result<(), AllocError>
-    ensures { OnOk result (text.new.items ≡ text.old.items ++ flat_map line_with_comma (member_features schema.now causes.now (name.now, set.now))) }
+    ensures { OnOk result (text.new.items ≡ text.old.items
+        ++ flat_map line_with_comma (member_features schema.now causes.now before.now (name.now, set.now))) }
 {
-    for (cell, change) in set.iter() {
-        add_change(alloc, text, schema, causes, name, *cell, change)?;
-    }
-    Ok(())
+    let after = told_of_design(alloc, name, before)?;
+    let design = Design { name, after };
+    add_design(alloc, text, schema, causes, &design, set)
 }
 
-/// Adds the features of what designs change, in the order of their names.
+/// Adds the features of what designs change, in the order of their names, with who goes before each, if that is told.
 pub(crate) fn add_changes(
     alloc: Global,
     text: &mut Vec<u8>,
     schema: &Schema,
     causes: &[CellId],
+    before: &Option<Precedences>,
     names: &[&str],
     sets: &[ChangeSet],
 ) -> Result<(), AllocError>
     ensures { OnOk result (text.new.items ≡ text.old.items
-        ++ flat_map line_with_comma (changed_features schema.now causes.now (map (λ name. name.now) names.now) sets.now)) }
+        ++ flat_map line_with_comma (changed_features schema.now causes.now before.now (map (λ name. name.now) names.now) sets.now)) }
 {
     let count = names.len().min(sets.len());
     for at in 0..count {
-        add_member(alloc, text, schema, causes, names[at], &sets[at])?;
+        add_member(alloc, text, schema, causes, before, names[at], &sets[at])?;
     }
     Ok(())
 }

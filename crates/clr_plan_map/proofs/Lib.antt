@@ -1,1 +1,2 @@
 mod LineEndLemmas
+mod SilentPaths

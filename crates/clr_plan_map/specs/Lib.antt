@@ -1,3 +1,4 @@
 pub mod LabelWords
 pub mod Maps
 pub mod Sentences
+pub mod Turns

@@ -1,8 +1,9 @@
 -- What the map of a plan tells.
-use Rattle.std.specs.Prelude.{◌≡◌, ℕ, List, [], ◌∷◌, ◌++◌, None, codes, length, pos}
+use Rattle.std.specs.Prelude.{◌≡◌, ℕ, List, [], ◌∷◌, ◌++◌, Option, None, codes, length, pos}
 use Rattle.clr_rows.specs.Contents.{Changes}
 use Rattle.clr_steps.specs.Offices.{Office}
 use Rattle.clr_steps.specs.Quiet.{MergeSet}
+use Rattle.clr_cert.specs.declared.certificates.Precedence.{Precedence}
 use Rattle.clr_clearance.specs.MergeSets.{change_sets}
 use Rattle.clr_merge_sets.specs.declared.plans.Plan.{Plan}
 use Rattle.clr_merge_sets.specs.declared.plans.Plan.TheVariants as plan
@@ -23,7 +24,9 @@ use Rattle.clr_map_scenes.specs.declared.designs.Designs.{Designs}
 use Rattle.clr_map_scenes.specs.Designs.{leaders_of as leaders_among, order_of}
 use Rattle.clr_map_frames.specs.Headings.{design_names, design_names_text}
 use Rattle.clr_plan_causes.specs.PlanCauses.{leaders_of}
+use Rattle.clr_plan_precedences.specs.PlanPrecedences.{ArePrecedencesOfPlan}
 use Rattle.clr_plan_map.specs.Sentences.{plan_sentence}
+use Rattle.clr_plan_map.specs.Turns.{ShowsTurns}
 
 -- the verdict ---------------------------------------------------------------------------------------
 
@@ -55,9 +58,17 @@ pub record ShowsVerdict (p : Plan) (layer : Layer) : Type 0 where
   pub whole : layer.elements.items ≡ Words label ∷ []
   pub seen : layer.window ≡ None
 
--- the last of some layers shows the word for a plan
-abbrev pub ShowsOver : Plan → List Layer → Type 0
-ShowsOver p layers = (below : List Layer) × (over : Layer) × ShowsVerdict p over × (layers ≡ below ++ over ∷ [])
+-- the last of some layers shows who goes before whom
+abbrev pub ShowsTurnsLast : Option (List Precedence) → List Layer → Type 0
+ShowsTurnsLast before layers = (below : List Layer) × (turns : Layer) × ShowsTurns before turns × (layers ≡ below ++ turns ∷ [])
+
+-- behind some layers there is one of the word for a plan, and no more
+abbrev pub AddsVerdict : Plan → List Layer → List Layer → Type 0
+AddsVerdict p below layers = (over : Layer) × ShowsVerdict p over × (layers ≡ below ++ over ∷ [])
+
+-- the last of some layers shows the word for a plan, and the last below it who goes before whom
+abbrev pub ShowsOver : Plan → Option (List Precedence) → List Layer → Type 0
+ShowsOver p before layers = (below : List Layer) × ShowsTurnsLast before below × AddsVerdict p below layers
 
 -- the names -----------------------------------------------------------------------------------------
 
@@ -74,13 +85,15 @@ TellsNames s p names = (d : Designs) × AreDesignsOf s p d × (names ≡ design_
 -- the page ------------------------------------------------------------------------------------------
 
 -- of members that make these changes: the title is the word for the plan with the names of the designs; the description is the plan in a sentence or two,
--- and then its lines; and the word is shown over all else
+-- and then its lines; and the word is shown over all else, and below it who goes before whom, where the plan is blocked and an order is found
 pub record IsMapPage (o : Office) (s : MergeSet) (sets : List Changes) (p : Plan) (page : SvgPage) : Type 0 where
   pub names : List ℕ
   pub named : TellsNames s p names
   pub title : page.title.items ≡ plan_word p ++ codes ": " ++ names
   pub description : page.description.items ≡ plan_sentence o s sets p ++ codes "\n" ++ plan_text o.schema s.members s.root p
-  pub shown : ShowsOver p page.layers.items
+  pub before : Option (List Precedence)
+  pub ordered : ArePrecedencesOfPlan o s p before
+  pub shown : ShowsOver p before page.layers.items
 
 -- the text of such a page
 abbrev pub IsMapOfChanges : Office → MergeSet → List Changes → Plan → List ℕ → Type 0

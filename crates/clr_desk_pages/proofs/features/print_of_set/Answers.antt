@@ -1,5 +1,6 @@
 use Rattle.std.proofs.Common.{List, ℕ, map, subst₂}
 use Rattle.clr_merge_sets.specs.MergeSetNames.{merge_set}
+use Rattle.clr_plan_features.specs.PlanFeatures.{AreFeatures}
 use Rattle.clr_desk_prints.specs.Printing.{IsFoundPlan}
 use Rattle.clr_merge_sets.proofs.ReadLemmas.{of_value}
 use Rattle.clr_desk_pages.proofs.features.print_of_set.Goals as goal
@@ -9,14 +10,19 @@ found_plan-requires c =
     let read = c.in_ok-changes.ensures in
     of_value c.args.office.now c.args.root.now (map (λ name. name.now) c.args.members.now) c.in_ok-changes.changes read.members read.names
 
+pub plan_features-requires : goal.plan_features-requires
+plan_features-requires c =
+    let read = c.in_ok-changes.ensures in
+    of_value c.args.office.now c.args.root.now (map (λ name. name.now) c.args.members.now) c.in_ok-changes.changes read.members read.names
+
 pub returns : goal.returns
 returns c =
-    let read = c.in_ok-changes.ensures in
-    let s = merge_set c.args.root.now (map (λ name. name.now) c.args.members.now) in (
+    let read = c.in_ok-changes.ensures in (
       c.in_ok-plan.plan,
       c.in_ok-text.text.items,
       subst₂ (λ (members : List (List ℕ)) (root : List ℕ). IsFoundPlan c.args.office.now (merge_set root members) c.in_ok-plan.plan) read.names
           read.members.root c.in_ok-plan.ensures,
-      c.in_ok-text.ensures s read.members read.names,
+      subst₂ (λ (members : List (List ℕ)) (root : List ℕ). AreFeatures c.args.office.now (merge_set root members) c.in_ok-plan.plan c.args.system
+          c.in_ok-text.text.items) read.names read.members.root c.in_ok-text.ensures,
       c.print_of_plan_text.ensures,
     )

@@ -14,7 +14,7 @@ loop-at-preserved c =
     let at = c.loop-at.at in
     let name = (get_or c.args.names.now at (record { ref_ptr = (0, 0); now = [] })).now in
     let set = c.index-sets-at.result in
-    let f = member_features c.args.schema.now c.args.causes.now in
+    let f = member_features c.args.schema.now c.args.causes.now c.args.before.now in
     let so_far = flat_map f (take at (zip names sets)) in
     let low : at < length c.args.names.now = omega (arith, c.min-count.ensures) in
     let is : name ≡ get_or names at name = sym (get_or-map (λ n. n.now) c.args.names.now at _ name low) in
@@ -27,6 +27,6 @@ loop-at-preserved c =
 pub returns : goal.returns
 returns c =
     c.loop-at.invariant
-    ∙ ap (λ l. c.args.text.now.items ++ flat_map line_with_comma (flat_map (member_features c.args.schema.now c.args.causes.now) l))
+    ∙ ap (λ l. c.args.text.now.items ++ flat_map line_with_comma (flat_map (member_features c.args.schema.now c.args.causes.now c.args.before.now) l))
     (all_pairs (map (λ name. name.now) c.args.names.now) c.args.sets.now c.loop-at.at
     (omega (arith, c.min-count.ensures, length-map c.args.names.now (λ n. n.now))))

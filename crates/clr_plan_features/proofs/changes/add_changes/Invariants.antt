@@ -8,4 +8,4 @@ use Rattle.clr_plan_features.proofs.changes.add_changes.Given as goal
 abbrev pub invariant-loop-at : goal.invariant-loop-at
 invariant-loop-at l =
     l.text.items ≡ l.initial.text.items
-    ++ flat_map line_with_comma (flat_map (member_features l.schema l.causes) (take l.at (zip (map (λ name. name.now) l.names) l.sets)))
+    ++ flat_map line_with_comma (flat_map (member_features l.schema l.causes l.before) (take l.at (zip (map (λ name. name.now) l.names) l.sets)))

@@ -19,7 +19,9 @@ returns c =
           title = page.title;
           description = page.description
               ∙ ap (λ (text : List ℕ). text ++ codes "\n" ++ plan_text o.schema s.members s.root p) drawn.sentence;
-          shown = page.shown;
+          before = c.in_ok-drawn.drawn.before;
+          ordered = drawn.ordered;
+          shown = (c.in_ok-drawn.drawn.layers.items, drawn.shown, page.shown);
         },
         c.in_ok-text.ensures.written,
       );

@@ -1,4 +1,4 @@
 use Rattle.clr_plan_map.proofs.maps.with_verdict.Goals as goal
 
 pub returns : goal.returns
-returns c = (c.args.layers.items, c.in_ok-verdict.verdict, c.in_ok-verdict.ensures, c.in_ok-push.ensures.items)
+returns c = (c.in_ok-verdict.verdict, c.in_ok-verdict.ensures, c.in_ok-push.ensures.items)
