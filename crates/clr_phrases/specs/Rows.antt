@@ -39,10 +39,14 @@ abbrev pub last_place : Place → List Place → Place
 last_place place [] = place
 last_place place (next ∷ places) = last_place next places
 
+-- how many vertices stand between the ends of a path, if some do
+abbrev pub between_text : ℕ → List ℕ
+between_text count = if count == 0 then [] else codes " by " ++ count_text count
+
 -- the first and the last vertex of a path, and how many stand between
 abbrev pub path_text : List Place → List ℕ
 path_text (first ∷ next ∷ places) =
-    codes "from " ++ place_text first ++ codes " by " ++ count_text (length places) ++ codes " to " ++ place_text (last_place next places)
+    codes "from " ++ place_text first ++ between_text (length places) ++ codes " to " ++ place_text (last_place next places)
 path_text _ = codes "no shape"
 
 -- where a shape is

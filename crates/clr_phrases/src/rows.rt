@@ -2,7 +2,7 @@
 
 ghost use Rattle.std.specs.Prelude.{◌≡◌, ◌++◌, IfOk, OnOk, Some, map, string_bytes};
 ghost use Rattle.clr_phrases.specs.Places.{place_text};
-ghost use Rattle.clr_phrases.specs.Rows.{byte_on_one_line, count_text, path_text, row_words, shape_text, value_text, values_text};
+ghost use Rattle.clr_phrases.specs.Rows.{between_text, byte_on_one_line, count_text, path_text, row_words, shape_text, value_text, values_text};
 
 use crate::measures::At;
 use clr_rows::{CellId, Place, Row, Schema, Shape, TableDef, Value};
@@ -66,7 +66,18 @@ fn add_count(text: &mut String, count: usize) -> Result<(), AllocError>
     text.push_str(noun)
 }
 
-/// Adds where a path goes: its first and its last vertex, and how many stand between.
+/// Adds how many vertices stand between the ends of a path, if some do.
+fn add_between(text: &mut String, count: usize) -> Result<(), AllocError>
+    ensures { OnOk result (string_bytes text.new ≡ string_bytes text.old ++ between_text count) }
+{
+    if count == 0 {
+        return Ok(());
+    }
+    text.push_str(" by ")?;
+    add_count(text, count)
+}
+
+/// Adds where a path goes: its first and its last vertex, and how many stand between, if some do.
 fn add_path(text: &mut String, vertices: &[Place]) -> Result<(), AllocError>
     ensures { OnOk result (string_bytes text.new ≡ string_bytes text.old ++ path_text vertices.now) }
 {
@@ -74,8 +85,7 @@ fn add_path(text: &mut String, vertices: &[Place]) -> Result<(), AllocError>
         [first, between @ .., last] => {
             text.push_str("from ")?;
             add_place(text, *first)?;
-            text.push_str(" by ")?;
-            add_count(text, between.len())?;
+            add_between(text, between.len())?;
             text.push_str(" to ")?;
             add_place(text, *last)
         }

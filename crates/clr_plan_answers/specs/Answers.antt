@@ -26,19 +26,31 @@ refused_text count = if count == 1 then codes ": the merge is refused.\n" else c
 abbrev pub order_sentence : List Name → List ℕ → List ℕ
 order_sentence members order = codes "Merge " ++ order_text members order ++ refused_text (length order)
 
+-- what so many members can't, or can
+abbrev pub every_order_text : ℕ → List ℕ
+every_order_text count = if count == 1 then codes ".\n" else codes " in every order.\n"
+
+abbrev pub all_or_some_text : ℕ → List ℕ
+all_or_some_text count = if count == 1 then codes ".\n" else codes " in every order, all or some of them.\n"
+
 -- the members are blocked, and in which order a merge is refused
 abbrev pub blocked_text : MergeSet → List ℕ → List ℕ
 blocked_text s order =
-    names_text s.members ++ codes " can't be merged into " ++ s.root ++ codes " in every order.\n" ++ order_sentence s.members order
+    names_text s.members ++ codes " can't be merged into " ++ s.root ++ every_order_text (length s.members) ++ order_sentence s.members order
 
 -- the members can be merged in every order
 abbrev pub mergeable_text : MergeSet → List ℕ
-mergeable_text s = names_text s.members ++ codes " can be merged into " ++ s.root ++ codes " in every order, all or some of them.\n"
+mergeable_text s = names_text s.members ++ codes " can be merged into " ++ s.root ++ all_or_some_text (length s.members)
+
+-- how so many members may be changed meanwhile
+abbrev pub untouched_text : ℕ → List ℕ
+untouched_text count =
+    if count == 1 then codes " or this design, other than by merging or refreshing it.\n"
+    else codes " or one of these designs, other than by merging or refreshing them.\n"
 
 -- how long this lasts
 abbrev pub lasting_text : MergeSet → List ℕ
-lasting_text s =
-    codes "This lasts while nobody edits " ++ s.root ++ codes " or one of these designs, other than by merging or refreshing them.\n"
+lasting_text s = codes "This lasts while nobody edits " ++ s.root ++ untouched_text (length s.members)
 
 abbrev pub cleared_text : MergeSet → List ℕ
 cleared_text s = if length s.members == 0 then codes "Nothing is to be merged.\n" else mergeable_text s ++ lasting_text s

@@ -1,8 +1,8 @@
 //! What a plan answers, in sentences.
 
-ghost use Rattle.std.specs.Prelude.{◌≡◌, ◌++◌, IfOk, OnOk, string_bytes};
-ghost use Rattle.clr_plan_answers.specs.Answers.{answer_text, blocked_text, cleared_text, lasting_text};
-ghost use Rattle.clr_plan_answers.specs.Answers.{mergeable_text, order_sentence, order_text, refused_text};
+ghost use Rattle.std.specs.Prelude.{◌≡◌, ◌++◌, IfOk, OnOk, length, string_bytes};
+ghost use Rattle.clr_plan_answers.specs.Answers.{all_or_some_text, answer_text, blocked_text, cleared_text};
+ghost use Rattle.clr_plan_answers.specs.Answers.{every_order_text, lasting_text, mergeable_text, order_sentence, order_text, refused_text, untouched_text};
 ghost use Rattle.clr_merge_sets.specs.MemberChanges.{set_of};
 
 use crate::unfit::add_unfit;
@@ -54,6 +54,39 @@ fn add_order(
     text.push_str(refused_words(order.len()))
 }
 
+/// Returns what members can't that are blocked.
+fn every_order_words(members: &MemberChanges<'_>) -> &'static str
+    ensures { result.now ≡ every_order_text (length (set_of members.now).members) }
+{
+    if members.names.len() == 1 {
+        ".\n"
+    } else {
+        " in every order.\n"
+    }
+}
+
+/// Returns what members can that are cleared.
+fn all_or_some_words(members: &MemberChanges<'_>) -> &'static str
+    ensures { result.now ≡ all_or_some_text (length (set_of members.now).members) }
+{
+    if members.names.len() == 1 {
+        ".\n"
+    } else {
+        " in every order, all or some of them.\n"
+    }
+}
+
+/// Returns how members may be changed while they are cleared.
+fn untouched_words(members: &MemberChanges<'_>) -> &'static str
+    ensures { result.now ≡ untouched_text (length (set_of members.now).members) }
+{
+    if members.names.len() == 1 {
+        " or this design, other than by merging or refreshing it.\n"
+    } else {
+        " or one of these designs, other than by merging or refreshing them.\n"
+    }
+}
+
 /// Adds the sentence that members are blocked, and in which order.
 fn add_blocked(
     text: &mut String,
@@ -65,7 +98,7 @@ fn add_blocked(
     add_names(text, members.names)?;
     text.push_str(" can't be merged into ")?;
     text.push_str(members.root)?;
-    text.push_str(" in every order.\n")?;
+    text.push_str(every_order_words(members))?;
     add_order(text, members, order)?;
     Ok(())
 }
@@ -77,7 +110,7 @@ fn add_mergeable(text: &mut String, members: &MemberChanges<'_>) -> Result<(), A
     add_names(text, members.names)?;
     text.push_str(" can be merged into ")?;
     text.push_str(members.root)?;
-    text.push_str(" in every order, all or some of them.\n")?;
+    text.push_str(all_or_some_words(members))?;
     Ok(())
 }
 
@@ -87,7 +120,7 @@ fn add_lasting(text: &mut String, members: &MemberChanges<'_>) -> Result<(), All
 {
     text.push_str("This lasts while nobody edits ")?;
     text.push_str(members.root)?;
-    text.push_str(" or one of these designs, other than by merging or refreshing them.\n")
+    text.push_str(untouched_words(members))
 }
 
 /// Adds the sentences that members can be merged in every order, and how long that lasts.
