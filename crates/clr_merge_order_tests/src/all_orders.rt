@@ -117,7 +117,7 @@ fn outcome_of_none(alloc: Global, made: &MadeUp, outcome: Outcome) -> Option<Out
 /// Returns how what is said of the members of an office turns out.
 fn outcome_over(alloc: Global, made: &MadeUp) -> Option<Outcome> {
     let names = NAMES.get(..made.count as usize)?;
-    match merge_order(alloc, &made.office, "LIVE", names) {
+    match merge_order(alloc, &made.office, "LIVE", names).ok()? {
         MergeOrder::Planned(_) => outcome_of_none(alloc, made, Outcome::Planned),
         MergeOrder::Ordered(SceneOrder::Order { order, pairs }) => {
             outcome_of_order(alloc, made, order.as_slice(), pairs.as_slice())

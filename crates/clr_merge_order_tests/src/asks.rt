@@ -2,7 +2,7 @@
 
 use clr_call_test_kit::{Hoard, Scarce};
 use clr_engine::Office;
-use clr_merge_orders::{merge_order, merge_order_lines};
+use clr_merge_orders::{MergeOrder, merge_order, merge_order_lines};
 use clr_office_test_kit::{members_of, office_after};
 use clr_ordered_plans::{certificate_of_order, plan_in_order};
 use clr_plan::plan_lines;
@@ -31,6 +31,19 @@ fn backwards(alloc: Global, count: u16) -> Result<Vec<u16>, AllocError> {
     Ok(order)
 }
 
+/// Returns the lines of an order that was asked for.
+fn found_lines(
+    alloc: Global,
+    office: &Office,
+    (root, members): (&str, &[&str]),
+    found: Result<MergeOrder, AllocError>,
+) -> Option<Vec<u8>> {
+    match found {
+        Ok(order) => merge_order_lines(alloc, office.schema(), members, root, &order).ok(),
+        Err(_) => Vec::from_slice(alloc, REFUSED).ok(),
+    }
+}
+
 impl Ask {
     /// Returns the lines that are said with so many bytes of memory.
     fn lines_within(
@@ -47,7 +60,7 @@ impl Ask {
             Ask::Found => {
                 let found = merge_order(alloc, office, root, members);
                 hoard.give_back();
-                return merge_order_lines(alloc, office.schema(), members, root, &found).ok();
+                return found_lines(alloc, office, (root, members), found);
             }
             Ask::Named => plan_in_order(alloc, office, root, members),
             Ask::Against => certificate_of_order(alloc, office, root, members, order.as_slice()),
