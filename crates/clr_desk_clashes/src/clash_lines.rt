@@ -2,7 +2,7 @@
 ghost use Rattle.std.specs.Prelude.{◌≡◌, ◌++◌, map, IfOk, OnOk};
 ghost use Rattle.std.specs.List.{flat_map};
 ghost use Rattle.clr_merge_sets.specs.MergeSetNames.{merge_set};
-ghost use Rattle.clr_desk.specs.Clashes.{clashes_text, helped_text, line_of_some};
+ghost use Rattle.clr_desk_clashes.specs.Clashes.{clashes_text, helped_text, line_of_some};
 
 use crate::clash_members::{beside, in_no_set};
 use clr_clash_helpers::HelpedClash;

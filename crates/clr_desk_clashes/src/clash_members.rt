@@ -2,7 +2,7 @@
 ghost use Rattle.std.specs.Prelude.{◌≡◌, ◌++◌, ◌∷◌, [], filter, map, IfOk, OnOk};
 ghost use Rattle.std.specs.List.{list_any, range_with_len};
 ghost use Rattle.clr_merge_sets.specs.MergeSetNames.{merge_set};
-ghost use Rattle.clr_desk.specs.Clashes.{beside, in_no_set, is_beside, is_in_no_set, is_listed_position};
+ghost use Rattle.clr_desk_clashes.specs.Clashes.{beside, in_no_set, is_beside, is_in_no_set, is_listed_position};
 
 use clr_merge_clashes::MergeClash;
 use clr_merge_sets::names_at;

@@ -3,7 +3,7 @@ ghost use Rattle.std.specs.Prelude.{◌≡◌, ◌∷◌, map, IfOk};
 ghost use Rattle.clr_merge_sets.specs.MergeSetNames.{merge_set};
 ghost use Rattle.clr_office_texts.specs.Drafts.{opened_in};
 ghost use Rattle.clr_merge_clashes.specs.MergeClashes.{IsFaultOfNames};
-ghost use Rattle.clr_desk.specs.Clashes.{IsClashesPrint, IsFoundPrint, IsMergeSetPrint};
+ghost use Rattle.clr_desk_clashes.specs.Clashes.{IsClashesPrint, IsFoundPrint, IsMergeSetPrint};
 ghost use Rattle.clr_desk_prints.specs.NameHints.{IsHinted};
 ghost use Rattle.clr_desk_prints.specs.Printing.{IsMadePrintout, IsPrintoutIn, printed};
 
@@ -11,11 +11,11 @@ use crate::clash_lines::clashes_lines;
 use clr_clash_helpers::helped_clashes;
 use clr_clearance::Verdict;
 use clr_desk_orders::plan_print;
-use clr_desk_prints::{Print, answer_over_members};
+use clr_desk_prints::{Print, RunFault, Words, answer_over_members};
 use clr_engine::Office;
 use clr_merge_clashes::{MergeClashes, merge_clashes};
 use clr_merge_sets::read_member_changes;
-use clr_office::{Plan, RunFault, Words};
+use clr_plan::Plan;
 use std::alloc::{AllocError, Global};
 
 /// Returns all sets, each with those that help it, as a text.

@@ -1,8 +1,8 @@
 use Rattle.std.proofs.Common.{◌≡◌, ◌∙◌, IfOk, List, ℕ, ap, filter, map, slice_get, subst, sym}
 use Rattle.std.specs.List.{filter_map, range_with_len}
 use Rattle.std.proofs.lemmas.List.{length-map}
-use Rattle.clr_desk.specs.Clashes.{is_beside}
-use Rattle.clr_desk.proofs.clash_members.beside.Goals as goal
+use Rattle.clr_desk_clashes.specs.Clashes.{is_beside}
+use Rattle.clr_desk_clashes.proofs.clash_members.beside.Goals as goal
 
 pub returns : goal.returns
 returns c =

@@ -1,7 +1,7 @@
 use Rattle.std.proofs.Common.{◌∙◌, ◌++◌, ◌∷◌, [], ap, filter, sym}
-use Rattle.clr_desk.specs.Clashes.{is_beside}
-use Rattle.clr_desk.proofs.Positions.{positions_more}
-use Rattle.clr_desk.proofs.clash_members.positions_beside.Goals as goal
+use Rattle.clr_desk_clashes.specs.Clashes.{is_beside}
+use Rattle.clr_desk_clashes.proofs.Positions.{positions_more}
+use Rattle.clr_desk_clashes.proofs.clash_members.positions_beside.Goals as goal
 
 pub loop-at-preserved : goal.loop-at-preserved
 loop-at-preserved c =

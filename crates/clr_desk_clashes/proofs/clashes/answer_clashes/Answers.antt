@@ -2,8 +2,8 @@ use Rattle.std.proofs.Common.{rules}
 use Rattle.clr_merge_sets.specs.MergeSetNames.{merge_set}
 use Rattle.clr_office_texts.specs.Drafts.{opened_in}
 use Rattle.clr_desk_prints.proofs.OpeningLemmas.{members_answered}
-use Rattle.clr_desk.specs.Clashes.{IsMergeSetPrint}
-use Rattle.clr_desk.proofs.clashes.answer_clashes.Goals as goal
+use Rattle.clr_desk_clashes.specs.Clashes.{IsMergeSetPrint}
+use Rattle.clr_desk_clashes.proofs.clashes.answer_clashes.Goals as goal
 
 pub returns : goal.returns
 returns c =

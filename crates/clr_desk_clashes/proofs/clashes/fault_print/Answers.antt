@@ -1,7 +1,7 @@
 use Rattle.std.proofs.Common.{inl, inr}
 use Rattle.std.proofs.lemmas.Result.{IfOk-weaker}
-use Rattle.clr_desk.specs.Clashes.{of_names}
-use Rattle.clr_desk.proofs.clashes.fault_print.Goals as goal
+use Rattle.clr_desk_clashes.specs.Clashes.{of_names}
+use Rattle.clr_desk_clashes.proofs.clashes.fault_print.Goals as goal
 
 pub returns-in_default : goal.returns-in_default
 returns-in_default c = elim c.requires [

@@ -4,8 +4,8 @@ use Rattle.clr_merge_sets.specs.MergeSetNames.{merge_set}
 use Rattle.clr_steps.specs.Readings.{changes_in}
 use Rattle.clr_clash_helpers.specs.Helpers.{AreHelped}
 use Rattle.clr_desk_prints.specs.Printing.{printout_of}
-use Rattle.clr_desk.specs.Clashes.{clashes_text}
-use Rattle.clr_desk.proofs.clashes.found_print.Goals as goal
+use Rattle.clr_desk_clashes.specs.Clashes.{clashes_text}
+use Rattle.clr_desk_clashes.proofs.clashes.found_print.Goals as goal
 
 pub helped_clashes-requires : goal.helped_clashes-requires
 helped_clashes-requires c =

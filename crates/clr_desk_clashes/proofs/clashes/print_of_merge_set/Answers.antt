@@ -1,7 +1,7 @@
 use Rattle.std.proofs.lemmas.Result.{IfOk-weaker}
-use Rattle.clr_desk.specs.Clashes.{of_found}
-use Rattle.clr_desk.proofs.ShownSets.{lines_decide}
-use Rattle.clr_desk.proofs.clashes.print_of_merge_set.Goals as goal
+use Rattle.clr_desk_clashes.specs.Clashes.{of_found}
+use Rattle.clr_desk_clashes.proofs.ShownSets.{lines_decide}
+use Rattle.clr_desk_clashes.proofs.clashes.print_of_merge_set.Goals as goal
 
 pub returns-in-Ok : goal.returns-in-Ok
 returns-in-Ok c =
