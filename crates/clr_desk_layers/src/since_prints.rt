@@ -110,7 +110,8 @@ fn print_over(
 ) -> Result<Print, AllocError>
     requires read { draft_in text.now ≡ Ok office.old }
     requires copied { FitsSchema office.old.schema copied.now }
-    ensures { IfOk result (λ p. IsDesignPrintOver copied.now (united office.old.live copied.now) name.now options may_remove layers.now office.old (printed p)) }
+    ensures { IfOk result (λ p. IsDesignPrintOver copied.now (united office.old.live copied.now) name.now options
+        may_remove layers.now office.old (printed p)) }
 {
     let taken = united_content(alloc, office.live(), copied)?;
     match wanted_content(alloc, office.schema(), copied, &taken, options, layers)? {
