@@ -72,7 +72,15 @@ pub(crate) fn answer_geographic(
         }
         GeographicAsk::DesignSince(design) => {
             let (name, options) = (design.name.as_str(), design_options(design));
-            answer_design_since(alloc, office, second, name, options, design.may_remove, layers)
+            answer_design_since(
+                alloc,
+                office,
+                second,
+                name,
+                options,
+                design.may_remove,
+                layers,
+            )
         }
         GeographicAsk::DesignScript(design) => {
             let (name, options) = (design.name.as_str(), design_options(design));

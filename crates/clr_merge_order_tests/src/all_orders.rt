@@ -62,7 +62,10 @@ fn told_under(
     let (is_done, is_odd) = told_of(alloc, made, order)?;
     let is_kept = keeps(order, pairs);
     let is_let_pass = are_let_pass(alloc, made, certificate, order)?;
-    Some((is_done, is_odd || is_let_pass != is_kept || is_kept && !is_done))
+    Some((
+        is_done,
+        is_odd || is_let_pass != is_kept || is_kept && !is_done,
+    ))
 }
 
 /// How what is said of an office turns out.
