@@ -72,15 +72,8 @@ pub(crate) fn answer_geographic(
         }
         GeographicAsk::DesignSince(design) => {
             let (name, options) = (design.name.as_str(), design_options(design));
-            answer_design_since(
-                alloc,
-                office,
-                second,
-                name,
-                options,
-                design.may_remove,
-                layers,
-            )
+            let may_remove = design.may_remove;
+            answer_design_since(alloc, office, second, name, options, may_remove, layers)
         }
         GeographicAsk::DesignScript(design) => {
             let (name, options) = (design.name.as_str(), design_options(design));
