@@ -169,7 +169,7 @@ fn orders_of_made_up_offices(rt: HostRuntime) -> Result<(), Fail> {
     let planned = count(list, Outcome::Planned);
     let wrong = count(list, Outcome::Wrong);
     assert!(rt;
-        free > 5 && paired > 5 && unhelped > 5 && wrong == 0,
+        free > 5 && paired > 5 && unhelped > 5 && stuck > 0 && planned > 5 && wrong == 0,
         "{free} free, {paired} paired, {unhelped} final, {stuck} stuck, {planned} planned, {wrong} wrong"
     );
     Ok(())
