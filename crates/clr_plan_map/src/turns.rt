@@ -87,7 +87,8 @@ fn add_arrow(column: &mut TurnColumn) -> Result<(), AllocError>
     let ink = Ink::of_line(INK, Pixels::whole(2));
     let steps = head_steps(column.sketch.allocator(), tip)?;
     column.sketch.add_line(from, tip, ink)?;
-    column.sketch.add_path(steps, ink)
+    column.sketch.add_path(steps, ink)?;
+    Ok(())
 }
 
 /// Writes a text behind where an arrow stands, and goes down a line.
@@ -142,13 +143,13 @@ fn add_more(column: &mut TurnColumn, count: usize) -> Result<(), AllocError>
 }
 
 /// Draws who goes before whom: the first precedences, and how many more there are.
-#[tactic(auto, unfolding(crate::specs::Turns::turn_lines))]
 fn add_turns(column: &mut TurnColumn, before: &[Precedence]) -> Result<(), AllocError>
     ensures { OnOk result (said column.new.sketch.elements.items ≡ said column.old.sketch.elements.items ++ turn_lines before.now) }
 {
     let end = MOST_TOLD.min(before.len());
     add_told(column, &before[..end])?;
-    add_more(column, before.len().saturating_sub(MOST_TOLD))
+    add_more(column, before.len().saturating_sub(MOST_TOLD))?;
+    Ok(())
 }
 
 /// Returns the column of an order, below the legend, which goes so far down.
