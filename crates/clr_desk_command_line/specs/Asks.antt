@@ -9,6 +9,8 @@ use Rattle.clr_rows.specs.Names.{live_name}
 use Rattle.clr_rows.specs.Schemas.{is_key}
 use Rattle.clr_records.specs.Decimals.{number_of}
 use Rattle.clr_command_line.specs.Asks.{database_and, database_of, given_names, given_value, is_set}
+use Rattle.clr_desk_command_line.specs.declared.asks.Asked.{Asked}
+use Rattle.clr_desk_command_line.specs.declared.asks.Asked.TheVariants.{OfTexts, Reach}
 use Rattle.clr_desk_command_line.specs.declared.asks.DeskAsk.{DeskAsk}
 use Rattle.clr_desk_command_line.specs.declared.asks.DeskAsk.TheVariants.{Certificate, Check, Merge, Format, Accept, Mended, Errors, Keep, Clashes, Why}
 use Rattle.clr_desk_command_line.specs.declared.asks.DeskAsk.TheVariants.{Geographic, InOrder, Map, Report, WorkOrder}
@@ -203,9 +205,28 @@ ask_by_name name rows =
     else (if bytes_eq name (codes "why") then Some (why_of rows)
     else or_others_asked (asked_of_office name) name rows)))
 
+-- what `reach` asks for, and its file
+abbrev pub reach_of : List Row → Asked × List Text
+reach_of rows = (
+  Reach (record {
+    table = given_value (codes "TABLE") rows;
+    names = given_names rows;
+    is_for_groups = is_set (codes "groups") rows;
+    is_rounded = is_set (codes "round") rows;
+  }),
+  given_value (codes "CUT") rows ∷ [],
+)
+
+abbrev pub of_texts : Option (DeskAsk × List Text) → Option (Asked × List Text)
+of_texts asked = option_map (λ p. (OfTexts p.0, p.1)) asked
+
+-- what a subcommand asks for, of texts or of a stream, and its files
+unfoldable pub asked_by_name : Text → List Row → Option (Asked × List Text)
+asked_by_name name rows = if bytes_eq name (codes "reach") then Some (reach_of rows) else of_texts (ask_by_name name rows)
+
 -- what the subcommand that words name asks for, if they name one
-abbrev pub ask_of : Option (Text × List Row) → Option (DeskAsk × List Text)
-ask_of found = option_and_then (λ p. ask_by_name p.0 p.1) found
+abbrev pub ask_of : Option (Text × List Row) → Option (Asked × List Text)
+ask_of found = option_and_then (λ p. asked_by_name p.0 p.1) found
 
 -- a subcommand reads layers
 abbrev pub reads_layers : Text → Bool
@@ -213,4 +234,4 @@ reads_layers name = bytes_eq name (codes "office") || bytes_eq name (codes "desi
 
 -- where a subcommand reads layers, each layer, the first key and the choice can be read, and no script is asked for where there is none
 abbrev pub is_readable : Option (Text × List Row) → Bool
-is_readable found = option_map_or (λ p. not (reads_layers p.0) || is_some (ask_by_name p.0 p.1)) found true
+is_readable found = option_map_or (λ p. not (reads_layers p.0) || is_some (asked_by_name p.0 p.1)) found true

@@ -84,6 +84,13 @@ accept = database_command (codes "accept")
 abbrev pub mended : App
 mended = database_command (codes "mended")
 
+-- what `reach` reads: a cut, a table and the designs
+abbrev pub reach_of_table : App
+reach_of_table = with_rule (with_rule (with_rule (new_app (codes "reach")) (value (codes "CUT"))) (value (codes "TABLE"))) name_arguments
+
+abbrev pub reach : App
+reach = with_rule (with_rule reach_of_table (flag (codes "groups"))) round
+
 -- the program with the commands that print a certificate or judge one
 abbrev pub certifying : App
 certifying = with_subcommand (with_subcommand (demanding (codes "clr_desk")) certificate.top) check.top
@@ -116,6 +123,10 @@ exporting = with_subcommand (with_subcommand drawing geojson.top) layer.top
 abbrev pub importing : App
 importing = with_subcommand (with_subcommand exporting office.top) design.top
 
--- the whole program, with the commands about old errors
+-- with the commands about old errors
+abbrev pub mending : App
+mending = with_subcommand (with_subcommand (with_subcommand importing errors.top) accept.top) mended.top
+
+-- the whole program, with the command about cuts
 abbrev pub program : App
-program = with_subcommand (with_subcommand (with_subcommand importing errors.top) accept.top) mended.top
+program = with_subcommand mending reach.top

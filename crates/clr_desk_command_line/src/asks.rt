@@ -97,3 +97,23 @@ pub enum DeskAsk {
     /// What is asked in the texts of geographic information systems.
     Geographic(GeographicAsk),
 }
+
+/// A table that is held against a cut, as it is read from a stream.
+#[derive(Debug, Drop)]
+pub struct ReachAsk {
+    pub table: Words,
+    /// The designs of the cut, or none for all.
+    pub names: Names,
+    /// Whether the cut is to have what ties designs to one another, too.
+    pub is_for_groups: bool,
+    /// Whether coordinates finer than a millimetre are rounded.
+    pub is_rounded: bool,
+}
+
+/// What is asked: of texts alone, or of an office text and a stream.
+#[derive(Debug, Drop)]
+pub enum Asked {
+    OfTexts(DeskAsk),
+    /// Which rows of a table, that is read from a stream, a cut lacks; the office text is the cut.
+    Reach(ReachAsk),
+}

@@ -2,13 +2,13 @@
 
 ghost use Rattle.std.specs.Prelude.{◌≡◌, IfOk};
 ghost use Rattle.clap.specs.Words.{app_of};
-ghost use Rattle.clr_desk_command_line.specs.Program.{drawing, importing, ordering, program};
+ghost use Rattle.clr_desk_command_line.specs.Program.{drawing, importing, mending, ordering, program};
 
 use crate::helps::{
     ABOUT, ACCEPT_PRINTS, CERTIFICATE_PRINTS, CHECK_PRINTS, CLASHES_PRINTS, DESIGN_PRINTS,
     ERRORS_PRINTS, FORMAT_PRINTS, GEOJSON_PRINTS, KEEP_PRINTS, LAYER_PRINTS, MAP_PRINTS,
-    MENDED_PRINTS, MERGE_PRINTS, OFFICE_PRINTS, ORDER_PRINTS, REPORT_PRINTS, STATUSES, WHY_PRINTS,
-    WORDS_PRINTS,
+    MENDED_PRINTS, MERGE_PRINTS, OFFICE_PRINTS, ORDER_PRINTS, REACH_PRINTS, REPORT_PRINTS,
+    STATUSES, WHY_PRINTS, WORDS_PRINTS,
 };
 use clap::Command;
 use clr_command_line::{
@@ -221,7 +221,7 @@ const OVER_NETWORKS: &[Subcommand<'static>] = &[
     },
 ];
 
-/// The last subcommands, which are about errors.
+/// The subcommands that come after those, which are about errors.
 const OVER_ERRORS: &[Subcommand<'static>] = &[
     Subcommand {
         name: "errors",
@@ -247,6 +247,29 @@ const OVER_ERRORS: &[Subcommand<'static>] = &[
     },
 ];
 
+/// The last subcommand, which is about cuts.
+const OVER_CUTS: &[Subcommand<'static>] = &[Subcommand {
+    name: "reach",
+    about: "Prints the rows of a table that a cut of the network lacks",
+    prints: REACH_PRINTS,
+    arguments: &[
+        Argument::Value(
+            "CUT",
+            "The file of an office text with the designs and some of the rows, which is JSON",
+        ),
+        Argument::Value(
+            "TABLE",
+            "The table, whose rows are read from standard input",
+        ),
+        DESIGNS,
+        Argument::Flag(
+            "groups",
+            "Print also what ties designs to one another, for groups of designs",
+        ),
+        ROUND,
+    ],
+}];
+
 /// Returns the command line with the subcommands about certificates and choices.
 fn choice_command<'a>(alloc: Global) -> Result<Command<'a>, AllocError>
     ensures { IfOk result (λ c. app_of c ≡ ordering) }
@@ -270,10 +293,18 @@ fn network_command<'a>(alloc: Global) -> Result<Command<'a>, AllocError>
     with_subcommands(alloc, command, OVER_NETWORKS)
 }
 
-/// Returns the whole command line. It is described by four tables: what a proof of one takes grows with the square of its subcommands.
-pub fn whole_command<'a>(alloc: Global) -> Result<Command<'a>, AllocError>
-    ensures { IfOk result (λ c. app_of c ≡ program) }
+/// Returns the command line with these subcommands, and those about errors.
+fn error_command<'a>(alloc: Global) -> Result<Command<'a>, AllocError>
+    ensures { IfOk result (λ c. app_of c ≡ mending) }
 {
     let command = network_command(alloc)?;
     with_subcommands(alloc, command, OVER_ERRORS)
+}
+
+/// Returns the whole command line. It is described by five tables: what a proof of one takes grows with the square of its subcommands.
+pub fn whole_command<'a>(alloc: Global) -> Result<Command<'a>, AllocError>
+    ensures { IfOk result (λ c. app_of c ≡ program) }
+{
+    let command = error_command(alloc)?;
+    with_subcommands(alloc, command, OVER_CUTS)
 }

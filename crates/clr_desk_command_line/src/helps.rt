@@ -166,3 +166,15 @@ and so does whatever else prints the office. The status is 0.
 
 Example:
   clr_desk mended office.json";
+
+pub(crate) const REACH_PRINTS: &str =
+    "It reads the rows of the table as CSV from standard input, as `clr_desk layer` prints them, and prints those that the
+cut lacks: rows that a design changes, and rows near what it brings or takes away. The cut is an office text with the
+designs and a part of the rows; rules may be broken in it. One row is read at a time, so the table may have any size.
+On standard error stand the rows that the cut has otherwise, and how many rows were read, printed, otherwise and had.
+Where a pass over each table prints nothing and all rows of the cut were had, a plan over the cut is the plan over the
+whole. Without names it takes all designs. The status is 0 where no row is printed and none is otherwise, 1 where one
+is, and 2 where a row can't be read.
+
+Example:
+  clr_desk reach cut.json main < main.csv > more.csv";

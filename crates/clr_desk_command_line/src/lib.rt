@@ -17,6 +17,6 @@ mod named_layers;
 mod reading;
 mod values;
 
-pub use asks::{DesignAsk, DeskAsk, GeographicAsk, OrderAsk, TextKind};
+pub use asks::{Asked, DesignAsk, DeskAsk, GeographicAsk, OrderAsk, ReachAsk, TextKind};
 pub use clr_command_line::AskFault;
 pub use reading::ask_of;

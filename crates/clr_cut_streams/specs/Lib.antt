@@ -1,0 +1,5 @@
+pub mod Faults
+pub mod Passes
+pub mod Seen
+pub mod Sinks
+pub mod Told

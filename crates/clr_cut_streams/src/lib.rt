@@ -1,0 +1,15 @@
+//! Passes of layers, read one record at a time, over a cut.
+//!
+//! - `pass_over`: goes over the rows of a layer, writes those that the cut lacks, and notes those that it has
+//!   otherwise. Where the source tells its bytes, it was over all rows of the layer, and the counts are those
+//!   of these rows (`clr_cut_passes`).
+//! - `CutText`: a cut, and the cells that its text lists.
+#![tactic(auto)]
+
+mod faults;
+mod passes;
+mod told;
+
+pub use faults::PassFault;
+pub use passes::pass_over;
+pub use told::{CutText, Told};

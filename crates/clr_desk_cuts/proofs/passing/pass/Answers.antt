@@ -1,0 +1,66 @@
+use Rattle.std.proofs.Common.{◌∙◌, List, ap, inl, refl, subst, sym}
+use Rattle.std.proofs.lemmas.Result.{err_from_is_err_and}
+use Rattle.clr_needs.specs.Settings.{Setting}
+use Rattle.clr_rows.specs.declared.tables.TableDef.{TableDef}
+use Rattle.clr_rules.specs.Books.{FitsBook}
+use Rattle.clr_rules.specs.declared.rules.Rule.{Rule}
+use Rattle.clr_desk_cuts.specs.Inquiries.{asked_by}
+use Rattle.clr_desk_cuts.proofs.PassLemmas.{ended_if, no_header, passed_if}
+use Rattle.clr_desk_cuts.proofs.passing.pass.Goals as goal
+
+pub returns-in_err-stream-clause-fault : goal.returns-in_err-stream-clause-fault
+returns-in_err-stream-clause-fault g c =
+    let p = err_from_is_err_and c.from_residual-in_err-stream.result c.from_residual-in_err-stream.ensures.1 in
+    rw (p.1, p.2)
+    (no_header (asked_by c.args.inquiry.now) (g.R.Read.remaining c.args.source) (g.W.Sink.contents c.args.writer.now) (g.N.Sink.contents c.args.notes.now)
+    (g.W.Sink.failed c.args.writer.now) (g.N.Sink.failed c.args.notes.now) c.in_err-stream.field-0.0 c.requires.writer c.requires.notes
+    (rw c.schema-schema.ensures.value at c.in_err-stream.ensures.fault))
+
+pub returns-in_err-put-clause-fault : goal.returns-in_err-put-clause-fault
+returns-in_err-put-clause-fault g c =
+    let p = err_from_is_err_and c.from_residual-in_err-put.result c.from_residual-in_err-put.ensures.1 in
+    rw (p.1, p.2, c.in_err-put.ensures.fault) (inl c.in_err-put.ensures.fails)
+
+pub pass_over-requires-clause-book : goal.pass_over-requires-clause-book
+pass_over-requires-clause-book g c =
+    let rules = ap (λ (s : Setting _). s.rules) c.in_ok-rows.ensures.setting in
+    subst (λ (tables : List TableDef). FitsBook tables _) (sym c.schema-schema.ensures.value)
+    (subst (λ (book : List Rule). FitsBook c.args.inquiry.now.opened.now.office.schema book) (sym rules) c.schema-schema.ensures.admitted.fit.book)
+
+pub returns-clause-whole : goal.returns-clause-whole
+returns-clause-whole g c =
+    let header = rw (c.as_slice.ensures.value, c.in_ok-header_line.ensures) at c.in_ok-put.ensures.bytes in
+    passed_if g.R.Read.remaining (g.R.Read.remaining c.args.source) (λ rows. rows) (asked_by c.args.inquiry.now) _ c.in_ok-stream.stream
+    c.args.inquiry.now.def.now _ _ _ _ _ _ _ c.pass_over.result
+    (record {
+      aim = c.in_ok-rows.ensures.aim;
+      setting = c.in_ok-rows.ensures.setting;
+      listed = refl;
+      tables = c.schema-schema.ensures.value;
+    })
+    (record {
+      tables = c.in_ok-stream.ensures.schema ∙ c.schema-schema.ensures.value;
+      table = c.in_ok-stream.ensures.table;
+      rounded = c.in_ok-stream.ensures.rounded;
+      begun = λ bytes known. c.in_ok-stream.ensures.begun bytes known;
+    })
+    c.requires.stands header c.pass_over.ensures.whole
+
+pub returns-clause-fault : goal.returns-clause-fault
+returns-clause-fault g c =
+    let header = rw (c.as_slice.ensures.value, c.in_ok-header_line.ensures) at c.in_ok-put.ensures.bytes in
+    ended_if g.R.Read.remaining (g.R.Read.remaining c.args.source) (λ rows. rows) (asked_by c.args.inquiry.now) _ c.in_ok-stream.stream
+    c.args.inquiry.now.def.now _ _ _ _ _ _ _ c.pass_over.result
+    (record {
+      aim = c.in_ok-rows.ensures.aim;
+      setting = c.in_ok-rows.ensures.setting;
+      listed = refl;
+      tables = c.schema-schema.ensures.value;
+    })
+    (record {
+      tables = c.in_ok-stream.ensures.schema ∙ c.schema-schema.ensures.value;
+      table = c.in_ok-stream.ensures.table;
+      rounded = c.in_ok-stream.ensures.rounded;
+      begun = λ bytes known. c.in_ok-stream.ensures.begun bytes known;
+    })
+    c.requires.stands header c.pass_over.ensures.fault
