@@ -1,14 +1,17 @@
 -- What a pass has told of one row more.
-use Rattle.std.proofs.Common.{◌≡◌, ◌∙◌, ◌+◌, ℕ, Bool, true, false, cond, List, [], ◌∷◌, ◌++◌, append-nil, length, length-append, map, refl, sym, ap}
+use Rattle.std.proofs.Common.{◌≡◌, ◌∙◌, ◌+◌, ◌==◌, ℕ, Bool, Bor, Option, Some, None, true, false, cond, List, [], ◌∷◌, ◌++◌, append-nil, length, length-append, map, refl, sym, ap}
 use Rattle.std.proofs.Common.{arith, subst}
 use Rattle.std.proofs.lemmas.List.{map-append}
 use Rattle.std.proofs.lemmas.Grind.{flat_map-append}
 use Rattle.std.proofs.lemmas.List.Elements.{All-cons, All-nil, filter-append}
+use Rattle.std.proofs.lemmas.Bool.Decides.{Decides-eqb}
 use Rattle.std.proofs.lemmas.Cmp.{eq_by_cmp_equiv}
 use Rattle.std.proofs.lemmas.Map.Keys.{IsDistinct-push}
 use Rattle.std.proofs.lemmas.List.Folds.{list_all-append}
 use Rattle.std.specs.Prelude.{is_some, ◌&&◌, if◌then◌else◌}
 use Rattle.std.specs.List.{IsDistinct, filter, flat_map, list_all, list_any}
+use Rattle.std.specs.Io.KnownBytes.{Appends}
+use Rattle.std.specs.Option.{option_copied}
 use Rattle.std.specs.Ordering.{eq_by_cmp}
 use Rattle.clr_rows.specs.declared.cells.CellId.{CellId}
 use Rattle.clr_rows.specs.declared.tables.TableDef.{TableDef}
@@ -20,6 +23,7 @@ use Rattle.clr_needs.specs.Settings.{Setting}
 use Rattle.clr_rules.specs.declared.rules.Rule.{Rule}
 use Rattle.clr_rules.specs.Books.{FitTogether, FitsBook, FitsCell}
 use Rattle.clr_reach.specs.declared.aims.Aim.{Aim}
+use Rattle.clr_streams.proofs.Appending.{nothing_more}
 use Rattle.clr_cut_rows.specs.declared.standings.Standing.{Standing}
 use Rattle.clr_cut_rows.specs.declared.standings.Standing.TheVariants.{Has, HasOther, Lacks, Beyond}
 use Rattle.clr_cut_rows.specs.Standings.{IsStanding}
@@ -29,6 +33,16 @@ use Rattle.clr_layer_text.specs.declared.rows.LayerRow.{LayerRow}
 use Rattle.clr_layer_text.specs.Layers.{cell_of, row_line}
 use Rattle.clr_cut_streams.specs.declared.told.Told.{Told}
 use Rattle.clr_cut_streams.specs.Told.{HasTold, cells_of_cut, has_key, held_in, is_shown, line_if_other, line_if_shown, one_more_if, other_line, others, shown, taken}
+
+-- what a look-up tells, copied or not
+pub there_as_copied : {X : Type 0} (o : Option (Bor X)) → is_some (option_copied o) ≡ is_some o
+there_as_copied (Some x) = refl
+there_as_copied None = refl
+
+-- an empty line that isn't put
+pub nothing_put : (held : Option (List ℕ)) (line : List ℕ) → (length line == 0) ≡ true → Appends held held line
+nothing_put held [] e = nothing_more held
+nothing_put held (b ∷ line) e = let none = (Decides-eqb (length (b ∷ line)) 0).0 e in absurd (omega (arith, none))
 
 module _ (aim : Aim) (c : Setting ℕ) (table : ℕ) where
   abbrev Stand : List LayerRow → List Standing → Type 0

@@ -4,6 +4,7 @@
 //!   otherwise. Where the source tells its bytes, it was over all rows of the layer, and the counts are those
 //!   of these rows (`clr_cut_passes`).
 //! - `CutText`: a cut, and the cells that its text lists.
+//! - `put_line`: writes a line to a sink, if it isn't empty.
 #![tactic(auto)]
 
 mod faults;
@@ -12,4 +13,4 @@ mod told;
 
 pub use faults::PassFault;
 pub use passes::pass_over;
-pub use told::{CutText, Told};
+pub use told::{CutText, Told, put_line};

@@ -36,9 +36,10 @@ fn note_cell(seen: &mut Differences, cell: CellId, standing: Standing) -> Result
     ensures { OnOk result (seen.new ≡ with_cell_if (is_row_there standing) seen.old cell) }
 {
     if is_row_there(standing) {
-        seen.put(cell, None)?;
+        seen.put(cell, None)
+    } else {
+        Ok(())
     }
-    Ok(())
 }
 
 /// Goes over the rows of a layer of which none was read yet, one after another, and returns what was told of
@@ -94,7 +95,7 @@ pub fn pass_over<V: RowView, F: RowFinder, R: Read + Drop, W: Sink, N: Sink>(
         if seen.get(cell).is_some() {
             return Err(PassFault::Record(stream.number(), LayersFault::KeyTwice));
         }
-        let standing = tell_row(alloc, cut, &mut told, table, &row, writer, notes)?;
+        let standing = tell_row(alloc, cut, &mut told, cell, &row, writer, notes)?;
         note_cell(&mut seen, cell, standing)?;
     }
     Err(PassFault::Unreadable)

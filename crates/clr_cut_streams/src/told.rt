@@ -2,16 +2,15 @@
 
 ghost use Rattle.std.specs.Prelude.{◌≡◌, ◌++◌, [], true, IfErr, IfOk, OnErr, OnOk};
 ghost use Rattle.std.specs.Io.KnownBytes.{Appends};
-ghost use Rattle.clr_rules.specs.Books.{FitsBook};
+ghost use Rattle.clr_rules.specs.Books.{FitsBook, FitsCell};
 ghost use Rattle.clr_foot.specs.Scenes.{IsReady};
 ghost use Rattle.clr_cut_rows.specs.Searches.{aim_of, model_of, setting_in};
 ghost use Rattle.clr_cut_rows.specs.Standings.{IsStanding};
 ghost use Rattle.clr_cut_passes.specs.Counts.{counts_of};
 ghost use Rattle.clr_cut_passes.specs.Passes.{CountsOneMoreRow};
-ghost use Rattle.clr_layer_text.specs.Layers.{IsFitting, cell_of};
 ghost use Rattle.clr_cut_streams.specs.declared.faults.PassFault.TheVariants as pass_fault;
 ghost use Rattle.clr_cut_streams.specs.Faults.{IsTellingFault};
-ghost use Rattle.clr_cut_streams.specs.Told.{held_in, is_shown, line_if_other, line_if_shown, one_more_if, other_line};
+ghost use Rattle.clr_cut_streams.specs.Told.{is_shown, line_if_other, line_if_shown, one_more_if, other_line};
 
 use crate::faults::PassFault;
 use clr_cut_passes::PassCounts;
@@ -119,12 +118,12 @@ fn line_if_other(
 {
     match standing {
         Standing::HasOther => other_line(alloc, schema, cell),
-        _ => Ok(Vec::new(alloc)),
+        Standing::Has | Standing::Lacks | Standing::Beyond => Ok(Vec::new(alloc)),
     }
 }
 
-/// Writes a line where there is one.
-fn put_line<W: Sink>(writer: &mut W, line: &[u8]) -> Result<(), PassFault>
+/// Writes a line where it isn't empty. Fails with `WriteFailed` where the sink does.
+pub fn put_line<W: Sink>(writer: &mut W, line: &[u8]) -> Result<(), PassFault>
     ensures bytes { OnOk result (Appends (W.contents writer.old) (W.contents writer.new) line.now) }
     ensures goes_on { OnOk result (W.failed writer.new ≡ W.failed writer.old) }
     ensures fails { OnErr result (W.failed writer.new ≡ true) }
@@ -136,34 +135,32 @@ fn put_line<W: Sink>(writer: &mut W, line: &[u8]) -> Result<(), PassFault>
     put(writer, line)
 }
 
-/// Takes one more row of a table, and returns how it stands to the cut. Its line is written where it is to be
-/// printed, and a note where the cut has another row at its cell.
+/// Takes one more row of a table, at its cell, and returns how it stands to the cut. Its line is written where it is
+/// to be printed, and a note where the cut has another row at the cell.
 pub(crate) fn tell_row<V: RowView, F: RowFinder, W: Sink, N: Sink>(
     alloc: Global,
     cut: &CutText<'_, V, F>,
     told: &mut Told,
-    table: u16,
+    cell: CellId,
     row: &LayerRow,
     writer: &mut W,
     notes: &mut N,
 ) -> Result<Standing, PassFault>
     requires book { FitsBook cut.now.schema.now (model_of V.content cut.now.rows.now).rules }
-    requires row { IsFitting cut.now.schema.now table row.now }
+    requires row { FitsCell cut.now.schema.now (cell, row.now.row) }
     requires ready { IsReady F.settled (model_of V.content cut.now.rows.now) }
-    ensures standing { IfOk result (IsStanding (aim_of cut.now.rows.now) (setting_in V.content cut.now.rows.now) (held_in table row.now)) }
+    ensures standing { IfOk result (IsStanding (aim_of cut.now.rows.now) (setting_in V.content cut.now.rows.now) (cell, row.now.row)) }
     ensures counts { OnOk result (CountsOneMoreRow (aim_of cut.now.rows.now) (setting_in V.content cut.now.rows.now) told.old.counts
-        (held_in table row.now) told.new.counts) }
+        (cell, row.now.row) told.new.counts) }
     ensures text { IfOk result (λ x. Appends (W.contents writer.old) (W.contents writer.new)
-        (line_if_shown (is_shown cut.now.listed.now (cell_of table row.now.key) x) row.now)) }
+        (line_if_shown (is_shown cut.now.listed.now cell x) row.now)) }
     ensures notes { IfOk result (λ x. Appends (N.contents notes.old) (N.contents notes.new)
-        (line_if_other cut.now.schema.now (cell_of table row.now.key) x)) }
+        (line_if_other cut.now.schema.now cell x)) }
     ensures printed { IfOk result (λ x. told.new.printed
-        ≡ one_more_if (is_shown cut.now.listed.now (cell_of table row.now.key) x) told.old.printed) }
+        ≡ one_more_if (is_shown cut.now.listed.now cell x) told.old.printed) }
     ensures goes_on { OnOk result ((W.failed writer.new ≡ W.failed writer.old) × (N.failed notes.new ≡ N.failed notes.old)) }
     ensures fault { IfErr result (IsTellingFault (W.failed writer.new) (N.failed notes.new)) }
 {
-    let key = row.key.unwrap_or(1);
-    let cell = CellId { table, key };
     let held = Held {
         cell,
         row: &row.row,

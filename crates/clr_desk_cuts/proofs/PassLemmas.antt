@@ -17,7 +17,7 @@ use Rattle.clr_layer_text.specs.Layers.{Fields, header_line}
 use Rattle.clr_layer_streams.specs.declared.faults.StreamFault.{StreamFault}
 use Rattle.clr_layer_streams.specs.declared.faults.StreamFault.TheVariants as of_stream
 use Rattle.clr_layer_streams.specs.declared.streams.LayerStream.{LayerStream}
-use Rattle.clr_layer_streams.specs.Streams.{HasRead, IsHeaderFault, LayerForm, form_of}
+use Rattle.clr_layer_streams.specs.Streams.{AreAllRows, HasRead, IsHeaderFault, LayerForm, form_of}
 use Rattle.clr_streams.proofs.Appending.{two_puts}
 use Rattle.clr_cut_streams.specs.declared.faults.PassFault.{PassFault}
 use Rattle.clr_cut_streams.specs.declared.faults.PassFault.TheVariants as of_pass
@@ -28,7 +28,7 @@ use Rattle.clr_cut_streams.specs.Passes.{IsFaultBehind, IsPassFault, IsWholePass
 use Rattle.clr_cut_streams.specs.Sinks.{Sinks}
 use Rattle.clr_cut_streams.specs.Told.{HasTold}
 use Rattle.clr_desk_cuts.specs.Members.{live_set}
-use Rattle.clr_desk_cuts.specs.Reach.{Asked, HasPassed, IsPassEnd, TellsOfTable, form_with, is_known}
+use Rattle.clr_desk_cuts.specs.Reach.{AreBytes, Asked, HasPassed, IsPassEnd, TellsOfTable, form_with}
 
 -- the same is told in the same setting
 same_told : (aim aim2 : Aim) (c c2 : Setting ℕ) (listed listed2 : Differences) (tables tables2 : List TableDef) (table table2 : ℕ) (rows : List LayerRow)
@@ -110,7 +110,9 @@ module _ {R V F : Type 0} {finder : Ghosts F} (remaining : R → Option (List �
       → HasPassed asked known all told
   passed told is_cut is_stream stands put h = (
     h.0,
-    λ bytes k. rw (is_stream.tables, is_stream.table, is_stream.rounded) at (h.1 bytes (is_stream.begun bytes k)),
+    λ bytes k.
+        subst (λ (form : LayerForm). AreAllRows form bytes h.0) (form_is (form_of stream) asked is_stream.tables is_stream.table is_stream.rounded)
+        (h.1 bytes (is_stream.begun bytes k)),
     tells h.0 told is_cut is_stream stands put h.2,
   )
 
@@ -127,10 +129,10 @@ module _ {R V F : Type 0} {finder : Ghosts F} (remaining : R → Option (List �
     told = h.1;
     tells = tells h.0 h.1 is_cut is_stream stands put h.2;
     behind = h.3;
-    why = subst (λ (c : Setting ℕ). IsFaultBehind (is_known known) (form_with asked (form_of stream).at) c h.0 fault) is_cut.setting
-        (subst (λ (form : LayerForm). IsFaultBehind (is_known known) form (setting_in content cut.rows.now) h.0 fault)
+    why = subst (λ (c : Setting ℕ). IsFaultBehind (AreBytes known) (form_with asked (form_of stream).at) c h.0 fault) is_cut.setting
+        (subst (λ (form : LayerForm). IsFaultBehind (AreBytes known) form (setting_in content cut.rows.now) h.0 fault)
         (form_is (form_of stream) asked is_stream.tables is_stream.table is_stream.rounded)
-        (same_fault (λ bytes. HasRead remaining bytes [] stream) (is_known known) (form_of stream) (setting_in content cut.rows.now) h.0 fault
+        (same_fault (λ bytes. HasRead remaining bytes [] stream) (AreBytes known) (form_of stream) (setting_in content cut.rows.now) h.0 fault
         is_stream.begun h.4));
   })
 

@@ -65,12 +65,12 @@ pub record TellsOfTable (asked : Asked) (rows : List LayerRow) (told : Told) (si
   pub out : WentOut sinks (header_line def ++ text) notes
 
 -- the bytes of a source, where it tells them
-abbrev pub is_known : Option (List ℕ) → List ℕ → Type 0
-is_known known bytes = known ≡ Some bytes
+abbrev pub AreBytes : Option (List ℕ) → List ℕ → Type 0
+AreBytes known bytes = known ≡ Some bytes
 
 -- these are all rows of the table, where its bytes are known
 abbrev pub AreAllOf : Asked → Option (List ℕ) → List LayerRow → Type 0
-AreAllOf asked known rows = (bytes : List ℕ) → is_known known bytes
+AreAllOf asked known rows = (bytes : List ℕ) → AreBytes known bytes
     → layer_rows_of asked.office.schema asked.table asked.options.rounded (records default_config (strip_bom bytes)) ≡ Ok rows
 
 -- a pass over all rows of a table
@@ -95,7 +95,7 @@ pub record HasStopped (asked : Asked) (known : Option (List ℕ)) (sinks : Sinks
   pub told : Told
   pub tells : TellsOfTable asked rows told sinks
   pub behind : number ≡ record_behind rows
-  pub why : IsFaultBehind (is_known known) (form_with asked at) (setting_by_position asked.office (live_set asked.members)) rows fault
+  pub why : IsFaultBehind (AreBytes known) (form_with asked at) (setting_by_position asked.office (live_set asked.members)) rows fault
 
 abbrev pub IsRecordFault : Asked → Option (List ℕ) → Sinks → ℕ → LayersFault → Type 0
 IsRecordFault asked known sinks number fault = HasNoHeader asked known sinks number fault ⊎ HasStopped asked known sinks number fault

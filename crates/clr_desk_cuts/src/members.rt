@@ -2,15 +2,33 @@
 
 ghost use Rattle.std.specs.Prelude.{◌≡◌, map, IfOk};
 ghost use Rattle.clr_clearance.specs.MergeSets.{change_sets};
-ghost use Rattle.clr_merge_sets.specs.MergeSetNames.{merge_set};
+ghost use Rattle.clr_merge_sets.specs.MergeSets.{AreParts};
 ghost use Rattle.clr_desk_cuts.specs.Members.{IsMemberAnswer, live_set};
 
 use clr_change::ChangeSet;
 use clr_clearance::Verdict;
 use clr_engine::Office;
-use clr_merge_sets::{read_merge_set, verdict_of};
+use clr_merge_sets::{MergeSetParts, read_merge_set, verdict_of};
 use clr_rows::LIVE;
 use std::alloc::{AllocError, Global};
+
+/// Returns why the designs of a merge set of LIVE, which passes the tests of names and of conflicts, can't be merged
+/// together, or none: the least cell that two of them change, or want of memory.
+fn scene_fault(
+    alloc: Global,
+    office: &Office,
+    names: &[&str],
+    parts: &MergeSetParts<'_>,
+) -> Option<Verdict>
+    requires { AreParts office.now (live_set (map (λ name. name.now) names.now)) parts.now }
+    ensures { IsMemberAnswer office.now (live_set (map (λ name. name.now) names.now)) result }
+{
+    let _names = names;
+    match parts.scene(alloc, office) {
+        Ok(_) => None,
+        Err(fault) => Some(verdict_of(fault)),
+    }
+}
 
 /// Returns why designs can't be merged into LIVE together, before any rule is looked at, or none: the first test of
 /// names or of conflicts that fails, or the least cell that two of them change, or want of memory.
@@ -23,13 +41,9 @@ pub(crate) fn member_fault(
     requires { changes.now ≡ change_sets office.now (live_set (map (λ name. name.now) names.now)) }
     ensures { IsMemberAnswer office.now (live_set (map (λ name. name.now) names.now)) result }
 {
-    let parts = match read_merge_set(alloc, office, LIVE, &names, changes) {
-        Ok(parts) => parts,
-        Err(fault) => return Some(fault),
-    };
-    match parts.scene(alloc, office) {
-        Ok(_) => None,
-        Err(fault) => Some(verdict_of(fault)),
+    match read_merge_set(alloc, office, LIVE, &names, changes) {
+        Ok(parts) => scene_fault(alloc, office, names, &parts),
+        Err(fault) => Some(fault),
     }
 }
 

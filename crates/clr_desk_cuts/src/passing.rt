@@ -1,32 +1,18 @@
 //! A pass over the rows of a table, held against a cut.
 
-ghost use Rattle.std.specs.Prelude.{◌≡◌, false, map, true, IfErr, IfOk, OnErr, OnOk, Some, slice_get};
-ghost use Rattle.std.specs.Io.KnownBytes.{Appends};
+ghost use Rattle.std.specs.Prelude.{◌≡◌, false, map, IfErr, IfOk, Some, slice_get};
 ghost use Rattle.clr_clearance.specs.MergeSets.{change_sets};
-ghost use Rattle.clr_cut_streams.specs.declared.faults.PassFault.TheVariants as pass_fault;
 ghost use Rattle.clr_desk_cuts.specs.Inquiries.{asked_by};
 ghost use Rattle.clr_desk_cuts.specs.Members.{AreTogether, live_set};
 ghost use Rattle.clr_desk_cuts.specs.Reach.{HasPassed, IsPassEnd};
 
 use crate::inquiries::{Inquiry, cut_rows};
-use clr_cut_streams::{CutText, PassFault, Told, pass_over};
+use clr_cut_streams::{CutText, PassFault, Told, pass_over, put_line};
 use clr_layer_streams::LayerStream;
 use clr_layer_text::header_line;
 use clr_streams::Sink;
 use std::alloc::Global;
 use std::io::Read;
-
-fn put<W: Sink>(writer: &mut W, text: &[u8]) -> Result<(), PassFault>
-    ensures bytes { OnOk result (Appends (W.contents writer.old) (W.contents writer.new) text.now) }
-    ensures goes_on { OnOk result (W.failed writer.new ≡ W.failed writer.old) }
-    ensures fails { OnErr result (W.failed writer.new ≡ true) }
-    ensures fault { IfErr result (λ e. e ≡ pass_fault.WriteFailed) }
-{
-    match writer.put(text) {
-        Ok(()) => Ok(()),
-        Err(_) => Err(PassFault::WriteFailed),
-    }
-}
 
 /// Goes over the rows of the table. The header is written first.
 pub(crate) fn pass<R: Read + Drop, W: Sink, N: Sink>(
@@ -69,6 +55,6 @@ pub(crate) fn pass<R: Read + Drop, W: Sink, N: Sink>(
     };
     let rounded = inquiry.options.rounded;
     let mut stream = LayerStream::open(alloc, schema, inquiry.table, rounded, source)?;
-    put(writer, header_line(alloc, inquiry.def)?.as_slice())?;
+    put_line(writer, header_line(alloc, inquiry.def)?.as_slice())?;
     pass_over(alloc, &cut, &mut stream, writer, notes)
 }

@@ -1,14 +1,9 @@
-use Rattle.std.proofs.Common.{◌≡◌, ◌∙◌, Bor, Option, Some, None, ap, is_some, refl, subst, sym}
-use Rattle.std.specs.Option.{option_copied}
+use Rattle.std.proofs.Common.{◌∙◌, ap, is_some, sym}
 use Rattle.std.proofs.lemmas.Result.{err_from_is_err_and}
-use Rattle.clr_layer_text.specs.Layers.{IsFitting}
-use Rattle.clr_layer_streams.specs.Streams.{AreAllRows, HasRead, LayerForm, form_of}
-use Rattle.clr_cut_streams.proofs.Going.{again, begun, ends, goes_on, unread, untold, without_key}
+use Rattle.clr_layer_streams.specs.Streams.{form_of}
+use Rattle.clr_cut_streams.proofs.Going.{again, begun, cell_is, ends, fits_there, goes_on, unread, untold, without_key}
+use Rattle.clr_cut_streams.proofs.TellingOn.{there_as_copied}
 use Rattle.clr_cut_streams.proofs.passes.pass_over.Goals as goal
-
-there_as_copied : {X : Type 0} (o : Option (Bor X)) → is_some (option_copied o) ≡ is_some o
-there_as_copied (Some x) = refl
-there_as_copied None = refl
 
 pub loop-init : goal.loop-init
 loop-init g c =
@@ -36,20 +31,18 @@ returns-in_default-2-clause-fault g c =
 
 pub returns-then-is_some-clause-fault : goal.returns-then-is_some-clause-fault
 returns-then-is_some-clause-fault g c =
-    let keyed = ap (λ key. is_some key) c.in-Some-2.is in
     let there = ap is_some (sym c.get.ensures) ∙ there_as_copied c.get.result ∙ sym c.is_some.ensures ∙ c.if-is_some.true in
     again g.R.Read.remaining g.V.RowView.content c.args.cut.now c.args.stream.now c.loop.stream c.next_row.new.self c.loop.seen _ c.loop.told
-    c.in-Some.row c.number-then-is_some.result c.loop.invariant c.next_row.ensures.form c.next_row.ensures.number
-    (λ bytes rows h. rw c.in-Some.is at (c.in_ok-row.ensures.row bytes rows h)) (rw (c.in-Some-2.is, ← c.table-table.ensures) there)
+    c.in-Some.row c.number-then-is_some.result (record { table = c.table-table.result; key = c.in-Some-2.key }) c.loop.invariant
+    c.next_row.ensures.form c.next_row.ensures.number (λ bytes rows h. rw c.in-Some.is at (c.in_ok-row.ensures.row bytes rows h))
+    (cell_is c.table-table.result (form_of c.args.stream.now).table c.in-Some-2.key c.in-Some.row c.table-table.ensures c.in-Some-2.is) there
     c.number-then-is_some.ensures
 
 pub tell_row-requires-clause-row : goal.tell_row-requires-clause-row
 tell_row-requires-clause-row g c =
-    let form = c.loop.invariant.form in
-    let row = c.in-Some.row in
-    let fits = rw c.in-Some.is at c.in_ok-row.ensures.fits in
-    let here = subst (λ (f : LayerForm). IsFitting f.tables f.table row) form fits in
-    rw (← c.requires.schema, c.table-table.ensures) here
+    fits_there (form_of c.args.stream.now) (form_of c.loop.stream) c.args.cut.now.schema.now c.in-Some.row
+    (record { table = c.table-table.result; key = c.in-Some-2.key }) (rw c.in-Some.is at c.in_ok-row.ensures.fits) c.loop.invariant.form c.requires.schema
+    (cell_is c.table-table.result (form_of c.args.stream.now).table c.in-Some-2.key c.in-Some.row c.table-table.ensures c.in-Some-2.is)
 
 pub returns-in_err-standing-clause-fault : goal.returns-in_err-standing-clause-fault
 returns-in_err-standing-clause-fault g c =
@@ -60,16 +53,23 @@ returns-in_err-standing-clause-fault g c =
 pub loop-preserved : goal.loop-preserved
 loop-preserved g c =
     let row = c.in-Some.row in
-    let unseen = ap is_some (sym c.get.ensures) ∙ there_as_copied c.get.result ∙ sym c.is_some.ensures ∙ c.if-is_some.false in
     let told = c.in_ok-standing.ensures in
     goes_on g.R.Read.remaining g.V.RowView.content c.args.cut.now c.args.stream.now c.loop.stream c.next_row.new.self c.loop.seen c.note_cell.new.seen
     (g.W.Sink.contents c.args.writer.now) (g.W.Sink.contents c.loop.writer) (g.W.Sink.contents c.tell_row.new.writer)
     (g.N.Sink.contents c.args.notes.now) (g.N.Sink.contents c.loop.notes) (g.N.Sink.contents c.tell_row.new.notes)
     (g.W.Sink.failed c.loop.writer) (g.W.Sink.failed c.tell_row.new.writer) (g.N.Sink.failed c.loop.notes) (g.N.Sink.failed c.tell_row.new.notes)
-    c.loop.told c.tell_row.new.told row c.in_ok-standing.standing c.loop.invariant
+    c.loop.told c.tell_row.new.told row c.in_ok-standing.standing (record { table = c.table-table.result; key = c.in-Some-2.key }) c.loop.invariant
     c.in_ok-row.ensures.reading c.next_row.ensures.form c.next_row.ensures.number
     (λ bytes rows h. rw c.in-Some.is at (c.in_ok-row.ensures.row bytes rows h))
-    (ap is_some c.in-Some-2.is) (rw (c.in-Some-2.is, ← c.table-table.ensures) unseen)
-    (rw c.table-table.ensures at told.standing) (rw c.table-table.ensures at told.counts) (rw c.table-table.ensures at told.text)
-    (rw c.table-table.ensures at told.notes) (rw c.table-table.ensures at told.printed)
-    (rw (c.in-Some-2.is, ← c.table-table.ensures) c.in_ok-note_cell.ensures) told.goes_on
+    (ap is_some c.in-Some-2.is)
+    (cell_is c.table-table.result (form_of c.args.stream.now).table c.in-Some-2.key row c.table-table.ensures c.in-Some-2.is)
+    (record {
+      is_new = ap is_some (sym c.get.ensures) ∙ there_as_copied c.get.result ∙ sym c.is_some.ensures ∙ c.if-is_some.false;
+      stands = told.standing;
+      counted = told.counts;
+      text_out = told.text;
+      notes_out = told.notes;
+      printed = told.printed;
+      is_noted = c.in_ok-note_cell.ensures;
+    })
+    told.goes_on

@@ -21,7 +21,7 @@ pub new-requires-clause-few : goal.new-requires-clause-few
 new-requires-clause-few c =
     let o = c.args.office.now in
     let names = map (λ name. name.now) c.args.names.now in
-    let few = few_members o (live_set names) c.requires.together.free c.len-_sound.ensures.sound in
+    let few = few_members o (live_set names) c.requires.together.free c.len-sound.ensures.sound in
     let long = sym (length-map c.in_ok-sets.list.items (λ set. set.now)) ∙ ap length (c.in_ok-sets.ensures ∙ c.requires.changes)
     ∙ length-map names (changes_in o) in
     omega (arith, few, long)

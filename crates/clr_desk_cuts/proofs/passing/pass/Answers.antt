@@ -16,10 +16,10 @@ returns-in_err-stream-clause-fault g c =
     (g.W.Sink.failed c.args.writer.now) (g.N.Sink.failed c.args.notes.now) c.in_err-stream.field-0.0 c.requires.writer c.requires.notes
     (rw c.schema-schema.ensures.value at c.in_err-stream.ensures.fault))
 
-pub returns-in_err-put-clause-fault : goal.returns-in_err-put-clause-fault
-returns-in_err-put-clause-fault g c =
-    let p = err_from_is_err_and c.from_residual-in_err-put.result c.from_residual-in_err-put.ensures.1 in
-    rw (p.1, p.2, c.in_err-put.ensures.fault) (inl c.in_err-put.ensures.fails)
+pub returns-in_err-put_line-clause-fault : goal.returns-in_err-put_line-clause-fault
+returns-in_err-put_line-clause-fault g c =
+    let p = err_from_is_err_and c.from_residual-in_err-put_line.result c.from_residual-in_err-put_line.ensures.1 in
+    rw (p.1, p.2, c.in_err-put_line.ensures.fault) (inl c.in_err-put_line.ensures.fails)
 
 pub pass_over-requires-clause-book : goal.pass_over-requires-clause-book
 pass_over-requires-clause-book g c =
@@ -29,7 +29,7 @@ pass_over-requires-clause-book g c =
 
 pub returns-clause-whole : goal.returns-clause-whole
 returns-clause-whole g c =
-    let header = rw (c.as_slice.ensures.value, c.in_ok-header_line.ensures) at c.in_ok-put.ensures.bytes in
+    let header = rw (c.as_slice.ensures.value, c.in_ok-header_line.ensures) at c.in_ok-put_line.ensures.bytes in
     passed_if g.R.Read.remaining (g.R.Read.remaining c.args.source) (λ rows. rows) (asked_by c.args.inquiry.now) _ c.in_ok-stream.stream
     c.args.inquiry.now.def.now _ _ _ _ _ _ _ c.pass_over.result
     (record {
@@ -48,7 +48,7 @@ returns-clause-whole g c =
 
 pub returns-clause-fault : goal.returns-clause-fault
 returns-clause-fault g c =
-    let header = rw (c.as_slice.ensures.value, c.in_ok-header_line.ensures) at c.in_ok-put.ensures.bytes in
+    let header = rw (c.as_slice.ensures.value, c.in_ok-header_line.ensures) at c.in_ok-put_line.ensures.bytes in
     ended_if g.R.Read.remaining (g.R.Read.remaining c.args.source) (λ rows. rows) (asked_by c.args.inquiry.now) _ c.in_ok-stream.stream
     c.args.inquiry.now.def.now _ _ _ _ _ _ _ c.pass_over.result
     (record {
