@@ -131,19 +131,19 @@ for_cause o s sets order place (verdict.SharedCell q first second) = undoing set
 for_cause o s sets order place (verdict.Uncovered need) = for_need o s sets order place need
 for_cause o s sets order place _ = []
 
--- one of several members is left out
-abbrev pub leaving_out : MergeSet → List ℕ → List Action
-leaving_out s order = if nat_lt 1 (length s.members) then map action.LeaveOut order else []
+-- one of several members in the order is left out
+abbrev pub leaving_out : List ℕ → List Action
+leaving_out order = if nat_lt 1 (length order) then map action.LeaveOut order else []
 
 -- where a row that serves the need of a cause would have to stand; another cause asks for no place
 abbrev pub IsPlaceOfCause : Office → MergeSet → Verdict → Meeting → Type 0
 IsPlaceOfCause o s (verdict.Uncovered need) place = IsPlaceIn o s need place
 IsPlaceOfCause o s _ place = place ≡ meeting.NoParts
 
--- what may clear members that are blocked in this order for this cause: it is taken away, or a member left out
+-- what may clear members that are blocked in this order for this cause: it is taken away, or a member of the order left out
 abbrev pub AreForCause : Office → MergeSet → List Changes → List ℕ → Verdict → List Action → Type 0
 AreForCause o s sets order cause actions =
-    (place : Meeting) × IsPlaceOfCause o s cause place × (actions ≡ for_cause o s sets order place cause ++ leaving_out s order)
+    (place : Meeting) × IsPlaceOfCause o s cause place × (actions ≡ for_cause o s sets order place cause ++ leaving_out order)
 
 -- what is tried of a plan: nothing where the members aren't blocked
 abbrev pub AreRemedies : Office → MergeSet → Plan → List Action → Type 0

@@ -79,15 +79,11 @@ fn add_for_cause(
     }
 }
 
-/// Adds that one of several members is left out.
-fn add_leaving_out(
-    list: &mut Vec<Action>,
-    members: &MemberChanges<'_>,
-    order: &[usize],
-) -> Result<(), AllocError>
-    ensures { OnOk result (list.new.items ≡ list.old.items ++ leaving_out (set_of members.now) order.now) }
+/// Adds that one of several members in an order is left out.
+fn add_leaving_out(list: &mut Vec<Action>, order: &[usize]) -> Result<(), AllocError>
+    ensures { OnOk result (list.new.items ≡ list.old.items ++ leaving_out order.now) }
 {
-    if members.names.len() <= 1 {
+    if order.len() <= 1 {
         return Ok(());
     }
     for member in order {
@@ -96,8 +92,8 @@ fn add_leaving_out(
     Ok(())
 }
 
-/// Returns what may clear a set of members that is blocked in this order for this cause. That one is
-/// left out stands last, and isn't tried where there is but one.
+/// Returns what may clear a set of members that is blocked in this order for this cause. That one of the
+/// order is left out stands last, and isn't tried where there is but one.
 fn remedies_for(
     setting: Setting<'_>,
     order: &[usize],
@@ -108,7 +104,7 @@ fn remedies_for(
 {
     let mut list = Vec::new(setting.alloc);
     add_for_cause(setting, &mut list, order, cause)?;
-    add_leaving_out(&mut list, setting.members, order)?;
+    add_leaving_out(&mut list, order)?;
     Ok(list)
 }
 

@@ -11,6 +11,6 @@ returns c = λ are.
     let cause = for_cause c.args.setting.office.now (set_of m) m.changes.items c.args.order.now place c.args.cause.now in (
       place,
       placed,
-      c.in_ok-add_leaving_out.ensures ∙ ap (λ (list : List Action). list ++ leaving_out (set_of m) c.args.order.now)
+      c.in_ok-add_leaving_out.ensures ∙ ap (λ (list : List Action). list ++ leaving_out c.args.order.now)
           (is ∙ ap (λ (list : List Action). list ++ cause) c.new-list.ensures.items),
     )

@@ -1,0 +1,74 @@
+//! What the planner answers of members, in short.
+
+ghost use Rattle.std.specs.Prelude.{◌≡◌, map, string_bytes, IfOk};
+ghost use Rattle.clr_merge_sets.specs.MemberChanges.{set_of};
+ghost use Rattle.clr_merge_sets.specs.MergeSetNames.{merge_set};
+ghost use Rattle.clr_work_orders.specs.Among.{part_of};
+ghost use Rattle.clr_work_orders.specs.Answers.{why_not};
+ghost use Rattle.clr_work_orders.specs.Trials.{TellsAnswer};
+
+use clr_engine::Office;
+use clr_merge_sets::{names_at, read_member_changes};
+use clr_plan::{Plan, plan_changes};
+use clr_plan_sentences::Setting;
+use clr_rows::Words;
+use std::alloc::{AllocError, Global};
+
+/// What the planner answers of members, in short.
+#[derive(Debug, Drop)]
+pub struct Answer {
+    pub is_cleared: bool,
+    /// Why they aren't cleared, a line; nothing where they are.
+    pub why: Words,
+}
+
+/// Returns why a plan isn't cleared, on a line; nothing of one that is.
+fn why_not(setting: Setting<'_>, plan: &Plan) -> Result<String, AllocError>
+    ensures { IfOk result (λ text. string_bytes text ≡ why_not setting.entry.office.now (set_of setting.entry.members.now) plan.now) }
+{
+    match plan {
+        Plan::Blocked { cause, .. } => setting.cause_note(cause),
+        Plan::Unfit(_) => String::from_str(setting.alloc, "A name has to be mended first.\n"),
+        Plan::Cleared(_) | Plan::OutOfMemory => Ok(String::new(setting.alloc)),
+    }
+}
+
+/// Returns what `plan` answers of members, in short. Where the plan has no memory, this call fails too.
+fn answer_of(
+    alloc: Global,
+    office: &Office,
+    root: &str,
+    names: &[&str],
+) -> Result<Answer, AllocError>
+    ensures { IfOk result (TellsAnswer office.now (merge_set root.now (map (λ name. name.now) names.now))) }
+{
+    let members = read_member_changes(alloc, office, root, names)?;
+    let planned = plan_changes(alloc, office, root, names, members.changes.as_slice());
+    if planned.is_out_of_memory() {
+        return Err(AllocError);
+    }
+    let setting = Setting {
+        alloc,
+        office,
+        members: &members,
+    };
+    let why = why_not(setting, &planned)?;
+    Ok(Answer {
+        is_cleared: planned.is_cleared(),
+        why: Words::new(why),
+    })
+}
+
+/// Returns what `plan` answers of the members at some positions alone, in short. Where the plan has no memory, this call fails too.
+pub(crate) fn answer_at(
+    alloc: Global,
+    office: &Office,
+    root: &str,
+    names: &[&str],
+    positions: &[usize],
+) -> Result<Answer, AllocError>
+    ensures { IfOk result (TellsAnswer office.now (part_of (merge_set root.now (map (λ name. name.now) names.now)) positions.now)) }
+{
+    let part = names_at(alloc, names, positions)?;
+    answer_of(alloc, office, root, part.as_slice())
+}
