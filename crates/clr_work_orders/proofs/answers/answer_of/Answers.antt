@@ -27,5 +27,5 @@ returns c =
       found = found;
       alike = λ q is there. one_plan o s p q c.plan_changes-planned.ensures.plan is found there;
       cleared = c.is_cleared.ensures;
-      why = subst₂ (λ (names : List Name) (root : Name). why ≡ why_not o (merge_set root names) p) read.names read.members.root c.in_ok-why.ensures;
+      why = c.new.ensures ∙ subst₂ (λ (names : List Name) (root : Name). why ≡ why_not o (merge_set root names) p) read.names read.members.root c.in_ok-why.ensures;
     }
