@@ -247,6 +247,14 @@ elif ! is_current; then
     clean_up
     exec 9>&-
 fi
+# Who asks for the version at a terminal is told from what the program was built, too.
+if [ "$*" = --version ] && [ -t 2 ]; then
+    if [ -n "$released" ]; then
+        say "$(grep -e "^sources of $program: " -e '^toolchain: ' -- "${released%/bin/*}/PROOF" | paste -sd ';')"
+    else
+        say "sources of $program: $(digest_of_sources | cut -d ' ' -f 1); toolchain: $(kit_of_program)"
+    fi
+fi
 # Where the system has large pages, the C library takes the program's memory in these, 16 MB at a time, and gives none back before the end.
 export GLIBC_TUNABLES=${GLIBC_TUNABLES-glibc.malloc.hugetlb=1:glibc.malloc.top_pad=16777216:glibc.malloc.trim_threshold=1073741824}
 exec "$out/$program" "$@"

@@ -447,11 +447,16 @@ static bool is_right_merge(const struct session *session, const struct end *end)
     struct bytes others = out_of(session, up_to(session->count) & ~lost);
     rest = end->out;
     for (int name = 0; name < session->count; name++) {
-        struct bytes line = has(lost, name) ? text(LOST) : line_of(others);
-        if (!begins(rest, line)) {
+        struct bytes line = has(lost, name) ? text(LOST) : line_of(others), own = line;
+        char stopped[32];
+        if (begins(line, text("notquiet "))) { /* its number counts the names that are lost too */
+            snprintf(stopped, sizeof stopped, "notquiet %d\n", name + 1);
+            own = text(stopped);
+        }
+        if (!begins(rest, own)) {
             return false;
         }
-        rest = behind(rest, line.length);
+        rest = behind(rest, own.length);
         others = has(lost, name) ? others : behind(others, line.length);
     }
     return lost != 0 && same(rest, others) && end->err.length == 0 && end->status == 3;

@@ -14,12 +14,12 @@ use clr_plan::{Plan, plan, plan_lines};
 use clr_rows::{Schema, Words};
 use std::alloc::{AllocError, Global};
 
-/// What is said of one more name beside those taken.
+/// What is said of one more name that is tried with those taken.
 #[derive(Drop)]
-pub(crate) enum TriedName {
-    /// The members are cleared together, by this certificate.
+pub enum TriedName {
+    /// It is taken, by this certificate of them all.
     Taken(Certificate),
-    /// The members aren't cleared together, and these lines say why.
+    /// It is left, and these lines say why.
     Left(Vec<u8>),
 }
 
@@ -45,8 +45,10 @@ pub fn plan_members(alloc: Global, office: &Office, root: &str, members: &[&str]
     plan(alloc, office, root, members)
 }
 
-/// Returns the line that a name is left, and the lines of the plan that says why.
-fn refusal_lines(
+/// Returns the line that a name is left, and the lines of the plan that says why. It fails only for want of memory.
+///
+/// For example, `left W2`, and then `blocked 1 W2` and the line of the cause.
+pub fn refusal_lines(
     alloc: Global,
     schema: &Schema,
     root: &str,

@@ -23,7 +23,7 @@ use Rattle.clr_clearance.specs.Verdicts.{member_fault}
 use Rattle.clr_merge_sets.specs.Faults as faults
 use Rattle.clr_merge_sets.specs.Faults.{IsMergeSetFault, verdict_of}
 use Rattle.clr_clash_helpers.specs.Helpers.{AreTogether, HelpsAt, Touch}
-use Rattle.clr_clash_helpers.specs.Refusals.{IsRefused}
+use Rattle.clr_clash_helpers.specs.FailedTests.{IsRefused}
 
 -- tests of facts that say the same
 pub retold : {P Q : Type 0} (told : Bool) → (P → Q) → (Q → P) → IsTestOf told P → IsTestOf told Q

@@ -1,2 +1,2 @@
 pub mod Helpers
-pub mod Refusals
+pub mod FailedTests

@@ -12,7 +12,6 @@
 mod helped;
 mod helping;
 mod listing;
-mod reading;
 mod refusals;
 mod touching;
 

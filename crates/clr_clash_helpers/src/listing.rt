@@ -6,10 +6,10 @@ ghost use Rattle.clr_merge_clashes.specs.Laws.{merge_set_of_part};
 ghost use Rattle.clr_clash_helpers.specs.Helpers.{AreHelpers, IsHelperAt, Touch};
 
 use crate::helping::helps_at;
-use crate::reading::sets_at;
 use crate::touching::touch;
 use clr_engine::Office;
 use clr_member_changes::MemberChanges;
+use clr_merge_clashes::sets_at;
 use clr_merge_sets::names_at;
 use clr_needs::Need;
 use std::alloc::{AllocError, Global};

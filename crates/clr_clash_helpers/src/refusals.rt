@@ -1,6 +1,6 @@
 //! What a test answers of members that can't stand together.
 ghost use Rattle.std.specs.Prelude.{IfOk};
-ghost use Rattle.clr_clash_helpers.specs.Refusals.{IsRefused};
+ghost use Rattle.clr_clash_helpers.specs.FailedTests.{IsRefused};
 
 use clr_clearance::Verdict;
 use std::alloc::AllocError;

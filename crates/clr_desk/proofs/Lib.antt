@@ -5,8 +5,6 @@ mod OneChoice
 mod OneDeskAnswer
 mod OnePrint
 mod PlaceLemmas
-mod Positions
-mod ShownSets
 mod Trying
 mod Untorn
 mod WaitingLemmas

@@ -14,7 +14,7 @@ use Rattle.clr_desk_command_line.specs.declared.asks.DeskAsk.TheVariants as ask
 use Rattle.clr_desk.specs.Certificates.{IsCertificatePrint}
 use Rattle.clr_desk.specs.Checks.{IsCheckPrint}
 use Rattle.clr_desk.specs.Choices.{IsChoicePrint}
-use Rattle.clr_desk.specs.Clashes.{IsClashesPrint}
+use Rattle.clr_desk_clashes.specs.Clashes.{IsClashesPrint}
 use Rattle.clr_desk.specs.Formats.{IsFormatPrint}
 use Rattle.clr_desk.specs.Geographic.{IsGeographicAnswer}
 use Rattle.clr_desk.specs.InOrder.{IsInOrderPrint}

@@ -2,7 +2,6 @@ pub mod Answers
 pub mod Certificates
 pub mod Checks
 pub mod Choices
-pub mod Clashes
 pub mod FaultPlaces
 pub mod Formats
 pub mod Geographic

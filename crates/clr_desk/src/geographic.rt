@@ -66,30 +66,18 @@ pub(crate) fn answer_geographic(
         GeographicAsk::ErrorFeatures(system) => {
             answer_error_features(alloc, office, system.as_ref())
         }
-        GeographicAsk::Design(design) => answer_design(
-            alloc,
-            office,
-            design.name.as_str(),
-            design_options(design),
-            design.may_remove,
-            layers,
-        ),
-        GeographicAsk::DesignSince(design) => answer_design_since(
-            alloc,
-            office,
-            second,
-            design.name.as_str(),
-            design_options(design),
-            design.may_remove,
-            layers,
-        ),
-        GeographicAsk::DesignScript(design) => answer_design_script(
-            alloc,
-            office,
-            design.name.as_str(),
-            design_options(design),
-            design.may_remove,
-            layers,
-        ),
+        GeographicAsk::Design(design) => {
+            let (name, options) = (design.name.as_str(), design_options(design));
+            answer_design(alloc, office, name, options, design.may_remove, layers)
+        }
+        GeographicAsk::DesignSince(design) => {
+            let (name, options) = (design.name.as_str(), design_options(design));
+            let may_remove = design.may_remove;
+            answer_design_since(alloc, office, second, name, options, may_remove, layers)
+        }
+        GeographicAsk::DesignScript(design) => {
+            let (name, options) = (design.name.as_str(), design_options(design));
+            answer_design_script(alloc, office, name, options, design.may_remove, layers)
+        }
     }
 }

@@ -22,8 +22,8 @@ pub(crate) struct KnownOffice {
     pub known: KnownNeeds,
 }
 
-/// Returns the office of a draft, with all that is broken in it as known.
-pub(crate) fn admitted(draft: Draft) -> Result<Office, AllocError>
+/// Returns the office of a draft, with all that is broken in it as known. It fails only for want of memory.
+pub fn admitted(draft: Draft) -> Result<Office, AllocError>
     ensures { IfOk result (λ office. office ≡ draft) }
 {
     let needs = draft.broken_needs()?;

@@ -4,6 +4,7 @@
 //! - `answer_mended`: the known needs of a text that aren't broken any more (`AreMended`).
 //! - `answer_errors`: each broken need of LIVE with its rule as a sentence, its rows, its place, and whether it is known (`IsErrorsPrint`);
 //!   `answer_error_features`: the same as GeoJSON, with a point for each (`IsErrorFeaturesAnswer`).
+//! - `admitted`: the office of a draft, with all that is broken in it as known.
 //! - `accepted_print`: the text of an office with its errors accepted, and as notes how many they are, by rule (`IsAcceptedPrint`).
 #![tactic(auto)]
 
@@ -14,7 +15,7 @@ mod error_places;
 mod listed_errors;
 mod mended;
 
-pub use accepting::{accepted_print, answer_accept};
+pub use accepting::{accepted_print, admitted, answer_accept};
 pub use error_features::answer_error_features;
 pub use error_lines::answer_errors;
 pub use mended::answer_mended;

@@ -99,7 +99,8 @@ fn design_unless_removing(
 ) -> Result<Print, AllocError>
     requires fits { FitsSchema office.old.schema content.now }
     requires edits { edits.now ≡ edits_from office.old.live content.now }
-    ensures { IfOk result (λ p. IsPrintUnlessRemoving may_remove office.old.live (IsPrintOfDesign name.now office.old.live) office.old content.now (printed p)) }
+    ensures { IfOk result (λ p. IsPrintUnlessRemoving may_remove office.old.live (IsPrintOfDesign name.now office.old.live)
+        office.old content.now (printed p)) }
 {
     match removal_in(may_remove, edits) {
         Some(cell) => removal(alloc, office.schema(), cell),

@@ -13,7 +13,7 @@ ghost use Rattle.clr_desk_layers.specs.Since.{IsDraftFitting};
 
 use clr_change::ChangeSet;
 use clr_deltas::{Delta, Differences, StoredPart};
-use clr_engine::{Draft, Office};
+use clr_engine::Draft;
 use clr_office_reading::{OfficeParts, read_office};
 use clr_rows::{LIVE, Sheet, Words};
 use clr_tree::Tree;
@@ -86,16 +86,4 @@ pub(crate) fn draft_with_design(
         return Err(AllocError);
     };
     Ok(Draft::of_tree(alloc, schema, book, tree))
-}
-
-/// Returns the office of a draft, with all that is broken in it as known.
-pub(crate) fn admitted(draft: Draft) -> Result<Office, AllocError>
-    ensures { IfOk result (λ office. office ≡ draft) }
-{
-    let needs = draft.broken_needs()?;
-    match draft.admit(needs.as_slice()) {
-        Ok(office) => Ok(office),
-        // (only for want of memory, since each broken need is known)
-        Err(_) => Err(AllocError),
-    }
 }

@@ -14,9 +14,10 @@ use crate::design_counts::{removal_in, with_counts};
 use crate::design_prints::{print_of_fault, print_of_refusal};
 use crate::layer_refusals::{other_schema, removal};
 use crate::schemas::first_other;
-use crate::since_drafts::{admitted, draft_with_design};
+use crate::since_drafts::draft_with_design;
 use clr_change::Edit;
 use clr_designs::make_design;
+use clr_desk_errors::admitted;
 use clr_desk_prints::Print;
 use clr_engine::{Draft, Office};
 use clr_layer_changes::{GivenLayer, LayerOptions, edits_between, united_content, wanted_content};
@@ -109,7 +110,8 @@ fn print_over(
 ) -> Result<Print, AllocError>
     requires read { draft_in text.now ≡ Ok office.old }
     requires copied { FitsSchema office.old.schema copied.now }
-    ensures { IfOk result (λ p. IsDesignPrintOver copied.now (united office.old.live copied.now) name.now options may_remove layers.now office.old (printed p)) }
+    ensures { IfOk result (λ p. IsDesignPrintOver copied.now (united office.old.live copied.now) name.now options
+        may_remove layers.now office.old (printed p)) }
 {
     let taken = united_content(alloc, office.live(), copied)?;
     match wanted_content(alloc, office.schema(), copied, &taken, options, layers)? {

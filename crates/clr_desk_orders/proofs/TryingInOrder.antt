@@ -15,8 +15,8 @@ use Rattle.clr_merge_sets.specs.declared.plans.Plan.TheVariants as plan
 use Rattle.clr_choices.specs.declared.choices.Choice.{Choice}
 use Rattle.clr_choices.specs.ChoiceLines.{left_text, refusal_text}
 use Rattle.clr_choices.specs.Trials.{Trial, is_taken, taken_in}
-use Rattle.clr_desk_orders.specs.declared.choices.TriedName.{TriedName}
-use Rattle.clr_desk_orders.specs.declared.choices.TriedName.TheVariants as answer
+use Rattle.clr_choices.specs.declared.trials.TriedName.{TriedName}
+use Rattle.clr_choices.specs.declared.trials.TriedName.TheVariants as answer
 use Rattle.clr_desk_orders.specs.ChoicesInOrder.{AreTrialsInOrder, IsAddedTo, IsChosenInOrder, IsRefusalInOrder, IsToldInOrder, IsTrialInOrder, IsTriedInOrder}
 use Rattle.clr_desk_orders.specs.PlansInOrder.{IsPlannedInOrder}
 

@@ -14,8 +14,8 @@ use Rattle.clr_choices.specs.ChoiceLines.{left_text, refusal_text}
 use Rattle.clr_choices.specs.Trials.{Trial, is_taken, members_tried, taken_in}
 use Rattle.clr_desk_prints.specs.Members.{members_or_children}
 use Rattle.clr_desk_prints.specs.Printing.{PrintoutOrFault}
-use Rattle.clr_desk_orders.specs.declared.choices.TriedName.{TriedName}
-use Rattle.clr_desk_orders.specs.declared.choices.TriedName.TheVariants as tried
+use Rattle.clr_choices.specs.declared.trials.TriedName.{TriedName}
+use Rattle.clr_choices.specs.declared.trials.TriedName.TheVariants as tried
 use Rattle.clr_desk_orders.specs.ChoicePrints.{choice_print}
 use Rattle.clr_desk_orders.specs.PlanPrints.{plan_print}
 use Rattle.clr_desk_orders.specs.PlansInOrder.{IsPlannedInOrder}

@@ -1,7 +1,6 @@
 //! Names that are gone through in their order, each taken where it can be merged next behind those taken.
 ghost use Rattle.std.specs.Prelude.{◌≡◌, ◌∷◌, ◌++◌, [], List, map, IfOk, OnOk};
 ghost use Rattle.clr_workspaces.specs.Marks.{Name};
-ghost use Rattle.clr_choices.specs.ChoiceLines.{refusal_text};
 ghost use Rattle.clr_merge_sets.specs.MergeSetNames.{merge_set};
 ghost use Rattle.clr_merge_sets.specs.declared.plans.Plan.TheVariants as plan;
 ghost use Rattle.clr_desk_orders.specs.ChoicesInOrder.{IsAddedTo, IsChosenInOrder, IsTriedInOrder};
@@ -9,22 +8,12 @@ ghost use Rattle.clr_desk_orders.specs.PlansInOrder.{IsPlannedInOrder};
 
 use crate::certificates::planned_in_order;
 use clr_cert::Certificate;
-use clr_choices::Choice;
+use clr_choices::{Choice, TriedName, refusal_lines};
 use clr_desk_prints::Words;
 use clr_engine::Office;
 use clr_merge_sets::texts_of_names;
-use clr_plan::{Plan, plan_lines};
-use clr_rows::Schema;
+use clr_plan::Plan;
 use std::alloc::{AllocError, Global};
-
-/// What is said of one more name behind those taken.
-#[derive(Drop)]
-pub(crate) enum TriedName {
-    /// It can be merged next, by this certificate of them all.
-    Taken(Certificate),
-    /// It can't be merged next, and these lines say why.
-    Left(Vec<u8>),
-}
 
 /// Returns names and one more.
 fn members_with<'a>(
@@ -37,25 +26,6 @@ fn members_with<'a>(
     let mut members = texts_of_names(alloc, taken)?;
     members.push(name.as_str())?;
     Ok(members)
-}
-
-/// Returns the line that a name is left, and the lines of the plan that says why.
-fn refusal_lines(
-    alloc: Global,
-    schema: &Schema,
-    root: &str,
-    members: &[&str],
-    name: &str,
-    plan: &Plan,
-) -> Result<Vec<u8>, AllocError>
-    ensures { IfOk result (λ lines. lines.items ≡ refusal_text schema.now root.now (map (λ name. name.now) members.now) name.now plan.now) }
-{
-    let mut lines = Vec::from_slice(alloc, b"left ")?;
-    lines.extend_from_slice(name.as_bytes())?;
-    lines.extend_from_slice(b"\n")?;
-    let told = plan_lines(alloc, schema, members, root, plan)?;
-    lines.extend_from_slice(told.as_slice())?;
-    Ok(lines)
 }
 
 /// Tries members in this order, of which the last is a name that is tried. Where the plan finds no memory, this call fails too.

@@ -12,6 +12,7 @@
 //! - `all_are_looked_at`: where no cell is changed by two members, all are looked at.
 //! - `clashes_decide_plans`: of members without conflicts and shared cells, the plan of some is cleared
 //!   exactly where they hold none of the smallest clashes of their scene.
+//! - `sets_at`: the change sets at some positions.
 #![tactic(auto)]
 
 mod clash_sets;
@@ -27,3 +28,4 @@ mod shared_cells;
 pub use clash_sets::{MergeClash, MergeClashes};
 pub use clashes::{merge_clashes, merge_clashes_of};
 pub use laws::{all_are_looked_at, clashes_decide_plans, sets_decide_plans};
+pub use places::sets_at;

@@ -21,8 +21,8 @@ fn add_set<'a>(
     Ok(())
 }
 
-/// Returns the change sets at some positions, which aren't copied; one past the end has none.
-pub(crate) fn sets_at<'a>(
+/// Returns the change sets at some positions, which aren't copied; one past the end has none. It fails only for want of memory.
+pub fn sets_at<'a>(
     alloc: Global,
     sets: &'a [ChangeSet],
     positions: &[usize],

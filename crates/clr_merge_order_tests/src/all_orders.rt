@@ -62,7 +62,10 @@ fn told_under(
     let (is_done, is_odd) = told_of(alloc, made, order)?;
     let is_kept = keeps(order, pairs);
     let is_let_pass = are_let_pass(alloc, made, certificate, order)?;
-    Some((is_done, is_odd || is_let_pass != is_kept || is_kept && !is_done))
+    Some((
+        is_done,
+        is_odd || is_let_pass != is_kept || is_kept && !is_done,
+    ))
 }
 
 /// How what is said of an office turns out.
@@ -166,7 +169,7 @@ fn orders_of_made_up_offices(rt: HostRuntime) -> Result<(), Fail> {
     let planned = count(list, Outcome::Planned);
     let wrong = count(list, Outcome::Wrong);
     assert!(rt;
-        free > 5 && paired > 5 && unhelped > 5 && wrong == 0,
+        free > 5 && paired > 5 && unhelped > 5 && stuck > 0 && planned > 5 && wrong == 0,
         "{free} free, {paired} paired, {unhelped} final, {stuck} stuck, {planned} planned, {wrong} wrong"
     );
     Ok(())

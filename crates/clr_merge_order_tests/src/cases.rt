@@ -54,7 +54,7 @@ insert,node,21,valve,2,2
 ----
 LIVE W1 W2 W3
 ----
-order 3 W2 W1 W3
+order 3 W2 W3 W1
 before W2 W1
 ====
 crossing
@@ -70,7 +70,7 @@ insert,node,20,valve,25,5
 ----
 LIVE W1 W2 W3
 ----
-order 3 W1 W3 W2
+order 3 W3 W1 W2
 before W3 W2
 ====
 ";

@@ -1,4 +1,4 @@
-//! Offices that dice make, with up to five members that lay mains and nodes, give codes away and take them.
+//! Offices that dice make, with up to five members: in some these lay mains and nodes, and in others they give codes away and take them.
 
 use clr_call_test_kit::Dice;
 use clr_engine::Office;
@@ -64,16 +64,50 @@ fn add_edits(
     Ok(())
 }
 
-/// Returns edits of LIVE, and then of each of some workspaces under it.
-fn script(alloc: Global, dice: &mut Dice, names: &[&str]) -> Result<String, AllocError> {
-    let mut script = String::new(alloc);
-    add_edits(alloc, dice, &mut script, "LIVE", 10)?;
+/// Adds that a workspace `Other` is created under LIVE, and then some more.
+fn add_creates(alloc: Global, script: &mut String, names: &[&str]) -> Result<(), AllocError> {
+    script.push_str("create,Other,LIVE\n")?;
     for name in names {
         let create = format!(in alloc; "create,{name},LIVE\n")?;
         script.push_str(create.as_str())?;
     }
+    Ok(())
+}
+
+/// Returns edits of LIVE, and then of each of some workspaces under it, in a network of mains and nodes.
+fn network_script(alloc: Global, dice: &mut Dice, names: &[&str]) -> Result<String, AllocError> {
+    let mut script = String::new(alloc);
+    add_edits(alloc, dice, &mut script, "LIVE", 10)?;
+    add_creates(alloc, &mut script, names)?;
     for name in names {
         add_edits(alloc, dice, &mut script, name, 2)?;
+    }
+    Ok(script)
+}
+
+/// Returns the code that one of so many members takes: that of one of their rows, or one that no row has.
+fn wanted_code(dice: &mut Dice, count: u64) -> &'static str {
+    let codes = match count {
+        2 => ["A", "B", "F", "G", "H", "F", "G", "H"],
+        3 => ["A", "B", "C", "F", "G", "H", "F", "G"],
+        4 => ["A", "B", "C", "D", "F", "G", "H", "F"],
+        _ => ["A", "B", "C", "D", "E", "F", "G", "H"],
+    };
+    codes[dice.throw(8) as usize]
+}
+
+/// Returns edits of LIVE, which then has five codes, and one of each of some workspaces under it, which gives a row of its own another code.
+fn code_script(alloc: Global, dice: &mut Dice, names: &[&str]) -> Result<String, AllocError> {
+    let codes =
+        "apply,LIVE,4\ninsert,code,2,B\ninsert,code,3,C\ninsert,code,4,D\ninsert,code,5,E\n";
+    let mut script = String::from_str(alloc, codes)?;
+    add_creates(alloc, &mut script, names)?;
+    let mut key: u64 = 1;
+    for name in names {
+        let code = wanted_code(dice, names.len() as u64);
+        let step = format!(in alloc; "apply,{name},1\nupdate,code,{key},{code}\n")?;
+        script.push_str(step.as_str())?;
+        key = key.saturating_add(1);
     }
     Ok(script)
 }
@@ -92,12 +126,17 @@ fn text_of(alloc: Global, office: &Office) -> Option<String> {
     String::from_str(alloc, str::from_utf8(bytes.as_slice()).ok()?).ok()
 }
 
-/// Returns the office that a seed makes, with two to five members.
+/// Returns the office that a seed makes, with two to five members: of an even one a network of mains and nodes, of an odd one codes.
 pub(crate) fn made_up(alloc: Global, seed: u64) -> Option<MadeUp> {
     let mut dice = Dice::new(seed);
     let count = 2 + dice.throw(4);
-    let script = script(alloc, &mut dice, NAMES.get(..count as usize)?).ok()?;
-    let mut office = office_of(alloc, network("one main")?)?;
+    let names = NAMES.get(..count as usize)?;
+    let (kind, script) = if seed % 2 == 0 {
+        ("one main", network_script(alloc, &mut dice, names).ok()?)
+    } else {
+        ("one code", code_script(alloc, &mut dice, names).ok()?)
+    };
+    let mut office = office_of(alloc, network(kind)?)?;
     perform_script(alloc, &mut office, script.as_str())?;
     let text = text_of(alloc, &office)?;
     Some(MadeUp {

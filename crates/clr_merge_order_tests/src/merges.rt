@@ -9,13 +9,13 @@ use clr_office_test_kit::{commands_of, office_of, perform_script};
 use clr_ordered_plans::{certificate_of_order, names_in_order, plan_in_order};
 use std::alloc::Global;
 
-/// Returns the merges of members in an order, each behind a refresh of the last of them.
+/// Returns the merges of members in an order, each behind refreshes of the last of them and of a workspace that is no member.
 fn merges_in(alloc: Global, order: &[u16]) -> Option<String> {
     let last = NAMES.get(*order.last()? as usize)?;
     let mut merges = String::new(alloc);
     for member in order {
         let name = NAMES.get(*member as usize)?;
-        let steps = format!(in alloc; "refresh,{last}\nmerge,{name},keep\n").ok()?;
+        let steps = format!(in alloc; "refresh,{last}\nrefresh,Other\nmerge,{name},keep\n").ok()?;
         merges.push_str(steps.as_str()).ok()?;
     }
     Some(merges)
@@ -28,11 +28,15 @@ pub(crate) fn are_done(alloc: Global, made: &MadeUp, order: &[u16]) -> Option<bo
     perform_script(alloc, &mut office, merges.as_str())
 }
 
-/// Returns whether the plan in an order is cleared; none where nothing is planned.
+/// Returns whether the plan in an order is cleared; none where nothing is planned, or where its certificate doesn't let the merges pass in this
+/// order.
 pub(crate) fn is_cleared(alloc: Global, made: &MadeUp, order: &[u16]) -> Option<bool> {
     let names = names_in_order(alloc, &NAMES, order).ok()?;
     match plan_in_order(alloc, &made.office, "LIVE", names.as_slice()) {
-        Plan::Cleared(_) => Some(true),
+        Plan::Cleared(certificate) => {
+            let is_let_pass = are_let_pass(alloc, made, &certificate, order)?;
+            if is_let_pass { Some(true) } else { None }
+        }
         Plan::Blocked { .. } => Some(false),
         _ => None,
     }

@@ -1,3 +1,2 @@
 pub mod MoreBefore
 pub mod PromiseLaws
-pub mod WithoutOrders

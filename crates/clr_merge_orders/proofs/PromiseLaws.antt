@@ -3,7 +3,7 @@ use Rattle.std.proofs.Common.{◌≡◌, ◌∙◌, ◌<◌, ◌==◌, ◌&&◌,
 use Rattle.std.proofs.Common.{drop, get_or, length, map, slice_get, take, refl, sym, ap, subst, arith}
 use Rattle.std.specs.List.{cons_option, list_any}
 use Rattle.std.proofs.lemmas.Bool.{and_from, false≢true, or_cases, or_left, or_right}
-use Rattle.std.proofs.lemmas.List.{length-map, take-append-drop}
+use Rattle.std.proofs.lemmas.List.{length-map, take_all, take-append-drop}
 use Rattle.std.proofs.lemmas.Option.{slice_get-get_or}
 use Rattle.clr_rows.specs.Contents.{row_at}
 use Rattle.clr_rules.specs.Needs.{BreaksNoMore, View}
@@ -13,7 +13,7 @@ use Rattle.clr_needs.specs.declared.needs.Need.{Need}
 use Rattle.clr_needs.specs.Covers.{Entry}
 use Rattle.clr_needs.specs.Members.{AreApart}
 use Rattle.clr_needs.specs.Positions.{by_position}
-use Rattle.clr_needs.specs.Settings.{DoChange, Lived, Setting, view_with}
+use Rattle.clr_needs.specs.Settings.{AreAmong, DoChange, Lived, Setting, view_with}
 use Rattle.clr_needs.specs.Settings as settings
 use Rattle.clr_needs.proofs.BlockerLaws.{member_below}
 use Rattle.clr_steps.specs.Names.{same_name}
@@ -38,11 +38,11 @@ use Rattle.clr_ordered_clearance.proofs.HeadlineLemmas.{headline_in_turn}
 use Rattle.clr_order_answers.specs.declared.pairs.Pair.{Pair}
 use Rattle.clr_scene_orders.specs.declared.scene_orders.SceneOrder.{SceneOrder}
 use Rattle.clr_scene_orders.specs.declared.scene_orders.SceneOrder.TheVariants as scene_order
-use Rattle.clr_scene_orders.specs.SceneOrders.{EachListBreaks, IsOrderBy, order_by}
-use Rattle.clr_scene_orders.proofs.Answers.{final_breaks}
+use Rattle.clr_scene_orders.specs.SceneOrders.{EachListBreaks, IsFinal, IsOrderBy, order_by}
+use Rattle.clr_scene_orders.proofs.Sides.{has_of, has_same, is_open, opens}
 use Rattle.clr_scene_orders.proofs.Covering.{pair_by}
 use Rattle.clr_merge_orders.specs.declared.merge_orders.MergeOrder.TheVariants as merge_order
-use Rattle.clr_merge_orders.specs.MergeOrders.{IsClearedBy, IsEachOrderRefused, IsFoundOrder, IsOrderOf, PromisesOrder, name_at, ordered_by}
+use Rattle.clr_merge_orders.specs.MergeOrders.{IsClearedBy, IsEachOrderRefused, IsFoundOrder, IsOrderOf, IsRefusedWith, PromisesOrder, name_at, ordered_by}
 use Rattle.clr_merge_orders.proofs.MoreBefore.{covered_by_more}
 
 -- who is among the first members of a list is in it
@@ -96,11 +96,11 @@ module _ (o : Office) (s : MergeSet) where
     rows_are : (order : List ℕ) → view_with c order ≡ rows_with o s (members_at s order)
     rows_are order = ap (λ (d : Setting ℕ). view_with d order) (numbered_is o s) ∙ (λ i cell. rows_at o s order cell i)
 
-    refused_at : (order : List ℕ) (k : ℕ) (n : Need) (a : Lived ℕ) (b : Option (Lived ℕ)) → ListsAll c order → IsOpen c n a b
+    refused_at : (order : List ℕ) (k : ℕ) (n : Need) (a : Lived ℕ) (b : Option (Lived ℕ)) → AreAmong c order c.members → IsOpen c n a b
         → IsBrokenWith c n a b (take k order) → is_order_refused o (members_at s order) ≡ true
-    refused_at order k n a b lists is_open broken =
+    refused_at order k n a b among is_open broken =
         let first = take k order in
-        let breaking = (states_are_told c).broken first n a b (λ x y q hx hy. apart q x y) do_change (λ x h. sym (lists.members x) ∙ first_among c.same order k x h)
+        let breaking = (states_are_told c).broken first n a b (λ x y q hx hy. apart q x y) do_change (λ x h. among x (first_among c.same order k x h))
         is_open broken in
         let refused = breaking_is_refused o s mergeable (members_at s first) (names_part o s first)
         (λ good. breaking (subst (λ (view : View). BreaksNoMore o.book (row_at (root_content o s)) view) (sym (rows_are first)) good)) in
@@ -108,7 +108,20 @@ module _ (o : Office) (s : MergeSet) where
         (ap (is_order_refused o) (members_joined s first (drop k order)) ∙ refused_more o (members_at s first) (members_at s (drop k order)) refused)
 
     each_refused : EachListBreaks c → IsEachOrderRefused o s
-    each_refused each order lists = let (k, n, a, b, is_open, broken) = each order lists in refused_at order k n a b lists is_open broken
+    each_refused each order lists =
+        let (k, n, a, b, is_open, broken) = each order lists in
+        refused_at order k n a b (λ x h. sym (lists.members x) ∙ h) is_open broken
+
+    final_refused : (need : Need) (blockers : List ℕ) → IsFinal c need blockers → IsRefusedWith o s blockers
+    final_refused need blockers final list all among =
+        let op = opens c need final.is_open in
+        refused_at list (length list) need op.first op.second among (is_open c need op) (record {
+          blockers = λ y h. whole y ∙ all y (has_same blockers y ∙ has_of blockers y (((final.blockers op.first op.second op.possible).exactly y).1 h));
+          helpers = λ x h. absurd (final.unhelped x (op.first, op.second, op.possible, h));
+        })
+      where
+        whole : (y : ℕ) → settings.has c.same (take (length list) list) y ≡ settings.has c.same list y
+        whole y = ap (λ xs. settings.has c.same xs y) (take_all (length list) list (omega arith))
 
   -- the order is cleared under its pairs ------------------------------------------------------------------------------
 
@@ -146,8 +159,7 @@ module _ (o : Office) (s : MergeSet) where
 
   order_promise : (order : SceneOrder) → IsOrderOf o s order → PromisesOrder o s order
   order_promise (scene_order.Order order pairs) is = cleared_by order.items pairs.items is.told.2 (mergeable_of o s is.free is.apart)
-  order_promise (scene_order.Final need members) is = each_refused (mergeable_of o s is.free is.apart) is.apart
-      (final_breaks o.book (root_content o s) (change_sets o s) need members.items is.told)
+  order_promise (scene_order.Final need members) is = final_refused (mergeable_of o s is.free is.apart) is.apart need members.items is.told
   order_promise (scene_order.Stuck members) is = each_refused (mergeable_of o s is.free is.apart) is.apart is.told.2
   order_promise (scene_order.TooMany members) is = tt
 

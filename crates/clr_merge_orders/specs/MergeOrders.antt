@@ -3,6 +3,7 @@ use Rattle.std.specs.Prelude.{◌≡◌, ℕ, true, false, List, [], None, get_o
 use Rattle.clr_workspaces.specs.Marks.{Name}
 use Rattle.clr_needs.specs.Covers.{Entry}
 use Rattle.clr_needs.specs.Members.{AreApart}
+use Rattle.clr_needs.specs.Settings.{AreAmong}
 use Rattle.clr_steps.specs.Offices.{Office}
 use Rattle.clr_steps.specs.Quiet.{MergeSet}
 use Rattle.clr_clearance.specs.MergeSets.{change_sets, setting_by_position}
@@ -56,9 +57,14 @@ IsClearedBy o s pairs = ((entries : List Entry) × CoversInTurn o (ordered_by s 
 abbrev pub IsEachOrderRefused : Office → MergeSet → Type 0
 IsEachOrderRefused o s = (order : List ℕ) → ListsAll (setting_by_position o s) order → is_order_refused o (members_at s order) ≡ true
 
+-- in each list of members among which are all of these, whichever others are, one of the merges meets a conflict or breaks a rule
+abbrev pub IsRefusedWith : Office → MergeSet → List ℕ → Type 0
+IsRefusedWith o s blockers = let c = setting_by_position o s in
+    (list : List ℕ) → AreAmong c blockers list → AreAmong c list c.members → is_order_refused o (members_at s list) ≡ true
+
 abbrev pub PromisesOrder : Office → MergeSet → SceneOrder → Type 0
 PromisesOrder o s (scene_order.Order order pairs) = IsClearedBy o s pairs.items
-PromisesOrder o s (scene_order.Final need members) = IsEachOrderRefused o s
+PromisesOrder o s (scene_order.Final need members) = IsRefusedWith o s members.items
 PromisesOrder o s (scene_order.Stuck members) = IsEachOrderRefused o s
 PromisesOrder o s (scene_order.TooMany members) = Unit {0}
 

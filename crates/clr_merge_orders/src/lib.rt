@@ -7,8 +7,8 @@
 //!   it, or a knot of too many members.
 //! - What it promises (`Promises`): where it gives an order, some entries cover the members under the
 //!   pairs; so the headline holds for every list of quiet commands in which the merges come in turn.
-//!   Where it names a need that no member helps, or says that there is no order, in each order of all
-//!   members some merge is refused.
+//!   Where it names a need that no member helps, some merge is refused in each order of members that has
+//!   all of those which block it; where it says that there is no order, in each order of all members.
 //! - `merge_order` [`lost`] fails only for want of memory, and never where a test of names fails.
 //! - `merge_order_lines` gives exactly the bytes of the lines of it, with the names of members, memory
 //!   aside.

@@ -34,16 +34,20 @@ ordered_text s order pairs =
 
 -- no order ----------------------------------------------------------------------------------------------------
 
--- the one member that blocks a need is refused whenever it is merged
-abbrev pub alone_text : MergeSet → List ℕ → List ℕ
-alone_text s blockers =
-    codes "No order helps: " ++ names_text (members_at s blockers) ++ codes " is refused whenever it is merged. Change it, or leave it out.\n"
+-- behind the name of the one member that blocks a need which none of so many members helps
+abbrev pub refused_end : ℕ → List ℕ
+refused_end count =
+    if count == 1 then codes " is refused. Change it, or name a design that helps it.\n"
+    else codes " is refused in each order of these designs. Change it, leave it out, or name a design that helps it.\n"
 
--- each order that merges all members that block a need is refused
+abbrev pub alone_text : MergeSet → List ℕ → List ℕ
+alone_text s blockers = names_text (members_at s blockers) ++ refused_end (length s.members)
+
+-- each order of members is refused that merges all of those which block a need
 abbrev pub together_text : MergeSet → List ℕ → List ℕ
 together_text s blockers =
-    codes "No order of " ++ names_text (members_at s blockers)
-    ++ codes " works: each order that merges them all is refused. Change one of them, or leave it out.\n"
+    codes "No order of these designs works: each that merges " ++ names_text (members_at s blockers)
+    ++ codes " is refused. Change one of them, leave one out, or name a design that helps.\n"
 
 -- a need that no member helps, by the members that block it
 abbrev pub final_text : MergeSet → List ℕ → List ℕ

@@ -1,6 +1,6 @@
 //! What is said of the orders of members, in sentences.
 
-ghost use Rattle.std.specs.Prelude.{◌≡◌, ◌++◌, IfOk, OnOk, string_bytes};
+ghost use Rattle.std.specs.Prelude.{◌≡◌, ◌++◌, IfOk, OnOk, length, string_bytes};
 ghost use Rattle.clr_clearance.specs.Plans.{members_at};
 ghost use Rattle.clr_merge_sets.specs.MemberChanges.{AreMembers, set_of};
 ghost use Rattle.clr_order_sentences.specs.OrderSentences.{
@@ -10,6 +10,7 @@ ghost use Rattle.clr_order_sentences.specs.OrderSentences.{
   final_text,
   merge_order_sentences,
   ordered_text,
+  refused_end,
   scene_order_sentences,
   stuck_text,
   together_text,
@@ -61,7 +62,18 @@ fn add_ordered(
     Ok(())
 }
 
-/// Adds that the one member that blocks a need is refused whenever it is merged.
+/// Returns what is said of the one member that blocks a need which none of the members helps.
+fn refused_end(members: &MemberChanges<'_>) -> &'static str
+    ensures { result.now ≡ refused_end (length (set_of members.now).members) }
+{
+    if members.names.len() == 1 {
+        " is refused. Change it, or name a design that helps it.\n"
+    } else {
+        " is refused in each order of these designs. Change it, leave it out, or name a design that helps it.\n"
+    }
+}
+
+/// Adds that the one member that blocks a need is refused.
 fn add_alone(
     alloc: Global,
     text: &mut String,
@@ -70,13 +82,12 @@ fn add_alone(
 ) -> Result<(), AllocError>
     ensures { OnOk result (string_bytes text.new ≡ string_bytes text.old ++ alone_text (set_of members.now) blockers.now) }
 {
-    text.push_str("No order helps: ")?;
     add_members_at(alloc, text, members, blockers)?;
-    text.push_str(" is refused whenever it is merged. Change it, or leave it out.\n")?;
+    text.push_str(refused_end(members))?;
     Ok(())
 }
 
-/// Adds that each order is refused that merges all members that block a need.
+/// Adds that each order of members is refused that merges all of those which block a need.
 fn add_together(
     alloc: Global,
     text: &mut String,
@@ -85,15 +96,15 @@ fn add_together(
 ) -> Result<(), AllocError>
     ensures { OnOk result (string_bytes text.new ≡ string_bytes text.old ++ together_text (set_of members.now) blockers.now) }
 {
-    text.push_str("No order of ")?;
+    text.push_str("No order of these designs works: each that merges ")?;
     add_members_at(alloc, text, members, blockers)?;
     text.push_str(
-        " works: each order that merges them all is refused. Change one of them, or leave it out.\n",
+        " is refused. Change one of them, leave one out, or name a design that helps.\n",
     )?;
     Ok(())
 }
 
-/// Adds that no order helps the members that block a need.
+/// Adds that no member helps those that block a need.
 fn add_final(
     alloc: Global,
     text: &mut String,

@@ -120,7 +120,8 @@ fn add_lasting(text: &mut String, members: &MemberChanges<'_>) -> Result<(), All
 {
     text.push_str("This lasts while nobody edits ")?;
     text.push_str(members.root)?;
-    text.push_str(untouched_words(members))
+    text.push_str(untouched_words(members))?;
+    Ok(())
 }
 
 /// Adds the sentences that members can be merged in every order, and how long that lasts.

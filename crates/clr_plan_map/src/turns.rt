@@ -18,14 +18,14 @@ const GAP: Pixels = Pixels { tenths: 110 };
 
 /// A column of text below the legend, and how far down its next line stands.
 #[derive(Drop)]
-struct Column {
+struct TurnColumn {
     sketch: Sketch,
     down: Pixels,
 }
 
 /// Writes a line of text that begins so far from the left of the column, in the height of its next line.
 fn say(
-    column: &mut Column,
+    column: &mut TurnColumn,
     words: &str,
     right: i64,
     size: i64,
@@ -46,7 +46,7 @@ fn say(
 }
 
 /// Writes the heading, and goes down a line.
-fn add_heading(column: &mut Column) -> Result<(), AllocError>
+fn add_heading(column: &mut TurnColumn) -> Result<(), AllocError>
     ensures { OnOk result (said column.new.sketch.elements.items
         ≡ said column.old.sketch.elements.items ++ codes "CLEARED IN THIS ORDER" ∷ []) }
 {
@@ -72,7 +72,7 @@ fn head_steps(alloc: Global, tip: PagePoint) -> Result<Vec<PathCommand>, AllocEr
 }
 
 /// Draws an arrow at the height of the next line.
-fn add_arrow(column: &mut Column) -> Result<(), AllocError>
+fn add_arrow(column: &mut TurnColumn) -> Result<(), AllocError>
     ensures { OnOk result (said column.new.sketch.elements.items ≡ said column.old.sketch.elements.items) }
 {
     let middle = column.down - Pixels::whole(4);
@@ -87,11 +87,12 @@ fn add_arrow(column: &mut Column) -> Result<(), AllocError>
     let ink = Ink::of_line(INK, Pixels::whole(2));
     let steps = head_steps(column.sketch.allocator(), tip)?;
     column.sketch.add_line(from, tip, ink)?;
-    column.sketch.add_path(steps, ink)
+    column.sketch.add_path(steps, ink)?;
+    Ok(())
 }
 
 /// Writes a text behind where an arrow stands, and goes down a line.
-fn add_line(column: &mut Column, words: &str) -> Result<(), AllocError>
+fn add_line(column: &mut TurnColumn, words: &str) -> Result<(), AllocError>
     ensures { OnOk result (said column.new.sketch.elements.items ≡ said column.old.sketch.elements.items ++ words.now ∷ []) }
 {
     say(column, words, 50, 13, INK, Weight::Plain)?;
@@ -110,7 +111,7 @@ fn turn_text(alloc: Global, precedence: &Precedence) -> Result<String, AllocErro
 }
 
 /// Draws the line of a precedence, behind an arrow.
-fn add_turn(column: &mut Column, precedence: &Precedence) -> Result<(), AllocError>
+fn add_turn(column: &mut TurnColumn, precedence: &Precedence) -> Result<(), AllocError>
     ensures { OnOk result (said column.new.sketch.elements.items
         ≡ said column.old.sketch.elements.items ++ turn_text precedence.now ∷ []) }
 {
@@ -120,7 +121,7 @@ fn add_turn(column: &mut Column, precedence: &Precedence) -> Result<(), AllocErr
 }
 
 /// Draws the lines of these precedences.
-fn add_told(column: &mut Column, before: &[Precedence]) -> Result<(), AllocError>
+fn add_told(column: &mut TurnColumn, before: &[Precedence]) -> Result<(), AllocError>
     ensures { OnOk result (said column.new.sketch.elements.items
         ≡ said column.old.sketch.elements.items ++ map turn_text before.now) }
 {
@@ -131,7 +132,7 @@ fn add_told(column: &mut Column, before: &[Precedence]) -> Result<(), AllocError
 }
 
 /// Writes how many more precedences there are, if there are more.
-fn add_more(column: &mut Column, count: usize) -> Result<(), AllocError>
+fn add_more(column: &mut TurnColumn, count: usize) -> Result<(), AllocError>
     ensures { OnOk result (said column.new.sketch.elements.items ≡ said column.old.sketch.elements.items ++ more_lines count) }
 {
     if count == 0 {
@@ -142,20 +143,20 @@ fn add_more(column: &mut Column, count: usize) -> Result<(), AllocError>
 }
 
 /// Draws who goes before whom: the first precedences, and how many more there are.
-#[tactic(auto, unfolding(crate::specs::Turns::turn_lines))]
-fn add_turns(column: &mut Column, before: &[Precedence]) -> Result<(), AllocError>
+fn add_turns(column: &mut TurnColumn, before: &[Precedence]) -> Result<(), AllocError>
     ensures { OnOk result (said column.new.sketch.elements.items ≡ said column.old.sketch.elements.items ++ turn_lines before.now) }
 {
     let end = MOST_TOLD.min(before.len());
     add_told(column, &before[..end])?;
-    add_more(column, before.len().saturating_sub(MOST_TOLD))
+    add_more(column, before.len().saturating_sub(MOST_TOLD))?;
+    Ok(())
 }
 
 /// Returns the column of an order, below the legend, which goes so far down.
-fn column_of(alloc: Global, before: &[Precedence], down: Pixels) -> Result<Column, AllocError>
+fn column_of(alloc: Global, before: &[Precedence], down: Pixels) -> Result<TurnColumn, AllocError>
     ensures { IfOk result (λ column. said column.sketch.elements.items ≡ codes "CLEARED IN THIS ORDER" ∷ turn_lines before.now) }
 {
-    let mut column = Column {
+    let mut column = TurnColumn {
         sketch: Sketch::new(alloc),
         down: down + GAP,
     };

@@ -3,7 +3,7 @@ use Rattle.std.proofs.lemmas.Result.{IfOk-weaker}
 use Rattle.clr_needs.specs.Needs.{IsPossibleNeed}
 use Rattle.clr_merge_sets.specs.MergeSetNames.{merge_set}
 use Rattle.clr_clash_helpers.specs.Helpers.{HelpsAt}
-use Rattle.clr_clash_helpers.specs.Refusals.{IsRefused}
+use Rattle.clr_clash_helpers.specs.FailedTests.{IsRefused}
 use Rattle.clr_clash_helpers.proofs.HelperLemmas.{help_told, shared_refuses}
 use Rattle.clr_clash_helpers.proofs.helping.helps_in.Goals as goal
 

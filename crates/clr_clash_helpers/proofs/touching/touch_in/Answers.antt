@@ -2,7 +2,7 @@ use Rattle.std.proofs.Common.{map, subst}
 use Rattle.std.proofs.lemmas.Result.{IfOk-weaker}
 use Rattle.clr_merge_sets.specs.MergeSetNames.{merge_set}
 use Rattle.clr_clash_helpers.specs.Helpers.{Touch}
-use Rattle.clr_clash_helpers.specs.Refusals.{IsRefused}
+use Rattle.clr_clash_helpers.specs.FailedTests.{IsRefused}
 use Rattle.clr_clash_helpers.proofs.HelperLemmas.{shared_refuses, touch_told}
 use Rattle.clr_clash_helpers.proofs.touching.touch_in.Goals as goal
 

@@ -1,6 +1,6 @@
 use Rattle.std.proofs.Common.{◌∙◌, ◌++◌, ◌∷◌, [], ap, filter, sym}
 use Rattle.clr_desk.specs.Waiting.{is_done_at}
-use Rattle.clr_desk.proofs.Positions.{positions_more}
+use Rattle.clr_desk_clashes.proofs.Positions.{positions_more}
 use Rattle.clr_desk.proofs.waiting.done_positions.Goals as goal
 
 pub loop-at-preserved : goal.loop-at-preserved

@@ -10,6 +10,11 @@ found_plan-requires c =
     let read = c.in_ok-changes.ensures in
     of_value c.args.office.now c.args.root.now (map (λ name. name.now) c.args.members.now) c.in_ok-changes.changes read.members read.names
 
+pub plan_map-requires : goal.plan_map-requires
+plan_map-requires c =
+    let read = c.in_ok-changes.ensures in
+    of_value c.args.office.now c.args.root.now (map (λ name. name.now) c.args.members.now) c.in_ok-changes.changes read.members read.names
+
 pub returns : goal.returns
 returns c =
     let read = c.in_ok-changes.ensures in (

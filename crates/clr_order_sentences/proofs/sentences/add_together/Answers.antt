@@ -8,5 +8,5 @@ use Rattle.clr_order_sentences.proofs.sentences.add_together.Goals as goal
 pub returns : goal.returns
 returns c =
     rw (c.in_ok-push_str-2.ensures.bytes, c.in_ok-add_members_at.ensures, c.in_ok-push_str.ensures.bytes)
-    (three_behind (string_bytes c.args.text.now) (codes "No order of ") (names_text (members_at (set_of c.args.members.now) c.args.blockers.now))
-    (codes " works: each order that merges them all is refused. Change one of them, or leave it out.\n"))
+    (three_behind (string_bytes c.args.text.now) (codes "No order of these designs works: each that merges ") (names_text (members_at (set_of c.args.members.now) c.args.blockers.now))
+    (codes " is refused. Change one of them, leave one out, or name a design that helps.\n"))
