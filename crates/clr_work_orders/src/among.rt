@@ -1,6 +1,6 @@
 //! Among whom trials are made: the designs of the cause.
 
-ghost use Rattle.std.specs.Prelude.{◌≡◌, ◌++◌, length, map, slice_get, string_bytes, IfOk};
+ghost use Rattle.std.specs.Prelude.{◌≡◌, length, map, slice_get, string_bytes, IfOk};
 ghost use Rattle.std.specs.List.{filter_map};
 ghost use Rattle.clr_work_orders.specs.Among.{among_end, among_front, among_text, blocked_order, positions_without};
 
@@ -32,22 +32,22 @@ pub(crate) fn positions_without(
     Ok(rest)
 }
 
-/// Returns the words before the names of so many designs.
-fn among_front(count: usize) -> &'static str
-    ensures { result.now ≡ among_front count }
+/// Returns the words before the names of designs.
+fn among_front(names: &[&str]) -> &'static str
+    ensures { result.now ≡ among_front (length (map (λ name. name.now) names.now)) }
 {
-    if count == 1 {
+    if names.len() == 1 {
         "Tried with "
     } else {
         "Tried among "
     }
 }
 
-/// Returns the words behind the names of so many designs.
-fn among_end(count: usize) -> &'static str
-    ensures { result.now ≡ among_end count }
+/// Returns the words behind the names of designs.
+fn among_end(names: &[&str]) -> &'static str
+    ensures { result.now ≡ among_end (length (map (λ name. name.now) names.now)) }
 {
-    if count == 1 {
+    if names.len() == 1 {
         " alone:\n"
     } else {
         ", each by itself:\n"
@@ -59,9 +59,9 @@ fn words_among(alloc: Global, names: &[&str]) -> Result<String, AllocError>
     ensures { IfOk result (λ text. string_bytes text ≡ among_text (map (λ name. name.now) names.now)) }
 {
     let mut text = String::new(alloc);
-    text.push_str(among_front(names.len()))?;
+    text.push_str(among_front(names))?;
     add_names(&mut text, names)?;
-    text.push_str(among_end(names.len()))?;
+    text.push_str(among_end(names))?;
     Ok(text)
 }
 

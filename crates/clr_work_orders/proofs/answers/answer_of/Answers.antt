@@ -15,7 +15,7 @@ returns c =
     let s = merge_set c.args.root.now (map (λ name. name.now) c.args.names.now) in
     let p = c.plan_changes-planned.result in
     let read = c.in_ok-members.ensures in
-    let why = string_bytes c.in_ok-why.why in
+    let words = string_bytes c.in_ok-why.why in
     let found : is_out_of_memory p ≡ false = sym c.is_out_of_memory.ensures ∙ c.if-is_out_of_memory.false in
     record {
       made = p;
@@ -27,5 +27,6 @@ returns c =
       found = found;
       alike = λ q is there. one_plan o s p q c.plan_changes-planned.ensures.plan is found there;
       cleared = c.is_cleared.ensures;
-      why = c.new.ensures ∙ subst₂ (λ (names : List Name) (root : Name). why ≡ why_not o (merge_set root names) p) read.names read.members.root c.in_ok-why.ensures;
+      why = c.new.ensures
+          ∙ subst₂ (λ (names : List Name) (root : Name). words ≡ why_not o (merge_set root names) p) read.names read.members.root c.in_ok-why.ensures;
     }
