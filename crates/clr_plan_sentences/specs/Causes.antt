@@ -5,7 +5,6 @@ use Rattle.clr_rows.specs.declared.cells.CellId.{CellId}
 use Rattle.clr_rows.specs.declared.tables.TableDef.{TableDef}
 use Rattle.clr_rows.specs.Contents.{Changes}
 use Rattle.clr_rules.specs.declared.rules.Rule.{Rule}
-use Rattle.clr_needs.specs.declared.needs.Need.{Need}
 use Rattle.clr_steps.specs.Offices.{Office}
 use Rattle.clr_steps.specs.Quiet.{MergeSet}
 use Rattle.clr_clearance.specs.declared.verdicts.Verdict.{Verdict}
@@ -13,8 +12,7 @@ use Rattle.clr_clearance.specs.declared.verdicts.Verdict.TheVariants as verdict
 use Rattle.clr_member_changes.specs.Names.{member_name}
 use Rattle.clr_plan_sentences.specs.declared.told_rows.CauseWords.{CauseWords}
 use Rattle.clr_plan_sentences.specs.Labels.{cell_label}
-use Rattle.clr_plan_sentences.specs.NeedCauses.{IsNeedCause, no_cause, numbered_text, rule_reason}
-use Rattle.clr_plan_sentences.specs.ServedNeeds.{subjects_text, title_text}
+use Rattle.clr_plan_sentences.specs.NeedCauses.{IsNeedCause, no_cause, rule_reason}
 use Rattle.clr_serving_rows.specs.NeedPlaces.{rule_in}
 use Rattle.clr_plan_sentences.specs.ToldRows.{row_now, row_of_member, row_taken_over}
 
@@ -71,12 +69,3 @@ reason_text o s (verdict.Conflict member q count) = conflict_reason o s q member
 reason_text o s (verdict.SharedCell q first second) = shared_reason o s q first second
 reason_text o s (verdict.Uncovered need) = need_reason o.schema need.rule (rule_in o need)
 reason_text o s _ = []
-
--- a need that nothing serves in short: its rule by its number and what it is about, and the rows that ask; a line
-abbrev pub need_note : Office → Need → List ℕ
-need_note o need = numbered_text need.rule (title_text (rule_in o need)) ++ codes ": " ++ subjects_text o.schema need ++ codes ".\n"
-
--- why members are blocked in short, a line; nothing of a verdict that blocks none
-abbrev pub cause_note : Office → MergeSet → Verdict → List ℕ
-cause_note o s (verdict.Uncovered need) = need_note o need
-cause_note o s v = reason_text o s v

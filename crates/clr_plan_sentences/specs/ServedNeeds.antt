@@ -3,7 +3,6 @@ use Rattle.std.specs.Prelude.{ℕ, List, [], ◌++◌, Option, Some, None, codes
 use Rattle.clr_rows.specs.declared.tables.TableDef.{TableDef}
 use Rattle.clr_rows.specs.Contents.{Changes}
 use Rattle.clr_rules.specs.declared.rules.Rule.{Rule}
-use Rattle.clr_needs.specs.declared.needs.Need.{Need}
 use Rattle.clr_needs.specs.declared.needs.VersionId.{VersionId}
 use Rattle.clr_cert.specs.declared.certificates.Entry.{Entry}
 use Rattle.clr_workspaces.specs.Marks.{Name}
@@ -25,10 +24,6 @@ abbrev pub second_subject_text : List TableDef → Option VersionId → List ℕ
 second_subject_text tables None = []
 second_subject_text tables (Some v) = codes " and " ++ cell_label tables v.cell
 
--- the rows that ask
-abbrev pub subjects_text : List TableDef → Need → List ℕ
-subjects_text tables need = cell_label tables need.first.cell ++ second_subject_text tables need.second
-
 -- the row that serves once the member that brings it is merged, if there is one
 abbrev pub later_text : List TableDef → List Name → List Changes → Option VersionId → List ℕ
 later_text tables members sets None = []
@@ -39,6 +34,6 @@ later_text tables members sets (Some v) =
 abbrev pub told_need : Office → List Name → List Changes → Entry → NeedWords
 told_need o members sets e = record {
   rule = numbered_text e.need.rule (title_text (rule_in o e.need));
-  rows = subjects_text o.schema e.need;
+  rows = cell_label o.schema e.need.first.cell ++ second_subject_text o.schema e.need.second;
   servers = cell_label o.schema e.one.cell ++ later_text o.schema members sets e.two;
 }

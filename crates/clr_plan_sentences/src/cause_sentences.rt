@@ -2,7 +2,7 @@
 
 ghost use Rattle.std.specs.Prelude.{◌≡◌, ◌++◌, IfOk, OnOk, string_bytes};
 ghost use Rattle.clr_plan_sentences.specs.Causes.{IsCause, conflict_cause, conflict_reason, counted_text, need_reason};
-ghost use Rattle.clr_plan_sentences.specs.Causes.{cause_note, need_note, others_text, reason_text, shared_cause, shared_reason};
+ghost use Rattle.clr_plan_sentences.specs.Causes.{others_text, reason_text, shared_cause, shared_reason};
 ghost use Rattle.clr_plan_sentences.specs.NeedCauses.{no_cause};
 ghost use Rattle.clr_serving_rows.specs.NeedPlaces.{rule_in};
 ghost use Rattle.clr_merge_sets.specs.MemberChanges.{AreMembers, set_of};
@@ -206,28 +206,6 @@ impl Setting<'_> {
             } => self.shared_reason(*cell, *first, *second),
             Verdict::Uncovered(need) => self.need_reason(need),
             _ => Ok(String::new(self.alloc)),
-        }
-    }
-
-    /// Returns a need that nothing serves in short, on a line: its rule, and the rows that ask.
-    fn need_note(&self, need: &Need) -> Result<String, AllocError>
-        ensures { IfOk result (λ text. string_bytes text ≡ need_note self.now.office.now need.now) }
-    {
-        let rows = self.subject_words(need)?;
-        let mut text = self.rule_words(need)?;
-        text.push_str(": ")?;
-        text.push_str(rows.as_str())?;
-        text.push_str(".\n")?;
-        Ok(text)
-    }
-
-    /// Returns why members are blocked in short, on a line; nothing of a verdict that blocks none. It looks at no member's changes.
-    pub fn cause_note(&self, verdict: &Verdict) -> Result<String, AllocError>
-        ensures { IfOk result (λ text. string_bytes text ≡ cause_note self.now.office.now (set_of self.now.members.now) verdict.now) }
-    {
-        match verdict {
-            Verdict::Uncovered(need) => self.need_note(need),
-            _ => self.reason(verdict),
         }
     }
 }

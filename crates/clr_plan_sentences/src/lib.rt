@@ -7,8 +7,7 @@
 //! - `Setting::cause_words`: the cause of a no; each row that it tells is the version that the cause names, and stands where that stands.
 //! - `Setting::old_words`: that a need is an old error, broken in the root too, with who changes which row of it. `Setting::old_errors`: the needs that
 //!   the root breaks.
-//! - `Setting::reason`: why members are blocked, without the rows; no member's changes are looked at. `Setting::cause_note`: the same in short,
-//!   with the rows that ask.
+//! - `Setting::reason`: why members are blocked, without the rows; no member's changes are looked at.
 //! - `Setting::need_words`: a need of a certificate, with the rows that serve it.
 //! - `add_label`, `Setting::cell_label`: a cell, as `main 20`.
 //! - `Setting` tells what an office and members are about.

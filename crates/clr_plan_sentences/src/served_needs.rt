@@ -5,7 +5,7 @@ ghost use Rattle.std.specs.Option.{option_copied};
 ghost use Rattle.clr_plan_sentences.specs.NeedCauses.{numbered_text};
 ghost use Rattle.clr_serving_rows.specs.NeedPlaces.{rule_in};
 ghost use Rattle.clr_plan_sentences.specs.Changers.{changer_name};
-ghost use Rattle.clr_plan_sentences.specs.ServedNeeds.{later_text, second_subject_text, subjects_text, title_text, told_need};
+ghost use Rattle.clr_plan_sentences.specs.ServedNeeds.{later_text, second_subject_text, title_text, told_need};
 ghost use Rattle.clr_plan_sentences.specs.Labels.{cell_label};
 ghost use Rattle.clr_merge_sets.specs.MemberChanges.{set_of};
 
@@ -90,7 +90,7 @@ fn add_later(
 
 impl Setting<'_> {
     /// Returns the number of a need's rule, and what the rule is about.
-    pub(crate) fn rule_words(&self, need: &Need) -> Result<String, AllocError>
+    fn rule_words(&self, need: &Need) -> Result<String, AllocError>
         ensures { IfOk result (λ text. string_bytes text ≡ numbered_text need.now.rule (title_text (rule_in self.now.office.now need.now))) }
     {
         let mut text = String::new(self.alloc);
@@ -100,8 +100,9 @@ impl Setting<'_> {
     }
 
     /// Returns the rows that ask.
-    pub(crate) fn subject_words(&self, need: &Need) -> Result<String, AllocError>
-        ensures { IfOk result (λ text. string_bytes text ≡ subjects_text self.now.office.now.schema need.now) }
+    fn subject_words(&self, need: &Need) -> Result<String, AllocError>
+        ensures { IfOk result (λ text. string_bytes text
+            ≡ cell_label self.now.office.now.schema need.now.first.cell ++ second_subject_text self.now.office.now.schema need.now.second) }
     {
         let mut text = self.cell_label(need.first.cell)?;
         add_second_subject(&mut text, self.office.schema(), need.second)?;

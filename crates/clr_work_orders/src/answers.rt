@@ -1,17 +1,21 @@
 //! What the planner answers of members, in short.
 
-ghost use Rattle.std.specs.Prelude.{◌≡◌, map, string_bytes, IfOk};
+ghost use Rattle.std.specs.Prelude.{◌≡◌, ◌++◌, map, string_bytes, IfOk, OnOk};
+ghost use Rattle.clr_clearance.specs.declared.verdicts.Verdict.TheVariants as verdict;
 ghost use Rattle.clr_merge_sets.specs.MemberChanges.{set_of};
 ghost use Rattle.clr_merge_sets.specs.MergeSetNames.{merge_set};
 ghost use Rattle.clr_work_orders.specs.Among.{part_of};
-ghost use Rattle.clr_work_orders.specs.Answers.{why_not};
+ghost use Rattle.clr_plan_sentences.specs.ServedNeeds.{second_subject_text};
+ghost use Rattle.clr_work_orders.specs.Answers.{cause_note, rows_front, why_not};
 ghost use Rattle.clr_work_orders.specs.Trials.{TellsAnswer};
 
+use clr_clearance::Verdict;
 use clr_engine::Office;
 use clr_merge_sets::{names_at, read_member_changes};
+use clr_needs::{Need, VersionId};
 use clr_plan::{Plan, plan_changes};
-use clr_plan_sentences::Setting;
-use clr_rows::Words;
+use clr_plan_sentences::{Setting, add_label};
+use clr_rows::{Schema, Words};
 use std::alloc::{AllocError, Global};
 
 /// What the planner answers of members, in short.
@@ -22,12 +26,61 @@ pub struct Answer {
     pub why: Words,
 }
 
+/// Adds the second row that asks, if there is one.
+fn add_second(
+    text: &mut String,
+    schema: &Schema,
+    second: Option<VersionId>,
+) -> Result<(), AllocError>
+    ensures { OnOk result (string_bytes text.new ≡ string_bytes text.old ++ second_subject_text schema.now second) }
+{
+    match second {
+        Some(version) => {
+            text.push_str(" and ")?;
+            add_label(text, schema, version.cell)
+        }
+        None => Ok(()),
+    }
+}
+
+/// Returns the rows of a need that ask, before why it is so.
+fn need_rows(setting: Setting<'_>, need: &Need) -> Result<String, AllocError>
+    ensures { IfOk result (λ text. string_bytes text ≡ rows_front setting.entry.office.now.schema (verdict.Uncovered need.now)) }
+{
+    let schema = setting.office.schema();
+    let mut text = String::new(setting.alloc);
+    add_label(&mut text, schema, need.first.cell)?;
+    add_second(&mut text, schema, need.second)?;
+    text.push_str(": ")?;
+    Ok(text)
+}
+
+/// Returns the rows that ask, if a verdict is on a need, before why it is so; nothing of any other.
+fn rows_front(setting: Setting<'_>, cause: &Verdict) -> Result<String, AllocError>
+    ensures { IfOk result (λ text. string_bytes text ≡ rows_front setting.entry.office.now.schema cause.now) }
+{
+    match cause {
+        Verdict::Uncovered(need) => need_rows(setting, need),
+        _ => Ok(String::new(setting.alloc)),
+    }
+}
+
+/// Returns why members are blocked, with the rows, on a line.
+fn cause_note(setting: Setting<'_>, cause: &Verdict) -> Result<String, AllocError>
+    ensures { IfOk result (λ text. string_bytes text ≡ cause_note setting.entry.office.now (set_of setting.entry.members.now) cause.now) }
+{
+    let reason = setting.reason(cause)?;
+    let mut text = rows_front(setting, cause)?;
+    text.push_str(reason.as_str())?;
+    Ok(text)
+}
+
 /// Returns why a plan isn't cleared, on a line; nothing of one that is.
 fn why_not(setting: Setting<'_>, plan: &Plan) -> Result<String, AllocError>
     ensures { IfOk result (λ text. string_bytes text ≡ why_not setting.entry.office.now (set_of setting.entry.members.now) plan.now) }
 {
     match plan {
-        Plan::Blocked { cause, .. } => setting.cause_note(cause),
+        Plan::Blocked { cause, .. } => cause_note(setting, cause),
         Plan::Unfit(_) => String::from_str(setting.alloc, "A name has to be mended first.\n"),
         Plan::Cleared(_) | Plan::OutOfMemory => Ok(String::new(setting.alloc)),
     }
