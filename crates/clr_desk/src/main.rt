@@ -29,6 +29,7 @@
 //!   aren't broken any more, and of `errors` the broken needs of LIVE, whether known or not, with status 0 only where all are known.
 //! - `fault_place` [`place`]: the file, the line and the column of the fault of the office text or the certificate, and nothing of any other.
 //! - `take_layers` [`layers`, `offices`]: each table that is asked for with the text in its place.
+//! - `layer_faults` [`faults`]: all that is wrong with layers, each fault with its file, line and column (`AreLayerFaults`).
 //! - `texts_have_one_answer` [`answer`]: memory aside, what is asked has one answer alone, but for what the definitions of clashes, of orders, of faults,
 //!   and of sentences, pictures, pages, features, layers and errors leave open.
 //! - [`silent`]: with status 3 nothing went to the sink of the text.
@@ -49,6 +50,7 @@ mod geographic;
 mod given_layers;
 mod in_order;
 mod laws;
+mod layer_faults;
 mod line_ends;
 mod merges;
 mod orders;
@@ -58,7 +60,9 @@ mod whys;
 use crate::answers::answer;
 use crate::fault_places::fault_place;
 use crate::given_layers::take_layers;
+use crate::layer_faults::layer_faults;
 use clr_desk_command_line::{AskFault, DeskAsk, ask_of};
+use clr_desk_layers::GivenLayer;
 use clr_office::{Port, RunFault, Sink, Words};
 use clr_process_io::{
     BAD_WORDS, end_run, file_name, print_fault, print_parser_message, put_input_remark, read_files,
@@ -67,6 +71,9 @@ use clr_process_io::{
 use clr_streams::Screen;
 use std::io::ErrorKind;
 use std::process::ExitCode;
+
+/// The exit status where a layer has a fault, as where a text has one that `why` asks about.
+const UNREADABLE: u8 = 2;
 
 /// Prints a fault's line on standard error, and behind it where the fault is, if a text has it; and gives
 /// its exit status. Where no memory is found for the place, that is what is printed.
@@ -92,6 +99,19 @@ fn refuse_file(rt: &HostRuntime, name: &str, fault: RunFault) -> u8 {
     status
 }
 
+/// Prints what is wrong with layers on standard error, behind the line of the first fault. Where no memory is found for it, that line stands alone.
+fn print_layer_faults(
+    rt: &HostRuntime,
+    ask: &DeskAsk,
+    files: &[Words],
+    office: &[u8],
+    layers: &[GivenLayer],
+) {
+    if let Ok(lines) = layer_faults(rt.alloc(), ask, files, office, layers) {
+        let _ = Screen::new(rt.alloc(), Port::new(rt.stderr()), true).put(lines.as_slice());
+    }
+}
+
 /// Answers what the words ask of files, and gives the exit status.
 fn answer_files(rt: &HostRuntime, ask: &DeskAsk, files: &[Words]) -> Result<u8, RunFault> {
     let mut texts = match read_files(rt, files) {
@@ -113,6 +133,9 @@ fn answer_files(rt: &HostRuntime, ask: &DeskAsk, files: &[Words]) -> Result<u8, 
         &mut writer,
         &mut notes,
     );
+    if ended == Ok(UNREADABLE) && !layers.is_empty() {
+        print_layer_faults(rt, ask, files, office, layers);
+    }
     match ended {
         Ok(_) | Err(RunFault::WriteFailed) => {
             let is_closed = writer.below().is_closed() || notes.below().is_closed();

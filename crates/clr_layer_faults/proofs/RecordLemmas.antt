@@ -1,0 +1,99 @@
+-- The faults of records, one record after another, and the keys of the rows before.
+use Rattle.std.proofs.Common.{◌≡◌, ◌∙◌, ℕ, ℤ, ◌+◌, ◌<◌, ◌≤◌, Bool, true, false, not, cond, ◌||◌, List, [], ◌∷◌, ◌++◌, BTreeSet, Option, Some, None}
+use Rattle.std.proofs.Common.{ap, append-nil, append_assoc, arith, drop, get_or, length, map, refl, sym}
+use Rattle.std.specs.BTreeSet.{IsEmpty, Updates, contains}
+use Rattle.std.specs.List.{list_any}
+use Rattle.std.specs.Option.{option_to_list}
+use Rattle.std.specs.Ordering.{int_cmp, is_eq}
+use Rattle.std.proofs.lemmas.List.{at_drop_all, at_drop_more}
+use Rattle.csv.specs.Records.{Row, fields_of}
+use Rattle.clr_rows.specs.declared.tables.TableDef.{TableDef}
+use Rattle.clr_layer_changes.specs.declared.faults.LayersFault.TheVariants as of_layer
+use Rattle.clr_layer_faults.specs.declared.found.FoundFault.{FoundFault}
+use Rattle.clr_layer_faults.specs.FoundFaults.{Record, RowOrFault, faults_from, found_at, has_key, key_fault, own_keys, record_fault}
+use Rattle.clr_layer_faults.specs.KeySets.{HasKeys}
+
+-- keys --------------------------------------------------------------------------------------------------
+
+pub no_keys : (set : BTreeSet ℤ) → IsEmpty set → HasKeys [] set
+no_keys set empty key = ap (list_any (λ other. is_eq (int_cmp key other))) empty
+
+more_keys : (keys : List ℤ) (added key : ℤ) → has_key (keys ++ added ∷ []) key ≡ cond (is_eq (int_cmp added key)) true (has_key keys key)
+more_keys [] added key = by (is_eq (int_cmp added key))
+  where
+    by : (b : Bool) → b || false ≡ cond b true false
+    by true = refl
+    by false = refl
+more_keys (other ∷ keys) added key =
+    ap (λ b. is_eq (int_cmp other key) || b) (more_keys keys added key) ∙ by (is_eq (int_cmp other key)) (is_eq (int_cmp added key)) (has_key keys key)
+  where
+    by : (a b t : Bool) → a || cond b true t ≡ cond b true (a || t)
+    by true true t = refl
+    by true false t = refl
+    by false true t = refl
+    by false false t = refl
+
+-- a set with one more key
+pub one_key : (keys : List ℤ) (old new : BTreeSet ℤ) (added : ℤ) → Updates int_cmp old new added true → HasKeys keys old → HasKeys (keys ++ added ∷ []) new
+one_key keys old new added updates before key =
+    updates.0 key ∙ ap (cond (is_eq (int_cmp added key)) true) (before key) ∙ sym (more_keys keys added key)
+
+pub same_keys : (keys : List ℤ) (set : BTreeSet ℤ) → HasKeys keys set → HasKeys (keys ++ []) set
+same_keys keys set before key = before key ∙ ap (λ ks. has_key ks key) (sym (append-nil keys))
+
+-- whether a key was added
+pub told_added : (keys : List ℤ) (old : BTreeSet ℤ) (key : ℤ) (added : Bool) → added ≡ not (contains int_cmp old key) → HasKeys keys old
+    → has_key keys key ≡ not added
+told_added keys old key added told before = sym (before key) ∙ by (contains int_cmp old key) ∙ ap not (sym told)
+  where
+    by : (b : Bool) → b ≡ not (not b)
+    by true = refl
+    by false = refl
+
+pub key_is_new : (keys : List ℤ) (number : ℕ) (key : ℤ) → has_key keys key ≡ false → None ≡ key_fault keys number (Some key)
+key_is_new keys number key is = sym (ap (λ b. cond b (Some (found_at number (Some 0) of_layer.KeyTwice)) None) is)
+
+pub key_is_old : (keys : List ℤ) (number : ℕ) (key : ℤ) → has_key keys key ≡ true → Some (found_at number (Some 0) of_layer.KeyTwice) ≡ key_fault keys number (Some key)
+key_is_old keys number key is = sym (ap (λ b. cond b (Some (found_at number (Some 0) of_layer.KeyTwice)) None) is)
+
+-- records -----------------------------------------------------------------------------------------------
+
+module _ (read : Record → RowOrFault) (table : TableDef) (names : Record) where
+  one_record : (keys : List ℤ) (n : ℕ) (fields : Record) (records : List Record) → faults_from read table names keys n (fields ∷ records)
+      ≡ option_to_list (record_fault table names keys n fields (read fields)) ++ faults_from read table names (keys ++ own_keys (read fields)) (n + 1) records
+  unfolding faults_from
+  one_record keys n fields records = refl
+
+  no_record : (keys : List ℤ) (n : ℕ) → faults_from read table names keys n [] ≡ []
+  unfolding faults_from
+  no_record keys n = refl
+
+  pub begins : (records : List Row) (found : List FoundFault) → found ≡ [] → (set : BTreeSet ℤ) → IsEmpty set
+      → (before : List ℤ) × HasKeys before set
+      × (found ++ faults_from read table names before (2 + 0) (map fields_of (drop 0 records)) ≡ faults_from read table names [] 2 (map fields_of records))
+  begins records found none set empty = ([], no_keys set empty, ap (λ fs. fs ++ faults_from read table names [] 2 (map fields_of records)) none)
+
+  pub goes_on : (keys : List ℤ) (records : List Row) (i : ℕ) (record : Row) (found now : List FoundFault) (one : Option FoundFault) (set : BTreeSet ℤ)
+      (whole : List FoundFault)
+      → i < length records → record ≡ get_or records i record → one ≡ record_fault table names keys (2 + i) (fields_of record) (read (fields_of record))
+      → now ≡ found ++ option_to_list one → HasKeys (keys ++ own_keys (read (fields_of record))) set
+      → found ++ faults_from read table names keys (2 + i) (map fields_of (drop i records)) ≡ whole
+      → (before : List ℤ) × HasKeys before set × (now ++ faults_from read table names before (2 + (i + 1)) (map fields_of (drop (i + 1) records)) ≡ whole)
+  goes_on keys records i record found now one set whole lt is told added has so_far =
+      let fields = fields_of record in
+      let rest = map fields_of (drop (i + 1) records) in
+      let behind = faults_from read table names (keys ++ own_keys (read fields)) (2 + i + 1) rest in
+      let next : 2 + (i + 1) ≡ 2 + i + 1 = omega arith in
+      let step = at_drop_more (λ rs. faults_from read table names keys (2 + i) (map fields_of rs)) records i record lt
+          ∙ ap (λ r. faults_from read table names keys (2 + i) (fields_of r ∷ rest)) (sym is) ∙ one_record keys (2 + i) fields rest in
+      (keys ++ own_keys (read fields), has,
+          ap (λ n. now ++ faults_from read table names (keys ++ own_keys (read fields)) n rest) next
+          ∙ ap (λ fs. fs ++ behind) (added ∙ ap (λ o. found ++ option_to_list o) told)
+          ∙ append_assoc found (option_to_list (record_fault table names keys (2 + i) fields (read fields))) behind
+          ∙ ap (λ fs. found ++ fs) (sym step) ∙ so_far)
+
+  pub ends : (keys : List ℤ) (records : List Row) (i : ℕ) (found whole : List FoundFault) → length records ≤ i
+      → found ++ faults_from read table names keys (2 + i) (map fields_of (drop i records)) ≡ whole → found ≡ whole
+  ends keys records i found whole past so_far =
+      sym (ap (λ fs. found ++ fs) (at_drop_all (λ rs. faults_from read table names keys (2 + i) (map fields_of rs)) records i past ∙ no_record keys (2 + i))
+      ∙ append-nil found) ∙ so_far
