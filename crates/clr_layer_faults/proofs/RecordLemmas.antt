@@ -1,17 +1,21 @@
 -- The faults of records, one record after another, and the keys of the rows before.
-use Rattle.std.proofs.Common.{◌≡◌, ◌∙◌, ℕ, ℤ, ◌+◌, ◌<◌, ◌≤◌, Bool, true, false, not, cond, ◌||◌, List, [], ◌∷◌, ◌++◌, BTreeSet, Option, Some, None}
-use Rattle.std.proofs.Common.{ap, append-nil, append_assoc, arith, drop, get_or, length, map, refl, sym}
+use Rattle.std.proofs.Common.{◌≡◌, ◌∙◌, ℕ, ℤ, ◌+◌, ◌<◌, ◌≤◌, Bool, true, false, not, cond, ◌||◌, List, [], ◌∷◌, ◌++◌, BTreeSet, Option, Some, None, Ok, Err}
+use Rattle.std.proofs.Common.{ap, append-nil, append_assoc, arith, drop, get_or, length, map, refl, subst, sym}
 use Rattle.std.specs.BTreeSet.{IsEmpty, Updates, contains}
 use Rattle.std.specs.List.{list_any}
 use Rattle.std.specs.Option.{option_to_list}
 use Rattle.std.specs.Ordering.{int_cmp, is_eq}
+use Rattle.std.proofs.lemmas.Bool.{true≢false}
 use Rattle.std.proofs.lemmas.List.{at_drop_all, at_drop_more}
 use Rattle.csv.specs.Records.{Row, fields_of}
 use Rattle.clr_rows.specs.declared.tables.TableDef.{TableDef}
+use Rattle.clr_layer_text.specs.declared.faults.LayerFault.{LayerFault}
+use Rattle.clr_layer_text.specs.declared.rows.LayerRow.{LayerRow}
 use Rattle.clr_layer_changes.specs.declared.faults.LayersFault.TheVariants as of_layer
 use Rattle.clr_layer_faults.specs.declared.found.FoundFault.{FoundFault}
+use Rattle.clr_layer_faults.specs.Columns.{faulty_column}
 use Rattle.clr_layer_faults.specs.FoundFaults.{Record, RowOrFault, faults_from, found_at, has_key, key_fault, own_keys, record_fault}
-use Rattle.clr_layer_faults.specs.KeySets.{HasKeys}
+use Rattle.clr_layer_faults.specs.KeySets.{HasKeys, NotesKey, NotesRecord}
 
 -- keys --------------------------------------------------------------------------------------------------
 
@@ -41,20 +45,25 @@ one_key keys old new added updates before key =
 pub same_keys : (keys : List ℤ) (set : BTreeSet ℤ) → HasKeys keys set → HasKeys (keys ++ []) set
 same_keys keys set before key = before key ∙ ap (λ ks. has_key ks key) (sym (append-nil keys))
 
--- whether a key was added
-pub told_added : (keys : List ℤ) (old : BTreeSet ℤ) (key : ℤ) (added : Bool) → added ≡ not (contains int_cmp old key) → HasKeys keys old
-    → has_key keys key ≡ not added
-told_added keys old key added told before = sym (before key) ∙ by (contains int_cmp old key) ∙ ap not (sym told)
+-- a row without a key of its own
+pub no_own_key : (number : ℕ) (key : Option ℤ) (set : BTreeSet ℤ) → key ≡ None → NotesKey number key set set None
+no_own_key number key set is =
+    subst (λ (k : Option ℤ). NotesKey number k set set None) (sym is) (λ before has. (refl, same_keys before set has))
+
+-- a row whose key was added to those before it, or was one of them
+pub own_key : (number : ℕ) (given : Option ℤ) (key : ℤ) (old new : BTreeSet ℤ) (added : Bool) (found : Option FoundFault) → given ≡ Some key
+    → added ≡ not (contains int_cmp old key) → Updates int_cmp old new key true
+    → found ≡ cond added None (Some (found_at number (Some 0) of_layer.KeyTwice)) → NotesKey number given old new found
+own_key number given key old new added found is told updates which =
+    subst (λ (k : Option ℤ). NotesKey number k old new found) (sym is)
+    (λ before has. (which ∙ by added (has_key before key) (told ∙ ap not (has key)), one_key before old new key updates has))
   where
-    by : (b : Bool) → b ≡ not (not b)
-    by true = refl
-    by false = refl
-
-pub key_is_new : (keys : List ℤ) (number : ℕ) (key : ℤ) → has_key keys key ≡ false → None ≡ key_fault keys number (Some key)
-key_is_new keys number key is = sym (ap (λ b. cond b (Some (found_at number (Some 0) of_layer.KeyTwice)) None) is)
-
-pub key_is_old : (keys : List ℤ) (number : ℕ) (key : ℤ) → has_key keys key ≡ true → Some (found_at number (Some 0) of_layer.KeyTwice) ≡ key_fault keys number (Some key)
-key_is_old keys number key is = sym (ap (λ b. cond b (Some (found_at number (Some 0) of_layer.KeyTwice)) None) is)
+    by : (a b : Bool) → a ≡ not b
+        → cond a None (Some (found_at number (Some 0) of_layer.KeyTwice)) ≡ cond b (Some (found_at number (Some 0) of_layer.KeyTwice)) None
+    by true true e = absurd (true≢false e)
+    by true false e = refl
+    by false true e = refl
+    by false false e = absurd (true≢false (sym e))
 
 -- records -----------------------------------------------------------------------------------------------
 
@@ -97,3 +106,16 @@ module _ (read : Record → RowOrFault) (table : TableDef) (names : Record) wher
   ends keys records i found whole past so_far =
       sym (ap (λ fs. found ++ fs) (at_drop_all (λ rs. faults_from read table names keys (2 + i) (map fields_of rs)) records i past ∙ no_record keys (2 + i))
       ∙ append-nil found) ∙ so_far
+
+-- what a record is read as -------------------------------------------------------------------------------
+
+pub noted_row : (table : TableDef) (names fields : Record) (number : ℕ) (read : RowOrFault) (row : LayerRow) (old new : BTreeSet ℤ)
+    (found : Option FoundFault) → read ≡ Ok row → NotesKey number row.key old new found → NotesRecord table names number fields read old new found
+noted_row table names fields number read row old new found is noted =
+    subst (λ (r : RowOrFault). NotesRecord table names number fields r old new found) (sym is) noted
+
+pub noted_fault : (table : TableDef) (names fields : Record) (number : ℕ) (read : RowOrFault) (fault : LayerFault) (set : BTreeSet ℤ)
+    (found : Option FoundFault) → read ≡ Err fault → found ≡ Some (found_at number (faulty_column table names fields fault) (of_layer.Unread fault))
+    → NotesRecord table names number fields read set set found
+noted_fault table names fields number read fault set found is told =
+    subst (λ (r : RowOrFault). NotesRecord table names number fields r set set found) (sym is) (λ before has. (told, same_keys before set has))

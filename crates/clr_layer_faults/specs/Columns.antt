@@ -1,5 +1,5 @@
 -- The columns of a layer, and which of them has the fault of a record.
-use Rattle.std.specs.Prelude.{ℕ, ◌+◌, ◌-◌, ◌==◌, ◌&&◌, nat_le, not, Bool, true, false, List, length, position, slice_get}
+use Rattle.std.specs.Prelude.{ℕ, ◌+◌, ◌-◌, ◌==◌, ◌&&◌, nat_lt, not, Bool, true, false, List, length, position, slice_get}
 use Rattle.std.specs.Prelude.{Option, Some, None, is_none, unwrap_or, if◌then◌else◌}
 use Rattle.std.specs.Option.{option_map_or}
 use Rattle.std.specs.Str.{bytes_eq}
@@ -57,7 +57,7 @@ lacks_number names fields column = is_int column.1 && is_none (number_of (field_
 
 -- the field of a column of texts is longer than a text may be
 abbrev pub is_too_long : List (List ℕ) → List (List ℕ) → List ℕ × Kind → Bool
-is_too_long names fields column = not (is_int column.1) && not (nat_le (length (field_under names fields column.0)) MOST_TEXT_BYTES)
+is_too_long names fields column = not (is_int column.1) && nat_lt MOST_TEXT_BYTES (length (field_under names fields column.0))
 
 -- a column of the table by its place there, or the first
 abbrev pub column_behind_key : Option ℕ → ℕ

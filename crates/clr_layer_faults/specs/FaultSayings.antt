@@ -1,5 +1,5 @@
 -- What is said of a fault of a layer: its name, a sentence, the row, and a hint.
-use Rattle.std.specs.Prelude.{ℕ, ◌-◌, ◌==◌, false, List, [], ◌∷◌, ◌++◌, codes, decimal, flat_map, length, nat_lt, slice_get, take}
+use Rattle.std.specs.Prelude.{ℕ, ◌-◌, ◌==◌, false, List, [], ◌∷◌, ◌++◌, codes, decimal, flat_map, get_or, length, nat_lt, position, slice_get, take}
 use Rattle.std.specs.Prelude.{Option, Some, None, is_some, unwrap_or, if◌then◌else◌}
 use Rattle.clr_rows.specs.declared.faults.RowFault.{RowFault}
 use Rattle.clr_rows.specs.declared.faults.RowFault.TheVariants as row
@@ -12,6 +12,7 @@ use Rattle.clr_lines.specs.Replies.{row_fault_name}
 use Rattle.clr_layer_text.specs.declared.faults.LayerFault.{LayerFault}
 use Rattle.clr_layer_text.specs.declared.faults.LayerFault.TheVariants as of_text
 use Rattle.clr_layer_text.specs.Pieces.{is_empty}
+use Rattle.clr_layer_text.specs.Wkt.{same_letters}
 use Rattle.clr_layer_changes.specs.declared.faults.LayersFault.{LayersFault}
 use Rattle.clr_layer_changes.specs.declared.faults.LayersFault.TheVariants as of_layer
 use Rattle.clr_layer_faults.specs.declared.sentences.TheConstants.{MOST_NAMES}
@@ -168,7 +169,17 @@ shape_hint column _ = []
 abbrev pub number_hint : List ℕ → List ℕ → List ℕ
 number_hint name value = if is_empty value then codes "; hint: COALESCE(" ++ name ++ codes ", 0) puts a number there" else []
 
+-- a name of the header that is a column's but for small and capital letters
+abbrev pub spelled_place : List (List ℕ) → List ℕ → Option ℕ
+spelled_place names name = position (λ other. same_letters other name) names
+
+-- what may help where the header has a column's name in other letters
+abbrev pub spelling_hint : List (List ℕ) → List ℕ → Option ℕ → List ℕ
+spelling_hint names name None = []
+spelling_hint names name (Some at) = codes "; hint: SELECT " ++ get_or names at [] ++ codes " AS " ++ name
+
 abbrev pub text_hint : TableDef → List (List ℕ) → List (List ℕ) → Option ℕ → LayerFault → List ℕ
+text_hint table names fields column of_text.NoColumn = spelling_hint names (name_in table column) (spelled_place names (name_in table column))
 text_hint table names fields column of_text.BadNumber = number_hint (name_in table column) (field_under names fields (name_in table column))
 text_hint table names fields column fault = shape_hint column fault
 

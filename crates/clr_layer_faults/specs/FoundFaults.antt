@@ -1,5 +1,5 @@
 -- All faults of the text of a layer: those of its header, or else the first of each record.
-use Rattle.std.specs.Prelude.{ℕ, ◌+◌, ◌==◌, ℤ, Bool, List, [], ◌∷◌, ◌++◌, count_by, slice_get}
+use Rattle.std.specs.Prelude.{ℕ, ◌+◌, ◌==◌, ℤ, Bool, List, [], ◌∷◌, ◌++◌, count_by, length}
 use Rattle.std.specs.Prelude.{Option, Some, None, Result, Ok, Err, option_map, option_to_list, if◌then◌else◌}
 use Rattle.std.specs.List.{filter_map, list_any, range_with_len}
 use Rattle.std.specs.Ordering.{int_cmp, is_eq}
@@ -42,8 +42,7 @@ header_faults table names = filter_map (header_fault table names) (range_with_le
 
 -- these faults, or where there are none, one of the header as a whole
 abbrev pub or_whole : LayerFault → List FoundFault → List FoundFault
-or_whole fault [] = found_at 1 None (Unread fault) ∷ []
-or_whole fault (first ∷ others) = first ∷ others
+or_whole fault faults = if length faults == 0 then found_at 1 None (Unread fault) ∷ [] else faults
 
 -- records -----------------------------------------------------------------------------------------------
 

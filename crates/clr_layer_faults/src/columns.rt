@@ -1,9 +1,10 @@
 //! The columns of a layer, and which of them has the fault of a record.
 
-ghost use Rattle.std.specs.Prelude.{◌≡◌, ◌<◌, ◌≤◌, IfSome, length, position};
+ghost use Rattle.std.specs.Prelude.{◌≡◌, ◌<◌, IfSome, length, position};
 ghost use Rattle.csv.specs.Records.{fields_of};
+ghost use Rattle.clr_rows.specs.Schemas.{is_key};
 ghost use Rattle.clr_layer_text.specs.Layers.{is_bare};
-ghost use Rattle.clr_layer_faults.specs.Columns.{column_count, column_name, faulty_column, field_under, is_far_key, is_no_key};
+ghost use Rattle.clr_layer_faults.specs.Columns.{column_count, column_name, faulty_column, field_under, is_far_key, is_int, is_no_key};
 ghost use Rattle.clr_layer_faults.specs.Columns.{is_too_long, lacks_number, number_column, place_in, range_column, shape_column, text_column};
 
 use clr_layer_text::{LayerFault, SHAPE};
@@ -70,13 +71,30 @@ fn is_no_key(text: &str) -> bool
     !text.is_empty() && read_number(text).is_none()
 }
 
+/// Returns whether a number is within the limits of keys.
+fn is_key(key: i64) -> bool
+    ensures { result ≡ is_key key }
+{
+    1 <= key && key <= GREATEST_KEY
+}
+
 /// Returns whether a text is a number beyond the limits of keys.
 fn is_far_key(text: &str) -> bool
     ensures { result ≡ is_far_key text.now }
 {
     match read_number(text) {
-        Some(key) => key < 1 || GREATEST_KEY < key,
+        Some(key) => !is_key(key),
         None => false,
+    }
+}
+
+/// Returns whether a column has numbers.
+fn is_int(kind: Kind) -> bool
+    ensures { result ≡ is_int kind }
+{
+    match kind {
+        Kind::Int => true,
+        Kind::Words => false,
     }
 }
 
@@ -84,14 +102,14 @@ fn is_far_key(text: &str) -> bool
 fn lacks_number(names: &[Words], fields: &StringRecord, column: &(Words, Kind)) -> bool
     ensures { result ≡ lacks_number names.now (fields_of fields.now) column.now }
 {
-    column.1 == Kind::Int && read_number(field_under(names, fields, column.0.as_str())).is_none()
+    is_int(column.1) && read_number(field_under(names, fields, column.0.as_str())).is_none()
 }
 
 /// Returns whether the field of a column of texts is longer than a text may be.
 fn is_too_long(names: &[Words], fields: &StringRecord, column: &(Words, Kind)) -> bool
     ensures { result ≡ is_too_long names.now (fields_of fields.now) column.now }
 {
-    column.1 != Kind::Int && field_under(names, fields, column.0.as_str()).len() > MOST_TEXT_BYTES
+    !is_int(column.1) && field_under(names, fields, column.0.as_str()).len() > MOST_TEXT_BYTES
 }
 
 /// Returns the place of the first column of numbers whose field is none.

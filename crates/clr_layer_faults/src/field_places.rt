@@ -5,6 +5,7 @@ ghost use Rattle.csv.specs.Machine.{in_field, start_field, start_record, step};
 ghost use Rattle.csv.specs.Reading.{default_config, strip_bom};
 ghost use Rattle.clr_layer_faults.specs.FieldPlaces.{begins_record, ends_field, field_offset, field_place, next_state, record_start, record_starts, seen};
 
+use clr_hints::has_byte_order_mark;
 use std::alloc::{AllocError, Global};
 
 /// Where a reader of records is.
@@ -169,8 +170,9 @@ pub(crate) fn field_place(bytes: &[u8], starts: &[usize], number: usize, field: 
 pub(crate) fn without_mark(text: &[u8]) -> &[u8]
     ensures { result.now ≡ strip_bom text.now }
 {
-    match text {
-        [0xEF, 0xBB, 0xBF, rest @ ..] => rest,
-        _ => text,
+    if has_byte_order_mark(text) {
+        &text[3..]
+    } else {
+        text
     }
 }

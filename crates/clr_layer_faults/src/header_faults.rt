@@ -104,12 +104,13 @@ pub(crate) fn header_faults(
     ensures { IfOk result (λ found. found.items ≡ or_whole fault (header_faults table.now names.now)) }
 {
     let mut found = column_faults(alloc, table, names)?;
-    if found.is_empty() {
-        found.push(FoundFault {
-            number: 1,
-            column: None,
-            fault: LayersFault::Unread(fault),
-        })?;
+    if !found.is_empty() {
+        return Ok(found);
     }
+    found.push(FoundFault {
+        number: 1,
+        column: None,
+        fault: LayersFault::Unread(fault),
+    })?;
     Ok(found)
 }

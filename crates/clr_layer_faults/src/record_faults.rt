@@ -1,11 +1,11 @@
 //! The faults of records: the first of each.
 
-ghost use Rattle.std.specs.Prelude.{◌≡◌, [], ℤ, List, ◌+◌, ◌<◌, ◌^◌, ◌++◌, IfOk, length, map, option_to_list};
+ghost use Rattle.std.specs.Prelude.{◌≡◌, [], ◌+◌, ◌<◌, ◌^◌, IfOk, length, map};
 ghost use Rattle.csv.specs.Records.{fields_of};
 ghost use Rattle.clr_layer_text.specs.Headings.{seen_headings};
 ghost use Rattle.clr_layer_text.specs.Layers.{row_of};
-ghost use Rattle.clr_layer_faults.specs.FoundFaults.{faults_from, key_fault, own_keys, record_fault};
-ghost use Rattle.clr_layer_faults.specs.KeySets.{HasKeys};
+ghost use Rattle.clr_layer_faults.specs.FoundFaults.{faults_from};
+ghost use Rattle.clr_layer_faults.specs.KeySets.{NotesKey, NotesRecord};
 
 use crate::columns::faulty_column;
 use crate::found::FoundFault;
@@ -23,8 +23,7 @@ fn key_fault(
     number: usize,
     key: Option<i64>,
 ) -> Result<Option<FoundFault>, AllocError>
-    ensures { IfOk result (λ found. (before : List ℤ) → HasKeys before keys.old
-        → (found ≡ key_fault before number key) × HasKeys (before ++ option_to_list key) keys.new) }
+    ensures { IfOk result (NotesKey number key keys.old keys.new) }
 {
     let Some(key) = key else {
         return Ok(None);
@@ -53,8 +52,7 @@ fn record_fault(
     fields: &StringRecord,
 ) -> Result<Option<FoundFault>, AllocError>
     ensures { let read = row_of schema.now at rounded (seen_headings headings.now) (fields_of fields.now) in
-        IfOk result (λ found. (before : List ℤ) → HasKeys before keys.old
-        → (found ≡ record_fault table.now names.now before number (fields_of fields.now) read) × HasKeys (before ++ own_keys read) keys.new) }
+        IfOk result (NotesRecord table.now names.now number (fields_of fields.now) read keys.old keys.new) }
 {
     match read_row(alloc, schema, at, rounded, headings, fields) {
         Ok(row) => key_fault(keys, number, row.key),

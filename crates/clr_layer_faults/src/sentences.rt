@@ -1,11 +1,12 @@
 //! What is said of a fault of a layer: its name, a sentence, the row, and a hint.
 
-ghost use Rattle.std.specs.Prelude.{◌≡◌, ◌++◌, OnOk, flat_map, take};
+ghost use Rattle.std.specs.Prelude.{◌≡◌, ◌++◌, ◌<◌, IfSome, OnOk, flat_map, length, take};
 ghost use Rattle.csv.specs.Records.{fields_of};
+ghost use Rattle.clr_layer_text.specs.Wkt.{same_letters};
 ghost use Rattle.clr_layer_faults.specs.FaultSayings.{count_sentence, fault_name, field_sentence, field_text, field_words, listed_name};
 ghost use Rattle.clr_layer_faults.specs.FaultSayings.{fault_hint, fault_sentence, listed_names, missing_sentence, more_names, name_in, number_hint, number_sentence};
 ghost use Rattle.clr_layer_faults.specs.FaultSayings.{number_text, quoted, range_hint, row_text, shape_hint, text_fault_name, text_hint, text_sentence};
-ghost use Rattle.clr_layer_faults.specs.FaultSayings.{twice_sentence, unfit_hint, unfit_words};
+ghost use Rattle.clr_layer_faults.specs.FaultSayings.{spelled_place, spelling_hint, twice_sentence, unfit_hint, unfit_words};
 
 use crate::columns::{column_name, field_under};
 use crate::found::FoundFault;
@@ -366,6 +367,40 @@ fn add_number_hint(line: &mut Vec<u8>, name: &str, value: &str) -> Result<(), Al
     line.extend_from_slice(b", 0) puts a number there")
 }
 
+/// Returns whether two names are one, small and capital letters being the same.
+fn same_letters(name: &str, other: &str) -> bool
+    ensures { result ≡ same_letters name.now other.now }
+{
+    name.eq_ignore_ascii_case(other)
+}
+
+/// Returns where a header has a name in whatever letters.
+fn spelled_place(names: &[Words], name: &str) -> Option<usize>
+    ensures value { result ≡ spelled_place names.now name.now }
+    ensures bound { IfSome result (λ at. at < length names.now) }
+{
+    names
+        .iter()
+        .position(|other| same_letters(other.as_str(), name))
+}
+
+/// Adds what may help where a header has a column's name in other letters.
+fn add_spelling_hint(
+    line: &mut Vec<u8>,
+    names: &[Words],
+    name: &str,
+) -> Result<(), AllocError>
+    ensures { OnOk result (line.new.items ≡ line.old.items ++ spelling_hint names.now name.now (spelled_place names.now name.now)) }
+{
+    let Some(at) = spelled_place(names, name) else {
+        return Ok(());
+    };
+    line.extend_from_slice(b"; hint: SELECT ")?;
+    line.extend_from_slice(names[at].as_str().as_bytes())?;
+    line.extend_from_slice(b" AS ")?;
+    line.extend_from_slice(name.as_bytes())
+}
+
 /// Adds what may help against a fault of the text.
 fn add_text_hint(
     line: &mut Vec<u8>,
@@ -377,11 +412,10 @@ fn add_text_hint(
 ) -> Result<(), AllocError>
     ensures { OnOk result (line.new.items ≡ line.old.items ++ text_hint table.now names.now (fields_of fields.now) column fault) }
 {
+    let name = name_in(table, column);
     match fault {
-        LayerFault::BadNumber => {
-            let name = name_in(table, column);
-            add_number_hint(line, name, field_under(names, fields, name))
-        }
+        LayerFault::NoColumn => add_spelling_hint(line, names, name),
+        LayerFault::BadNumber => add_number_hint(line, name, field_under(names, fields, name)),
         _ => line.extend_from_slice(shape_hint(column, fault).as_bytes()),
     }
 }

@@ -2,7 +2,7 @@
 
 ghost use Rattle.std.specs.Prelude.{◌≡◌, ◌+◌, ◌<◌, ◌^◌, IfOk, length, map};
 ghost use Rattle.csv.specs.Records.{fields_of};
-ghost use Rattle.clr_layer_faults.specs.FoundFaults.{below_header, faults_in, faults_under, header_in};
+ghost use Rattle.clr_layer_faults.specs.FoundFaults.{faults_in, faults_under, header_in};
 
 use crate::found::FoundFault;
 use crate::header_faults::{header_faults, names_of};
@@ -19,20 +19,9 @@ pub(crate) fn header_names(
 ) -> Result<Vec<Words>, AllocError>
     ensures { IfOk result (λ names. names.items ≡ header_in (map fields_of records.now)) }
 {
-    match records.first() {
-        Some(header) => names_of(alloc, header),
-        None => Ok(Vec::new(alloc)),
-    }
-}
-
-/// Returns the records below the header.
-fn below_header(records: &[StringRecord]) -> &[StringRecord]
-    ensures value { map fields_of result.now ≡ below_header (map fields_of records.now) }
-    ensures bound { length result.now + 2 < 2 ^ 64 }
-{
     match records {
-        [_, others @ ..] => others,
-        [] => &[],
+        [header, ..] => names_of(alloc, header),
+        [] => Ok(Vec::new(alloc)),
     }
 }
 
@@ -71,16 +60,17 @@ pub(crate) fn faults_in(
     names: &[Words],
     records: &[StringRecord],
 ) -> Result<Vec<FoundFault>, AllocError>
-    requires { names.now ≡ header_in (map fields_of records.now) }
+    requires names { names.now ≡ header_in (map fields_of records.now) }
+    requires bound { length records.now + 2 < 2 ^ 64 }
     ensures { IfOk result (λ found. found.items ≡ faults_in schema.now at table.now rounded (map fields_of records.now)) }
 {
-    let none = StringRecord::new(alloc);
-    let header = match records.first() {
-        Some(header) => header,
-        None => &none,
-    };
-    let below = below_header(records);
-    faults_under(
-        alloc, schema, at, table, rounded, header, names, below,
-    )
+    match records {
+        [header, below @ ..] => faults_under(
+            alloc, schema, at, table, rounded, header, names, below,
+        ),
+        [] => {
+            let none = StringRecord::new(alloc);
+            faults_under(alloc, schema, at, table, rounded, &none, names, &[])
+        }
+    }
 }
