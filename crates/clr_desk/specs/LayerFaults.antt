@@ -8,7 +8,7 @@ use Rattle.clr_desk_command_line.specs.declared.asks.DeskAsk.{DeskAsk}
 use Rattle.clr_desk_command_line.specs.declared.asks.DeskAsk.TheVariants as ask
 use Rattle.clr_desk_command_line.specs.declared.asks.GeographicAsk.TheVariants as geographic
 use Rattle.clr_layer_changes.specs.declared.options.GivenLayer.{GivenLayer}
-use Rattle.clr_layer_faults.specs.Reports.{IsLayerReport}
+use Rattle.clr_layer_reports.specs.Reports.{IsLayerReport}
 use Rattle.clr_desk.specs.FaultPlaces.{file_name}
 use Rattle.clr_desk.specs.GivenLayers.{office_count}
 

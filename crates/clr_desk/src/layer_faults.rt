@@ -7,7 +7,7 @@ ghost use Rattle.clr_desk.specs.LayerFaults.{AreLayerFaults, AreReports, is_roun
 use crate::given_layers::office_count;
 use clr_desk_command_line::{DeskAsk, GeographicAsk};
 use clr_desk_layers::GivenLayer;
-use clr_layer_faults::layer_report;
+use clr_layer_reports::layer_report;
 use clr_office::Words;
 use clr_office_texts::{TextFault, read_office};
 use clr_process_io::file_name;

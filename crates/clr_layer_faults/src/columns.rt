@@ -35,7 +35,7 @@ pub(crate) fn column_count(table: &TableDef) -> usize
 }
 
 /// Returns the name of a column: `KEY` is column 0, those of the table follow, and `WKT` stands behind them.
-pub(crate) fn column_name(table: &TableDef, column: usize) -> &str
+pub fn column_name(table: &TableDef, column: usize) -> &str
     ensures { result.now ≡ column_name table.now column }
 {
     if column == 0 {
@@ -48,7 +48,7 @@ pub(crate) fn column_name(table: &TableDef, column: usize) -> &str
 }
 
 /// Returns where a name stands in a header, or its front where it doesn't.
-pub(crate) fn place_in(names: &[Words], name: &str) -> usize
+pub fn place_in(names: &[Words], name: &str) -> usize
     ensures { result ≡ place_in names.now name.now }
 {
     names
@@ -58,7 +58,7 @@ pub(crate) fn place_in(names: &[Words], name: &str) -> usize
 }
 
 /// Returns the field of a record below a name of the header.
-pub(crate) fn field_under<'a>(names: &[Words], fields: &'a StringRecord, name: &str) -> &'a str
+pub fn field_under<'a>(names: &[Words], fields: &'a StringRecord, name: &str) -> &'a str
     ensures { result.now ≡ field_under names.now (fields_of fields.now) name.now }
 {
     field(fields, place_in(names, name))

@@ -104,7 +104,7 @@ fn add_if(starts: &mut Vec<usize>, test: bool, at: usize) -> Result<(), AllocErr
 }
 
 /// Returns the offsets at which the records of a text begin, ascending.
-pub(crate) fn record_starts(alloc: Global, bytes: &[u8]) -> Result<Vec<usize>, AllocError>
+pub fn record_starts(alloc: Global, bytes: &[u8]) -> Result<Vec<usize>, AllocError>
     ensures { IfOk result (λ starts. starts.items ≡ record_starts bytes.now) }
 {
     let mut starts = Vec::new(alloc);
@@ -157,7 +157,7 @@ fn record_start(bytes: &[u8], starts: &[usize], number: usize) -> usize
 
 /// Returns where a field of the record of a number begins in a text. Records are counted from 1, and fields from 0. What is given beside the text
 /// is where its records begin.
-pub(crate) fn field_place(bytes: &[u8], starts: &[usize], number: usize, field: usize) -> usize
+pub fn field_place(bytes: &[u8], starts: &[usize], number: usize, field: usize) -> usize
     requires { starts.now ≡ record_starts bytes.now }
     ensures place { result ≡ field_place bytes.now number field }
     ensures within { result ≤ length bytes.now }
@@ -167,7 +167,7 @@ pub(crate) fn field_place(bytes: &[u8], starts: &[usize], number: usize, field: 
 }
 
 /// Returns a text without the byte order mark that it may begin with.
-pub(crate) fn without_mark(text: &[u8]) -> &[u8]
+pub fn without_mark(text: &[u8]) -> &[u8]
     ensures { result.now ≡ strip_bom text.now }
 {
     if has_byte_order_mark(text) {

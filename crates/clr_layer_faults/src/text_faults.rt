@@ -13,7 +13,7 @@ use csv::StringRecord;
 use std::alloc::{AllocError, Global};
 
 /// Returns the names of the header of records, which is the first of them; none where there is no record.
-pub(crate) fn header_names(
+pub fn header_names(
     alloc: Global,
     records: &[StringRecord],
 ) -> Result<Vec<Words>, AllocError>
@@ -51,7 +51,7 @@ fn faults_under(
 
 /// Returns the faults of all records of a text, the first of which is the header: those of the header, or else the first of each record
 /// below it, where a row with the key of a row before it has a fault too.
-pub(crate) fn faults_in(
+pub fn faults_in(
     alloc: Global,
     schema: &Schema,
     at: u16,

@@ -1,5 +1,5 @@
 use Rattle.std.proofs.Common.{◌+◌, ap, subst}
-use Rattle.clr_layer_faults.specs.Reports.{IsLayerReport}
+use Rattle.clr_layer_reports.specs.Reports.{IsLayerReport}
 use Rattle.clr_desk.proofs.LayerReportLemmas.{begins, ends, goes_on}
 use Rattle.clr_desk.proofs.layer_faults.layer_reports.Goals as goal
 

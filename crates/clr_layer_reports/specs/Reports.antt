@@ -17,9 +17,9 @@ use Rattle.clr_layer_changes.specs.declared.faults.LayersFault.{LayersFault}
 use Rattle.clr_layer_changes.specs.declared.faults.LayersFault.TheVariants as of_layer
 use Rattle.clr_layer_changes.specs.declared.options.GivenLayer.{GivenLayer}
 use Rattle.clr_layer_faults.specs.declared.found.FoundFault.{FoundFault}
-use Rattle.clr_layer_faults.specs.declared.counts.TheConstants.{MOST_SHOWN}
+use Rattle.clr_layer_reports.specs.declared.counts.TheConstants.{MOST_SHOWN}
 use Rattle.clr_layer_faults.specs.Columns.{column_name, place_in}
-use Rattle.clr_layer_faults.specs.FaultSayings.{fault_hint, fault_name, fault_sentence, fields_at, row_text}
+use Rattle.clr_layer_reports.specs.FaultSayings.{fault_hint, fault_name, fault_sentence, fields_at, row_text}
 use Rattle.clr_layer_faults.specs.FieldPlaces.{field_place}
 use Rattle.clr_layer_faults.specs.FoundFaults.{faults_in, header_in}
 

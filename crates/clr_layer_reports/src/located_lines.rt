@@ -2,15 +2,13 @@
 
 ghost use Rattle.std.specs.Prelude.{◌≡◌, ◌++◌, ◌≤◌, [], OnOk, length, map};
 ghost use Rattle.csv.specs.Records.{fields_of};
-ghost use Rattle.clr_layer_faults.specs.FaultSayings.{fields_at};
+ghost use Rattle.clr_layer_reports.specs.FaultSayings.{fields_at};
 ghost use Rattle.clr_layer_faults.specs.FieldPlaces.{record_starts};
 ghost use Rattle.clr_layer_faults.specs.FoundFaults.{header_in};
-ghost use Rattle.clr_layer_faults.specs.Reports.{fault_line, fault_words, faulty_field, place_text};
+ghost use Rattle.clr_layer_reports.specs.Reports.{fault_line, fault_words, faulty_field, place_text};
 
-use crate::columns::{column_name, place_in};
-use crate::field_places::field_place;
-use crate::found::FoundFault;
 use crate::sentences::{add_hint, add_row, add_sentence, fault_name};
+use clr_layer_faults::{FoundFault, column_name, field_place, place_in};
 use clr_lines::add_count;
 use clr_rows::{TableDef, Words};
 use clr_text_positions::place_of;

@@ -3,15 +3,14 @@
 ghost use Rattle.std.specs.Prelude.{◌≡◌, ◌++◌, ◌<◌, IfSome, OnOk, flat_map, length, take};
 ghost use Rattle.csv.specs.Records.{fields_of};
 ghost use Rattle.clr_layer_text.specs.Wkt.{same_letters};
-ghost use Rattle.clr_layer_faults.specs.FaultSayings.{count_sentence, fault_name, field_sentence, field_text, field_words, listed_name};
-ghost use Rattle.clr_layer_faults.specs.FaultSayings.{fault_hint, fault_sentence, listed_names, missing_sentence, more_names, name_in, number_hint, number_sentence};
-ghost use Rattle.clr_layer_faults.specs.FaultSayings.{number_text, quoted, range_hint, row_text, shape_hint, text_fault_name, text_hint, text_sentence};
-ghost use Rattle.clr_layer_faults.specs.FaultSayings.{spelled_place, spelling_hint, twice_sentence, unfit_hint, unfit_words};
+ghost use Rattle.clr_layer_reports.specs.FaultSayings.{count_sentence, fault_name, field_sentence, field_text, field_words, listed_name};
+ghost use Rattle.clr_layer_reports.specs.FaultSayings.{fault_hint, fault_sentence, listed_names, missing_sentence, more_names, name_in, number_hint, number_sentence};
+ghost use Rattle.clr_layer_reports.specs.FaultSayings.{number_text, quoted, range_hint, row_text, shape_hint, text_fault_name, text_hint, text_sentence};
+ghost use Rattle.clr_layer_reports.specs.FaultSayings.{spelled_place, spelling_hint, twice_sentence, unfit_hint, unfit_words};
 
-use crate::columns::{column_name, field_under};
-use crate::found::FoundFault;
 use clr_hints::shorten;
 use clr_layer_changes::LayersFault;
+use clr_layer_faults::{FoundFault, column_name, field_under};
 use clr_layer_text::LayerFault;
 use clr_lines::{add_count, row_fault_word};
 use clr_records::read_number;

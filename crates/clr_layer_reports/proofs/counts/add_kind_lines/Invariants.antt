@@ -1,7 +1,7 @@
 use Rattle.std.proofs.Common.{◌≡◌, ◌++◌, take}
 use Rattle.std.specs.List.{flat_map}
-use Rattle.clr_layer_faults.specs.Reports.{kind_line}
-use Rattle.clr_layer_faults.proofs.counts.add_kind_lines.Given as goal
+use Rattle.clr_layer_reports.specs.Reports.{kind_line}
+use Rattle.clr_layer_reports.proofs.counts.add_kind_lines.Given as goal
 
 -- the lines of the kinds so far are added
 abbrev pub invariant-loop-found : goal.invariant-loop-found

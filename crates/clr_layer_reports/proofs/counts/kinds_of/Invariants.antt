@@ -1,7 +1,7 @@
 use Rattle.std.proofs.Common.{◌≡◌, [], take}
 use Rattle.std.specs.List.{fold}
-use Rattle.clr_layer_faults.specs.Reports.{with_kind}
-use Rattle.clr_layer_faults.proofs.counts.kinds_of.Given as goal
+use Rattle.clr_layer_reports.specs.Reports.{with_kind}
+use Rattle.clr_layer_reports.proofs.counts.kinds_of.Given as goal
 
 -- the first of each kind among the faults so far
 abbrev pub invariant-loop-found : goal.invariant-loop-found

@@ -15,7 +15,7 @@ use Rattle.clr_layer_text.specs.Pieces.{is_empty}
 use Rattle.clr_layer_text.specs.Wkt.{same_letters}
 use Rattle.clr_layer_changes.specs.declared.faults.LayersFault.{LayersFault}
 use Rattle.clr_layer_changes.specs.declared.faults.LayersFault.TheVariants as of_layer
-use Rattle.clr_layer_faults.specs.declared.sentences.TheConstants.{MOST_NAMES}
+use Rattle.clr_layer_reports.specs.declared.sentences.TheConstants.{MOST_NAMES}
 use Rattle.clr_layer_faults.specs.declared.found.FoundFault.{FoundFault}
 use Rattle.clr_layer_faults.specs.Columns.{column_name, field_under}
 

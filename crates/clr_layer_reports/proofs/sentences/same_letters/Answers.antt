@@ -2,7 +2,7 @@ use Rattle.std.proofs.Common.{map}
 use Rattle.std.specs.Char.{to_ascii_lowercase}
 use Rattle.std.specs.Cmp.{both_ways}
 use Rattle.std.proofs.lemmas.Slice.Eq.{bytes_eq-Decides}
-use Rattle.clr_layer_faults.proofs.sentences.same_letters.Goals as goal
+use Rattle.clr_layer_reports.proofs.sentences.same_letters.Goals as goal
 
 pub returns : goal.returns
 returns c =

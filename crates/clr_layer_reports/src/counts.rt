@@ -2,13 +2,12 @@
 
 ghost use Rattle.std.specs.Prelude.{◌≡◌, ◌++◌, IfOk, OnOk, count_by, flat_map};
 ghost use Rattle.std.specs.List.{list_any};
-ghost use Rattle.clr_layer_faults.specs.Reports.{all_line, column_text, counts_text, is_alike, is_same_column, kind_line, kind_of, kinds_of, row_kind};
-ghost use Rattle.clr_layer_faults.specs.Reports.{shown_words, text_kind, with_kind};
+ghost use Rattle.clr_layer_reports.specs.Reports.{all_line, column_text, counts_text, is_alike, is_same_column, kind_line, kind_of, kinds_of, row_kind};
+ghost use Rattle.clr_layer_reports.specs.Reports.{shown_words, text_kind, with_kind};
 
-use crate::columns::column_name;
-use crate::found::FoundFault;
 use crate::sentences::fault_name;
 use clr_layer_changes::LayersFault;
+use clr_layer_faults::{FoundFault, column_name};
 use clr_layer_text::LayerFault;
 use clr_lines::add_count;
 use clr_rows::{RowFault, TableDef};

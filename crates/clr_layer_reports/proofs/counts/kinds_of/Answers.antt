@@ -1,7 +1,7 @@
 use Rattle.std.proofs.Common.{◌∙◌, [], ap, get_or, sym}
 use Rattle.std.proofs.lemmas.List.Sums.{fold_more}
-use Rattle.clr_layer_faults.specs.Reports.{with_kind}
-use Rattle.clr_layer_faults.proofs.counts.kinds_of.Goals as goal
+use Rattle.clr_layer_reports.specs.Reports.{with_kind}
+use Rattle.clr_layer_reports.proofs.counts.kinds_of.Goals as goal
 
 pub loop-found-preserved : goal.loop-found-preserved
 loop-found-preserved c =

@@ -1,0 +1,2 @@
+pub mod FaultSayings
+pub mod Reports
