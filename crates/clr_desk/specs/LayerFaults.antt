@@ -25,7 +25,7 @@ is_rounded _ = false
 unfoldable pub AreReports : List TableDef → Bool → List Name → ℕ → List GivenLayer → ℕ → List GivenLayer → List ℕ → Type 0
 AreReports tables rounded files first layers at [] lines = lines ≡ []
 AreReports tables rounded files first layers at (layer ∷ rest) lines =
-    (report behind : List ℕ) × IsLayerReport tables rounded (file_name files (first + at)) (take at layers) layer report
+    (report : List ℕ) × (behind : List ℕ) × IsLayerReport tables rounded (file_name files (first + at)) (take at layers) layer report
     × AreReports tables rounded files first layers (at + 1) rest behind × (lines ≡ report ++ behind)
 
 -- what is said of all layers over an office; nothing where the text is no office

@@ -55,7 +55,7 @@ fn layer_reports(
 /// Returns what is wrong with the layers that are asked for, where `answer` gives the line of the first fault: of each layer each of its first 100 faults,
 /// with the name of its file, the line and the column, and how many they are, in all and of each kind and column. The files are those of the office
 /// texts and then those of the layers.
-pub fn layer_faults(
+pub fn faults_of_layers(
     alloc: Global,
     ask: &DeskAsk,
     files: &[Words],

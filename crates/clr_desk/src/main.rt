@@ -29,7 +29,7 @@
 //!   aren't broken any more, and of `errors` the broken needs of LIVE, whether known or not, with status 0 only where all are known.
 //! - `fault_place` [`place`]: the file, the line and the column of the fault of the office text or the certificate, and nothing of any other.
 //! - `take_layers` [`layers`, `offices`]: each table that is asked for with the text in its place.
-//! - `layer_faults` [`faults`]: all that is wrong with layers, each fault with its file, line and column (`AreLayerFaults`).
+//! - `faults_of_layers` [`faults`]: all that is wrong with layers, each fault with its file, line and column (`AreLayerFaults`).
 //! - `texts_have_one_answer` [`answer`]: memory aside, what is asked has one answer alone, but for what the definitions of clashes, of orders, of faults,
 //!   and of sentences, pictures, pages, features, layers and errors leave open.
 //! - [`silent`]: with status 3 nothing went to the sink of the text.
@@ -60,7 +60,7 @@ mod whys;
 use crate::answers::answer;
 use crate::fault_places::fault_place;
 use crate::given_layers::take_layers;
-use crate::layer_faults::layer_faults;
+use crate::layer_faults::faults_of_layers;
 use clr_desk_command_line::{AskFault, DeskAsk, ask_of};
 use clr_desk_layers::GivenLayer;
 use clr_office::{Port, RunFault, Sink, Words};
@@ -107,7 +107,7 @@ fn print_layer_faults(
     office: &[u8],
     layers: &[GivenLayer],
 ) {
-    if let Ok(lines) = layer_faults(rt.alloc(), ask, files, office, layers) {
+    if let Ok(lines) = faults_of_layers(rt.alloc(), ask, files, office, layers) {
         let _ = Screen::new(rt.alloc(), Port::new(rt.stderr()), true).put(lines.as_slice());
     }
 }

@@ -1,6 +1,6 @@
 -- Lists over the numbers from 0 on, which grow by one.
 use Rattle.std.proofs.Common.{◌≡◌, ◌∙◌, ℕ, zero, suc, ◌+◌, ◌-◌, Bool, cond, List, [], ◌∷◌, ◌++◌, Option, Some, None, ap, arith, refl, sym}
-use Rattle.std.specs.List.{filter, filter_map, find, range_with_len}
+use Rattle.std.specs.List.{cons_option, filter, filter_map, find, range_with_len}
 use Rattle.std.specs.Option.{option_to_list}
 use Rattle.std.proofs.lemmas.List.Elements.{filter-append, filter_map-append}
 use Rattle.clr_layer_changes.proofs.KeyLemmas.{first_within}
@@ -18,18 +18,15 @@ range_more n =
     let same : 0 + n ≡ n = omega arith in
     ap (range_with_len 0) next ∙ range_behind 0 n ∙ ap (λ k. range_with_len 0 n ++ k ∷ []) same
 
-one_kept : {X : Type 0} (f : ℕ → Option X) (n : ℕ) → filter_map f (n ∷ []) ≡ option_to_list (f n)
-one_kept f n = by (f n)
-  where
-    by : {X : Type 0} (found : Option X) → filter_map (λ (k : Option X). k) (found ∷ []) ≡ option_to_list found
-    by (Some x) = refl
-    by None = refl
+one_kept : {X : Type 0} (found : Option X) → cons_option found [] ≡ option_to_list found
+one_kept (Some x) = refl
+one_kept None = refl
 
 -- what is kept of the numbers so far, and of one more
 pub kept_more : {X : Type 0} (f : ℕ → Option X) (n : ℕ) (so_far now : List X) (found : Option X) → so_far ≡ filter_map f (range_with_len 0 n)
     → now ≡ so_far ++ option_to_list found → found ≡ f n → now ≡ filter_map f (range_with_len 0 (n + 1))
 kept_more f n so_far now found before one is =
-    one ∙ (λ i. before i ++ option_to_list (is i)) ∙ ap (λ xs. filter_map f (range_with_len 0 n) ++ xs) (sym (one_kept f n))
+    one ∙ (λ i. before i ++ option_to_list (is i)) ∙ ap (λ xs. filter_map f (range_with_len 0 n) ++ xs) (sym (one_kept (f n)))
     ∙ sym (ap (filter_map f) (range_more n) ∙ filter_map-append f (range_with_len 0 n) (n ∷ []))
 
 -- the numbers so far that pass a test, and one more

@@ -82,18 +82,18 @@ module _ (read : Record → RowOrFault) (table : TableDef) (names : Record) wher
       × (found ++ faults_from read table names before (2 + 0) (map fields_of (drop 0 records)) ≡ faults_from read table names [] 2 (map fields_of records))
   begins records found none set empty = ([], no_keys set empty, ap (λ fs. fs ++ faults_from read table names [] 2 (map fields_of records)) none)
 
-  pub goes_on : (keys : List ℤ) (records : List Row) (i : ℕ) (record : Row) (found now : List FoundFault) (one : Option FoundFault) (set : BTreeSet ℤ)
+  pub goes_on : (keys : List ℤ) (records : List Row) (i : ℕ) (row : Row) (found now : List FoundFault) (one : Option FoundFault) (set : BTreeSet ℤ)
       (whole : List FoundFault)
-      → i < length records → record ≡ get_or records i record → one ≡ record_fault table names keys (2 + i) (fields_of record) (read (fields_of record))
-      → now ≡ found ++ option_to_list one → HasKeys (keys ++ own_keys (read (fields_of record))) set
+      → i < length records → row ≡ get_or records i row → one ≡ record_fault table names keys (2 + i) (fields_of row) (read (fields_of row))
+      → now ≡ found ++ option_to_list one → HasKeys (keys ++ own_keys (read (fields_of row))) set
       → found ++ faults_from read table names keys (2 + i) (map fields_of (drop i records)) ≡ whole
       → (before : List ℤ) × HasKeys before set × (now ++ faults_from read table names before (2 + (i + 1)) (map fields_of (drop (i + 1) records)) ≡ whole)
-  goes_on keys records i record found now one set whole lt is told added has so_far =
-      let fields = fields_of record in
+  goes_on keys records i row found now one set whole lt is told added has so_far =
+      let fields = fields_of row in
       let rest = map fields_of (drop (i + 1) records) in
       let behind = faults_from read table names (keys ++ own_keys (read fields)) (2 + i + 1) rest in
       let next : 2 + (i + 1) ≡ 2 + i + 1 = omega arith in
-      let step = at_drop_more (λ rs. faults_from read table names keys (2 + i) (map fields_of rs)) records i record lt
+      let step = at_drop_more (λ rs. faults_from read table names keys (2 + i) (map fields_of rs)) records i row lt
           ∙ ap (λ r. faults_from read table names keys (2 + i) (fields_of r ∷ rest)) (sym is) ∙ one_record keys (2 + i) fields rest in
       (keys ++ own_keys (read fields), has,
           ap (λ n. now ++ faults_from read table names (keys ++ own_keys (read fields)) n rest) next

@@ -3,10 +3,10 @@
 ghost use Rattle.std.specs.Prelude.{◌≡◌, ◌++◌, ◌<◌, IfSome, OnOk, flat_map, length, take};
 ghost use Rattle.csv.specs.Records.{fields_of};
 ghost use Rattle.clr_layer_text.specs.Wkt.{same_letters};
-ghost use Rattle.clr_layer_reports.specs.FaultSayings.{count_sentence, fault_name, field_sentence, field_text, field_words, listed_name};
-ghost use Rattle.clr_layer_reports.specs.FaultSayings.{fault_hint, fault_sentence, listed_names, missing_sentence, more_names, name_in, number_hint, number_sentence};
-ghost use Rattle.clr_layer_reports.specs.FaultSayings.{number_text, quoted, range_hint, row_text, shape_hint, text_fault_name, text_hint, text_sentence};
-ghost use Rattle.clr_layer_reports.specs.FaultSayings.{spelled_place, spelling_hint, twice_sentence, unfit_hint, unfit_words};
+ghost use Rattle.clr_layer_reports.specs.FaultSayings.{count_sentence, fault_hint, fault_name, fault_sentence, field_sentence, field_text, field_words};
+ghost use Rattle.clr_layer_reports.specs.FaultSayings.{listed_name, listed_names, missing_sentence, more_names, name_in, number_hint, number_sentence};
+ghost use Rattle.clr_layer_reports.specs.FaultSayings.{number_text, quoted, range_hint, row_text, shape_hint, spelled_place, spelling_hint};
+ghost use Rattle.clr_layer_reports.specs.FaultSayings.{text_fault_name, text_hint, text_sentence, twice_sentence, unfit_hint, unfit_words};
 
 use clr_hints::shorten;
 use clr_layer_changes::LayersFault;
