@@ -1,5 +1,5 @@
 -- The faults of records, one record after another, and the keys of the rows before.
-use Rattle.std.proofs.Common.{◌≡◌, ◌∙◌, ℕ, ℤ, ◌+◌, ◌<◌, ◌≤◌, Bool, true, false, not, cond, ◌||◌, List, [], ◌∷◌, ◌++◌, BTreeSet, Option, Some, None, Ok, Err}
+use Rattle.std.proofs.Common.{◌≡◌, ◌∙◌, ℕ, ℤ, ◌+◌, ◌<◌, ◌≤◌, Bool, true, false, not, cond, ◌||◌, List, [], ◌∷◌, ◌++◌, BTreeSet, Option, Some, None, Result, Ok, Err}
 use Rattle.std.proofs.Common.{ap, append-nil, append_assoc, arith, drop, get_or, length, map, refl, subst, sym}
 use Rattle.std.specs.BTreeSet.{IsEmpty, Updates, contains}
 use Rattle.std.specs.List.{list_any}
@@ -11,10 +11,12 @@ use Rattle.csv.specs.Records.{Row, fields_of}
 use Rattle.clr_rows.specs.declared.tables.TableDef.{TableDef}
 use Rattle.clr_layer_text.specs.declared.faults.LayerFault.{LayerFault}
 use Rattle.clr_layer_text.specs.declared.rows.LayerRow.{LayerRow}
+use Rattle.clr_layer_text.specs.Layers.{Fields, fields_of_table, row_of}
 use Rattle.clr_layer_changes.specs.declared.faults.LayersFault.TheVariants as of_layer
 use Rattle.clr_layer_faults.specs.declared.found.FoundFault.{FoundFault}
 use Rattle.clr_layer_faults.specs.Columns.{faulty_column}
-use Rattle.clr_layer_faults.specs.FoundFaults.{Record, RowOrFault, faults_from, found_at, has_key, key_fault, own_keys, record_fault}
+use Rattle.clr_layer_faults.specs.FoundFaults.{Record, RowOrFault, faults_below, faults_from, faults_under, found_at, has_key, header_faults, key_fault}
+use Rattle.clr_layer_faults.specs.FoundFaults.{or_whole, own_keys, record_fault}
 use Rattle.clr_layer_faults.specs.KeySets.{HasKeys, NotesKey, NotesRecord}
 
 -- keys --------------------------------------------------------------------------------------------------
@@ -119,3 +121,22 @@ pub noted_fault : (table : TableDef) (names fields : Record) (number : ℕ) (rea
     → NotesRecord table names number fields read set set found
 noted_fault table names fields number read fault set found is told =
     subst (λ (r : RowOrFault). NotesRecord table names number fields r set set found) (sym is) (λ before has. (told, same_keys before set has))
+
+-- headers -----------------------------------------------------------------------------------------------
+
+module _ (tables : List TableDef) (at : ℕ) (table : TableDef) (rounded : Bool) (names header : Record) (records : List Record) (same : names ≡ header) where
+  under_header : (read : Result Fields LayerFault) → fields_of_table header (Some table) ≡ read → faults_below tables at table rounded names records read
+      ≡ faults_under tables at table rounded names records
+  under_header read is =
+      sym (ap (λ (ns : Record). faults_below tables at table rounded names records (fields_of_table ns (Some table))) same
+      ∙ ap (faults_below tables at table rounded names records) is)
+
+  -- records below a header that has the columns of the table
+  pub good_header : (headings : Fields) → fields_of_table header (Some table) ≡ Ok headings
+      → faults_from (row_of tables at rounded headings) table names [] 2 records ≡ faults_under tables at table rounded names records
+  good_header headings is = under_header (Ok headings) is
+
+  -- a header that hasn't
+  pub bad_header : (fault : LayerFault) → fields_of_table header (Some table) ≡ Err fault
+      → or_whole fault (header_faults table names) ≡ faults_under tables at table rounded names records
+  bad_header fault is = under_header (Err fault) is
