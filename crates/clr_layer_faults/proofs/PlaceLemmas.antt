@@ -14,7 +14,6 @@ use Rattle.csv.specs.Reading.{is_bom, strip_bom}
 use Rattle.csv.specs.declared.parser.State.{State}
 use Rattle.csv.specs.declared.parser.State.TheVariants as st
 use Rattle.clr_hints.specs.Encodings.{has_mark}
-use Rattle.clr_hints.specs.declared.encodings.TheConstants.{BYTE_ORDER_MARK}
 use Rattle.clr_layer_changes.proofs.KeyLemmas.{first_behind, first_here, first_within, none_within}
 use Rattle.clr_layer_faults.specs.FieldPlaces.{Scan, begins_record_at, ended_fields, ends_before, field_offset, next_scan, record_starts, scan_of}
 
@@ -69,12 +68,15 @@ start_within bytes k start is =
 
 -- marks -------------------------------------------------------------------------------------------------
 
+abbrev mark : List ℕ
+mark = 239 ∷ 187 ∷ 191 ∷ []
+
 -- a text that begins with a byte order mark
 pub marked : (text : List ℕ) → has_mark text ≡ true → strip_bom text ≡ drop 3 text
 unfolding strip_bom
 marked text is =
-    let front : BYTE_ORDER_MARK.now ≡ take 3 text = (bytes_decides BYTE_ORDER_MARK.now (take 3 text)).0 is in
-    let whole : text ≡ BYTE_ORDER_MARK.now ++ drop 3 text = sym (take-append-drop 3 text) ∙ ap (λ xs. xs ++ drop 3 text) (sym front) in
+    let front : mark ≡ take 3 text = (bytes_decides mark (take 3 text)).0 is in
+    let whole : text ≡ mark ++ drop 3 text = sym (take-append-drop 3 text) ∙ ap (λ xs. xs ++ drop 3 text) (sym front) in
     ap strip_bom whole
 
 pub is_long : (text : List ℕ) → has_mark text ≡ true → 3 ≤ length text

@@ -11,7 +11,7 @@ loop-at-preserved c =
     let at = c.loop-at.at in
     let inv = c.loop-at.invariant in
     record {
-      state = c.behind.ensures.state ∙ ap (λ s. next_state s (get_or bytes at 0)) inv.state ∙ sym (fold_more next_state st.StartRecord bytes at 0 c.loop-at-test.true);
+      state = c.behind-reading.ensures.state ∙ ap (λ s. next_state s (get_or bytes at 0)) inv.state ∙ sym (fold_more next_state st.StartRecord bytes at 0 c.loop-at-test.true);
       starts = passed_more (begins_record_at bytes) at c.loop-at.starts.items _ c.begins_record.result inv.starts c.in_ok-add_if.ensures
           (c.begins_record.ensures ∙ ap (λ s. begins_record s (get_or bytes at 0)) inv.state);
     }

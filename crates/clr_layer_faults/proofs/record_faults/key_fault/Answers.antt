@@ -1,4 +1,4 @@
-use Rattle.std.proofs.Common.{None, Some, ap, cond, sym}
+use Rattle.std.proofs.Common.{◌∙◌, None, SFits, Some, ap, cond, of_z, rules, sym, to_z, to_z-of_z, w64}
 use Rattle.clr_layer_changes.specs.declared.faults.LayersFault.TheVariants as of_layer
 use Rattle.clr_layer_faults.specs.FoundFaults.{found_at}
 use Rattle.clr_layer_faults.proofs.RecordLemmas.{no_own_key, own_key}
@@ -9,11 +9,14 @@ returns-in_default c = no_own_key c.args.number c.args.key c.args.keys.now c.in_
 
 pub returns-then-branch : goal.returns-then-branch
 returns-then-branch c =
-    own_key c.args.number c.args.key c.in-Some.key c.args.keys.now c.insert.new.self c.in_ok-insert.field-0 None c.in-Some.is c.in_ok-insert.ensures.added
-    c.in_ok-insert.ensures.updates (sym (ap (λ b. cond b None (Some (found_at c.args.number (Some 0) of_layer.KeyTwice))) c.if-branch.true))
+    let fits : SFits w64 c.in-Some.key = search rules in
+    own_key c.args.number c.args.key (to_z w64 (of_z w64 c.in-Some.key)) c.args.keys.now c.insert.new.self c.in_ok-insert.field-0 None
+    (c.in-Some.is ∙ ap Some (sym (to_z-of_z fits))) c.in_ok-insert.ensures.added c.in_ok-insert.ensures.updates
+    (sym (ap (λ b. cond b None (Some (found_at c.args.number (Some 0) of_layer.KeyTwice))) c.if-branch.true))
 
 pub returns : goal.returns
 returns c =
-    own_key c.args.number c.args.key c.in-Some.key c.args.keys.now c.insert.new.self c.in_ok-insert.field-0 (Some (found_at c.args.number (Some 0) of_layer.KeyTwice))
-    c.in-Some.is c.in_ok-insert.ensures.added c.in_ok-insert.ensures.updates
-    (sym (ap (λ b. cond b None (Some (found_at c.args.number (Some 0) of_layer.KeyTwice))) c.if-branch.false))
+    let fits : SFits w64 c.in-Some.key = search rules in
+    own_key c.args.number c.args.key (to_z w64 (of_z w64 c.in-Some.key)) c.args.keys.now c.insert.new.self c.in_ok-insert.field-0
+    (Some (found_at c.args.number (Some 0) of_layer.KeyTwice)) (c.in-Some.is ∙ ap Some (sym (to_z-of_z fits))) c.in_ok-insert.ensures.added
+    c.in_ok-insert.ensures.updates (sym (ap (λ b. cond b None (Some (found_at c.args.number (Some 0) of_layer.KeyTwice))) c.if-branch.false))
