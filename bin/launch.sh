@@ -19,11 +19,11 @@ use_program "$program"
 # How many seconds pass at most between two lines while the program is proved.
 patience=${CLR_OFFICE_PATIENCE-60}
 # The folder in which it is proved, in folders of their own for the runs of the toolchain; one in memory for temporary files; and the process that
-# proves it.
+# proves it, the first of a group of processes.
 room= scratch= proving=
 
 clean_up() {
-    if [ -n "$proving" ]; then kill "$proving" 2>/dev/null; fi
+    if [ -n "$proving" ]; then kill -- "-$proving" 2>/dev/null; fi
     rm -rf ${room:+"$room"} ${scratch:+"$scratch"}
     rm -f "$out"/*.new
 }
@@ -113,18 +113,13 @@ keeps_proofs() {
 # How many crates of a run aren't proved yet, by what it has said in a file.
 count_left() { echo $(($1 - $(grep -cE '^rt: [a-z_]+ (proved$|is kept: )' "$2"))); }
 
-end_jobs() { kill $(jobs -p) 2>/dev/null; }
-
 # Proves the crates by three runs of the toolchain, each of which takes what the others have proved and waits for what they are proving. The first
 # proves the crate on which all stand, with the processors that are free. The second begins at the same time, since it first reads all texts, and
 # proves many crates side by side. The third, of all crates, begins once the second has no more crates left than are proved at once: it proves what
 # stands on these, and shares out the processors. Programs are run from its temporary folder, as they may not be from one in memory.
 # Of a toolchain that keeps no proofs there is one run alone, since no run could take what another has proved.
-prove() {
+prove_in_runs() {
     local at_once temporary=${scratch:-${TMPDIR:-/tmp}} many first second
-    # (a function, since bash can't read a trap's own words if a signal comes while it reads them)
-    trap end_jobs EXIT
-    trap 'exit 143' TERM
     if ! keeps_proofs; then
         prove_crates "$room/whole" '' "${TMPDIR:-/tmp}" "${crates[@]}"
         return
@@ -139,6 +134,16 @@ prove() {
     while kill -0 $second 2>/dev/null && [ "$(count_left ${#many[@]} "$room/said")" -gt "${at_once:-2}" ]; do sleep 1; done
     # (where all crates are proved, so are those of the others; bash may have forgotten by now how these ended)
     prove_crates "$room/whole" '' "${TMPDIR:-/tmp}" "${crates[@]}"
+}
+
+# Proves the crates, and ends the runs that are still at work by then. It has no traps: bash can't read a trap's words if the signal comes while it
+# reads those of a command's output. So whoever ends it sends the signal to its whole group.
+prove() {
+    local proved
+    prove_in_runs
+    proved=$?
+    kill $(jobs -p) 2>/dev/null
+    return $proved
 }
 
 # Reads into `seconds` by how long each crate made an earlier run longer, as bench/times_of_crates has it; of a crate that isn't there, the mean of all.
@@ -170,11 +175,12 @@ minutes_left() {
 # Reads what `rt ci` prints, and says a line for each crate that is done, and for each minute in which none is, with what is left. It fails after a
 # line that names a crate which isn't proved, or else says why nothing is.
 follow() {
-    local line crate at_work why= start=$SECONDS
+    local line begun= crate at_work why= start=$SECONDS
     local -A done=() seconds=()
     read_times
     while true; do
         if IFS= read -r -t "$patience" line; then
+            line=$begun$line begun=
             case $line in
             'rt: '*' proved' | 'rt: '*' is kept: '*)
                 line=${line#rt: } crate=${line%% *}
@@ -192,7 +198,7 @@ follow() {
             'rt: '*) why=${line#rt: } ;;
             esac
         elif [ $? -gt 128 ]; then
-            at_work=
+            begun+=$line at_work=
             for crate in "${crates[@]}"; do
                 if [ -n "${done[$crate]+known}" ]; then continue; fi
                 if compgen -G "$room/*/crates/$crate/out/rlib" >/dev/null; then at_work+=", $crate"; fi
@@ -218,8 +224,12 @@ build() {
     room=$(mktemp -d "${TMPDIR:-/tmp}/$program.XXXXXX") || refuse "there is no room for a folder in which the program can be built"
     scratch=$(make_scratch)
     digest=$(digest_of_sources) before=$(listing)
-    exec 8< <(exec 9>&- && prove)
+    mkfifo "$room/told" || refuse "there is no room for a pipe in $room"
+    set -m # (so that the next command gets a group of its own)
+    { exec 9>&- && prove; } </dev/null >"$room/told" &
     proving=$!
+    set +m
+    exec 8<"$room/told"
     follow <&8 || exit 2
     exec 8<&-
     [ "$(listing)" = "$before" ] || refuse "the sources were changed while they were proved; start again"
@@ -246,14 +256,6 @@ elif ! is_current; then
     trap - INT TERM HUP
     clean_up
     exec 9>&-
-fi
-# Who asks for the version at a terminal is told from what the program was built, too.
-if [ "$*" = --version ] && [ -t 2 ]; then
-    if [ -n "$released" ]; then
-        say "$(grep -e "^sources of $program: " -e '^toolchain: ' -- "${released%/bin/*}/PROOF" | paste -sd ';')"
-    else
-        say "sources of $program: $(digest_of_sources | cut -d ' ' -f 1); toolchain: $(kit_of_program)"
-    fi
 fi
 # Where the system has large pages, the C library takes the program's memory in these, 16 MB at a time, and gives none back before the end.
 export GLIBC_TUNABLES=${GLIBC_TUNABLES-glibc.malloc.hugetlb=1:glibc.malloc.top_pad=16777216:glibc.malloc.trim_threshold=1073741824}

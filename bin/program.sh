@@ -87,11 +87,22 @@ is_current() {
     return 0
 }
 
+# Writes into a program from what it was built: the digest of its sources, and the line of its toolchain. `--version` prints both. The program keeps a place
+# of two lines for it, so no other byte changes. One that keeps none stays as it is.
+write_build() {
+    local places
+    places=$(LC_ALL=C grep -abo -- 'sources not recorded' "$1" | cut -d : -f 1)
+    [ -n "$places" ] || return 0
+    [[ $places =~ ^[0-9]+$ ]] || return 1
+    printf '%-72s\n%-60.60s' "sources $2" "toolchain $3" | dd of="$1" bs=1 seek="$places" conv=notrunc 2>/dev/null
+}
+
 # Puts a program into bin/out that was built from sources of this digest and this listing.
 write_program() {
     local made=$1 digest=$2 before=$3
     rm -f "$out/$program.stamp" "$out/$program.digests" "$out/$program.kit"
     (rt version >"$out/$program.kit") 2>/dev/null
-    cp "$made" "$out/$program.new" && mv -f "$out/$program.new" "$out/$program" &&
+    cp "$made" "$out/$program.new" && write_build "$out/$program.new" "${digest%% *}" "$(kit_of_program)" &&
+        mv -f "$out/$program.new" "$out/$program" &&
         (echo "$digest" && digest_of_program) >"$out/$program.digests" && write_stamp "$before"
 }

@@ -1,3 +1,4 @@
+mod LayerReportLemmas
 mod LineEnds
 mod LinedTexts
 mod OneAnswer

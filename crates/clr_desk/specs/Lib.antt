@@ -7,6 +7,7 @@ pub mod Formats
 pub mod Geographic
 pub mod GivenLayers
 pub mod InOrder
+pub mod LayerFaults
 pub mod LineEnds
 pub mod LinedTexts
 pub mod Merges

@@ -1,5 +1,5 @@
 //! The layers that are asked for, each with its text.
-ghost use Rattle.std.specs.Prelude.{◌≡◌, [], drop, map, take, IfOk};
+ghost use Rattle.std.specs.Prelude.{◌≡◌, ◌≤◌, [], drop, map, take, IfOk};
 ghost use Rattle.std.specs.List.{zip};
 ghost use Rattle.clr_desk.specs.GivenLayers.{office_count, pair_of, pairs_in, tables_of};
 
@@ -26,8 +26,9 @@ fn tables_of(ask: &DeskAsk) -> &[Words]
 }
 
 /// Returns how many texts stand before those of the layers.
-fn office_count(ask: &DeskAsk) -> usize
-    ensures { result ≡ office_count ask.now }
+pub(crate) fn office_count(ask: &DeskAsk) -> usize
+    ensures value { result ≡ office_count ask.now }
+    ensures small { result ≤ 2 }
 {
     match ask {
         DeskAsk::Geographic(GeographicAsk::DesignSince(_)) => 2,

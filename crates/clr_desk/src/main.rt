@@ -29,6 +29,8 @@
 //!   aren't broken any more, and of `errors` the broken needs of LIVE, whether known or not, with status 0 only where all are known.
 //! - `fault_place` [`place`]: the file, the line and the column of the fault of the office text or the certificate, and nothing of any other.
 //! - `take_layers` [`layers`, `offices`]: each table that is asked for with the text in its place.
+//! - `faults_of_layers` [`faults`]: all that is wrong with layers, each fault with its file, line and column (`AreLayerFaults`). `degrees_of_layers`
+//!   [`degrees`]: the layers whose coordinates look like degrees.
 //! - `texts_have_one_answer` [`answer`]: memory aside, what is asked has one answer alone, but for what the definitions of clashes, of orders, of faults,
 //!   and of sentences, pictures, pages, features, layers and errors leave open.
 //! - [`silent`]: with status 3 nothing went to the sink of the text.
@@ -46,6 +48,7 @@ mod geographic;
 mod given_layers;
 mod in_order;
 mod laws;
+mod layer_faults;
 mod line_ends;
 mod merges;
 mod orders;
@@ -55,15 +58,25 @@ mod whys;
 use crate::answers::answer;
 use crate::fault_places::fault_place;
 use crate::given_layers::take_layers;
+use crate::layer_faults::{degrees_of_layers, faults_of_layers};
 use clr_desk_command_line::{AskFault, DeskAsk, ask_of};
+use clr_desk_layers::GivenLayer;
 use clr_office::{Port, RunFault, Sink, Words};
 use clr_process_io::{
     BAD_WORDS, end_run, file_name, print_fault, print_parser_message, put_input_remark, read_files,
     text_at, texts_of_words, words,
 };
 use clr_streams::Screen;
+use std::alloc::AllocError;
 use std::io::ErrorKind;
 use std::process::ExitCode;
+
+/// From what the program was built, behind its version. `write_build` of bin/program.sh writes over these characters once the program is proved and built.
+const BUILD: &str =
+    "sources not recorded                                                    \ntoolchain not recorded                                      ";
+
+/// The exit status where a layer has a fault, as where a text has one that `why` asks about.
+const UNREADABLE: u8 = 2;
 
 /// Prints a fault's line on standard error, and behind it where the fault is, if a text has it; and gives
 /// its exit status. Where no memory is found for the place, that is what is printed.
@@ -89,6 +102,32 @@ fn refuse_file(rt: &HostRuntime, name: &str, fault: RunFault) -> u8 {
     status
 }
 
+/// Prints lines on standard error, unless no memory was found for them.
+fn print_remarks(rt: &HostRuntime, lines: Result<Vec<u8>, AllocError>) {
+    if let Ok(lines) = lines {
+        let _ = Screen::new(rt.alloc(), Port::new(rt.stderr()), true).put(lines.as_slice());
+    }
+}
+
+/// Prints remarks on layers on standard error: what is wrong with them, behind the line of the first fault, where this is the status; and which of them
+/// look like degrees. Where no memory is found for it, the line stands alone.
+fn print_layer_remarks(
+    rt: &HostRuntime,
+    ask: &DeskAsk,
+    files: &[Words],
+    office: &[u8],
+    layers: &[GivenLayer],
+    status: u8,
+) {
+    if layers.is_empty() {
+        return;
+    }
+    if status == UNREADABLE {
+        print_remarks(rt, faults_of_layers(rt.alloc(), ask, files, office, layers));
+    }
+    print_remarks(rt, degrees_of_layers(rt.alloc(), ask, files, layers));
+}
+
 /// Answers what the words ask of files, and gives the exit status.
 fn answer_files(rt: &HostRuntime, ask: &DeskAsk, files: &[Words]) -> Result<u8, RunFault> {
     let mut texts = match read_files(rt, files) {
@@ -110,6 +149,9 @@ fn answer_files(rt: &HostRuntime, ask: &DeskAsk, files: &[Words]) -> Result<u8, 
         &mut writer,
         &mut notes,
     );
+    if let Ok(status) = ended {
+        print_layer_remarks(rt, ask, files, office, layers, status);
+    }
     match ended {
         Ok(_) | Err(RunFault::WriteFailed) => {
             let is_closed = writer.below().is_closed() || notes.below().is_closed();
@@ -119,12 +161,21 @@ fn answer_files(rt: &HostRuntime, ask: &DeskAsk, files: &[Words]) -> Result<u8, 
     }
 }
 
+/// Prints what the parser of the command line says, and behind a version from what the program was built; and gives the exit status.
+fn print_message(rt: &HostRuntime, error: &clap::Error) -> u8 {
+    let status = print_parser_message(rt, error);
+    if status == 0 && error.kind() == clap::error::ErrorKind::DisplayVersion {
+        let _ = println!(rt; "{BUILD}");
+    }
+    status
+}
+
 /// Does what the words ask for, and gives the exit status.
 fn run_words(rt: &HostRuntime, words: &[String]) -> Result<u8, RunFault> {
     let texts = texts_of_words(rt, words)?;
     match ask_of(rt.alloc(), texts.as_slice()) {
         Ok((ask, files)) => answer_files(rt, &ask, files.as_slice()),
-        Err(AskFault::Refused(error)) => Ok(print_parser_message(rt, &error)),
+        Err(AskFault::Refused(error)) => Ok(print_message(rt, &error)),
         Err(AskFault::OutOfMemory) => Err(RunFault::OutOfMemory),
     }
 }

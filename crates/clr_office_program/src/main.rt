@@ -13,6 +13,10 @@ use clr_process_io::{
 use std::io::{ErrorKind, IsTerminal, Write, sink};
 use std::process::ExitCode;
 
+/// From what the program was built, behind its version. `write_build` of bin/program.sh writes over these characters once the program is proved and built.
+const BUILD: &str =
+    "sources not recorded                                                    \ntoolchain not recorded                                      ";
+
 /// Prints a fault's line on standard error, and gives its exit status. Where somebody reads it on a terminal, a second line says of
 /// which input it is, if it is that of one.
 fn refuse_input(rt: &HostRuntime, name: &str, fault: RunFault) -> u8 {
@@ -70,12 +74,21 @@ fn answer_files(rt: &HostRuntime, ask: &Ask, files: &[Words]) -> u8 {
     }
 }
 
+/// Prints what the parser of the command line says, and behind a version from what the program was built; and gives the exit status.
+fn print_message(rt: &HostRuntime, error: &clap::Error) -> u8 {
+    let status = print_parser_message(rt, error);
+    if status == 0 && error.kind() == clap::error::ErrorKind::DisplayVersion {
+        let _ = println!(rt; "{BUILD}");
+    }
+    status
+}
+
 /// Does what the words ask for, and gives the exit status.
 fn run_words(rt: &HostRuntime, words: &[String]) -> Result<u8, RunFault> {
     let texts = texts_of_words(rt, words)?;
     match ask_of(rt.alloc(), texts.as_slice()) {
         Ok((ask, files)) => Ok(answer_files(rt, &ask, files.as_slice())),
-        Err(AskFault::Refused(error)) => Ok(print_parser_message(rt, &error)),
+        Err(AskFault::Refused(error)) => Ok(print_message(rt, &error)),
         Err(AskFault::OutOfMemory) => Err(RunFault::OutOfMemory),
     }
 }

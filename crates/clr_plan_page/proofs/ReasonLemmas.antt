@@ -9,6 +9,7 @@ use Rattle.clr_cert.specs.declared.certificates.Entry.{Entry}
 use Rattle.clr_steps.specs.Offices.{Office}
 use Rattle.clr_steps.specs.Quiet.{MergeSet}
 use Rattle.clr_clearance.specs.declared.verdicts.Verdict.{Verdict}
+use Rattle.clr_clearance.specs.Plans.{members_at}
 use Rattle.clr_clearance.specs.MergeSets.{change_sets}
 use Rattle.clr_merge_clashes.specs.MergeClashes.{IsFaultOfNames}
 use Rattle.clr_merge_sets.specs.declared.plans.Plan.{Plan}
@@ -18,6 +19,7 @@ use Rattle.clr_order_sentences.specs.OrderSentences.{AreOrderSentences}
 use Rattle.clr_plan_sentences.specs.Causes.{IsCause}
 use Rattle.clr_plan_sentences.specs.declared.told_rows.CauseWords.{CauseWords}
 use Rattle.clr_work_orders.specs.declared.trials.Trial.{Trial}
+use Rattle.clr_work_orders.specs.Among.{among_text}
 use Rattle.clr_plan_page.specs.Causes.{AreBlocked, cause_shown, trials_shown}
 use Rattle.clr_plan_page.specs.Clashes.{TellsClashes, is_lost}
 use Rattle.clr_plan_page.specs.Designs.{AreDesigns, designs_shown}
@@ -27,13 +29,16 @@ use Rattle.clr_plan_page.specs.Shown.{Adds, Shown, Heading, said}
 use Rattle.clr_plan_page.proofs.SectionLemmas.{in_a_row}
 
 -- a cause, and then what was tried
-pub blocked_told : (o : Office) (s : MergeSet) (sets : List Changes) (v : Verdict) (trials : List Trial) (cause : CauseWords) (old one new : List Shown)
-    → IsCause o s sets v cause → one ≡ old ++ cause_shown cause → new ≡ one ++ trials_shown trials → Adds (AreBlocked o s sets v trials) old new
-blocked_told o s sets v trials cause old one new is e f = (
-  cause_shown cause ++ trials_shown trials,
-  (cause, is, refl),
-  f ∙ ap (λ (blocks : List Shown). blocks ++ trials_shown trials) e ∙ append_assoc old (cause_shown cause) (trials_shown trials),
-)
+pub blocked_told : (o : Office) (s : MergeSet) (sets : List Changes) (order : List ℕ) (v : Verdict) (among : List ℕ) (trials : List Trial)
+    (cause : CauseWords) (old one new : List Shown) → IsCause o s sets v cause → among ≡ among_text (members_at s order)
+    → one ≡ old ++ cause_shown cause → new ≡ one ++ trials_shown among trials → Adds (AreBlocked o s sets order v trials) old new
+blocked_told o s sets order v among trials cause old one new is told e f =
+    let tried = trials_shown (among_text (members_at s order)) trials in (
+      cause_shown cause ++ tried,
+      (cause, is, refl),
+      f ∙ ap (λ (text : List ℕ). one ++ trials_shown text trials) told ∙ ap (λ (blocks : List Shown). blocks ++ tried) e
+          ∙ append_assoc old (cause_shown cause) tried,
+    )
 
 pub reasons_of_cleared : (o : Office) (s : MergeSet) (sets : List Changes) (p : Plan) (trials : List Trial) (c : Certificate) (entries : List Entry)
     (old new : List Shown) → p ≡ plan.Cleared c → entries ≡ c.entries → new ≡ old ++ needs_shown o s.members sets entries
@@ -46,9 +51,13 @@ reasons_of_cleared o s sets p trials c entries old new is same e =
     )
 
 pub reasons_of_blocked : (o : Office) (s : MergeSet) (sets : List Changes) (p : Plan) (trials : List Trial) (order : Vec ℕ Global) (v : Verdict)
-    (old new : List Shown) → p ≡ plan.Blocked order v → Adds (AreBlocked o s sets v trials) old new → Adds (AreReasons o s sets p trials) old new
-reasons_of_blocked o s sets p trials order v old new is (more, blocked, e) =
-    (more, subst (λ (q : Plan). AreReasons o s sets q trials more) (sym is) blocked, e)
+    (positions : List ℕ) (old new : List Shown) → p ≡ plan.Blocked order v → positions ≡ order.items
+    → Adds (AreBlocked o s sets positions v trials) old new → Adds (AreReasons o s sets p trials) old new
+reasons_of_blocked o s sets p trials order v positions old new is same (more, blocked, e) = (
+  more,
+  subst (λ (q : Plan). AreReasons o s sets q trials more) (sym is) (subst (λ (ks : List ℕ). AreBlocked o s sets ks v trials more) same blocked),
+  e,
+)
 
 pub no_reasons : (o : Office) (s : MergeSet) (sets : List Changes) (p : Plan) (trials : List Trial) (old : List Shown)
     → AreReasons o s sets p trials [] → Adds (AreReasons o s sets p trials) old old

@@ -22,6 +22,19 @@ table_behind old one new b table heads rows e headed told f =
     ∙ ap (λ (hs : List (List ℕ)). old ++ (b ∷ Table hs (rows_of table) ∷ [])) headed
     ∙ ap (λ (rs : List (List (List ℕ))). old ++ (b ∷ Table heads rs ∷ [])) told
 
+-- a block, some words, and a table
+pub table_behind_words : (old one two new : List Shown) (b : Shown) (words : List Shown) (table : Stored) (heads : List (List ℕ))
+    (rows : List (List (List ℕ)))
+    → one ≡ old ++ b ∷ [] → two ≡ one ++ words → heads_of table ≡ heads → rows_of table ≡ rows
+    → new ≡ two ++ Table (heads_of table) (rows_of table) ∷ [] → new ≡ old ++ (b ∷ (words ++ Table heads rows ∷ []))
+table_behind_words old one two new b words table heads rows e g headed told f =
+    f
+    ∙ ap (λ (blocks : List Shown). blocks ++ Table (heads_of table) (rows_of table) ∷ [])
+    (g ∙ ap (λ (blocks : List Shown). blocks ++ words) e ∙ append_assoc old (b ∷ []) words)
+    ∙ append_assoc old (b ∷ words) (Table (heads_of table) (rows_of table) ∷ [])
+    ∙ ap (λ (hs : List (List ℕ)). old ++ (b ∷ (words ++ Table hs (rows_of table) ∷ []))) headed
+    ∙ ap (λ (rs : List (List (List ℕ))). old ++ (b ∷ (words ++ Table heads rs ∷ []))) told
+
 -- more behind two blocks
 pub more_behind : (old two new : List Shown) (a b : Shown) (more : List Shown) → two ≡ old ++ (a ∷ b ∷ []) → new ≡ two ++ more
     → new ≡ old ++ (a ∷ b ∷ more)

@@ -4,11 +4,14 @@ use Rattle.std.specs.List.{flat_map}
 use Rattle.clr_rows.specs.Contents.{Changes}
 use Rattle.clr_steps.specs.Offices.{Office}
 use Rattle.clr_steps.specs.Quiet.{MergeSet}
+use Rattle.clr_clearance.specs.Plans.{members_at}
 use Rattle.clr_clearance.specs.declared.verdicts.Verdict.{Verdict}
 use Rattle.clr_plan_sentences.specs.declared.told_rows.CauseWords.{CauseWords}
 use Rattle.clr_plan_sentences.specs.declared.told_rows.RowWords.{RowWords}
 use Rattle.clr_plan_sentences.specs.Causes.{IsCause}
+use Rattle.clr_work_orders.specs.declared.answers.Answer.{Answer}
 use Rattle.clr_work_orders.specs.declared.trials.Trial.{Trial}
+use Rattle.clr_work_orders.specs.Among.{among_text}
 use Rattle.clr_plan_page.specs.Shown.{Shown, Heading, Table, said}
 
 -- the cause -------------------------------------------------------------------------------------
@@ -26,34 +29,34 @@ cause_shown cause = said cause.reason ++ Table cause_heads (map cause_row cause.
 
 -- what was tried --------------------------------------------------------------------------------
 
--- what the planner says of a trial
-abbrev pub answer_words : Bool → List ℕ
-answer_words true = codes "cleared"
-answer_words false = codes "not cleared"
+-- what the planner says of a trial, and behind a no why
+abbrev pub answer_words : Answer → List ℕ
+answer_words told = if told.is_cleared then codes "cleared" else codes "not cleared: " ++ told.why
 
 abbrev pub trial_words : Trial → List (List ℕ)
-trial_words trial = trial.words ∷ answer_words trial.is_cleared ∷ []
+trial_words trial = trial.words ∷ answer_words trial.answer ∷ []
 
 -- the row of a trial that has this answer, and nothing of another
 abbrev pub trial_rows : Bool → Trial → List (List (List ℕ))
-trial_rows true trial = if trial.is_cleared then trial_words trial ∷ [] else []
-trial_rows false trial = if trial.is_cleared then [] else trial_words trial ∷ []
+trial_rows true trial = if trial.answer.is_cleared then trial_words trial ∷ [] else []
+trial_rows false trial = if trial.answer.is_cleared then [] else trial_words trial ∷ []
 
 abbrev pub trial_heads : List (List ℕ)
-trial_heads = codes "Tried" ∷ codes "Then all that are left are" ∷ []
+trial_heads = codes "Tried" ∷ codes "Then they are" ∷ []
 
 -- a row for each trial, the cleared ones first
 abbrev pub rows_of_trials : List Trial → List (List (List ℕ))
 rows_of_trials trials = flat_map (trial_rows true) trials ++ flat_map (trial_rows false) trials
 
--- trials below a heading, and nothing where nothing was tried
-abbrev pub trials_shown : List Trial → List Shown
-trials_shown trials =
+-- below a heading among whom trials were made, and then the trials; nothing where nothing was tried
+abbrev pub trials_shown : List ℕ → List Trial → List Shown
+trials_shown among trials =
     if length trials == 0 then []
-    else Heading (codes "What would help, each by itself") ∷ Table trial_heads (rows_of_trials trials) ∷ []
+    else Heading (codes "What would help") ∷ (said among ++ Table trial_heads (rows_of_trials trials) ∷ [])
 
 -- both ------------------------------------------------------------------------------------------
 
--- why members that make these changes are blocked, and then these trials
-abbrev pub AreBlocked : Office → MergeSet → List Changes → Verdict → List Trial → List Shown → Type 0
-AreBlocked o s sets v trials blocks = (cause : CauseWords) × IsCause o s sets v cause × (blocks ≡ cause_shown cause ++ trials_shown trials)
+-- why members that make these changes are blocked in this order, and then these trials, among the designs of the order
+abbrev pub AreBlocked : Office → MergeSet → List Changes → List ℕ → Verdict → List Trial → List Shown → Type 0
+AreBlocked o s sets order v trials blocks =
+    (cause : CauseWords) × IsCause o s sets v cause × (blocks ≡ cause_shown cause ++ trials_shown (among_text (members_at s order)) trials)

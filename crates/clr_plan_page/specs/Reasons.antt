@@ -16,7 +16,7 @@ use Rattle.clr_plan_page.specs.Shown.{Shown, Heading, said}
 -- of a plan of members that make these changes: what serves each need, or the cause with what was tried; nothing of any other plan
 abbrev pub AreReasons : Office → MergeSet → List Changes → Plan → List Trial → List Shown → Type 0
 AreReasons o s sets (plan.Cleared c) trials blocks = blocks ≡ needs_shown o s.members sets c.entries
-AreReasons o s sets (plan.Blocked order v) trials blocks = AreBlocked o s sets v trials blocks
+AreReasons o s sets (plan.Blocked order v) trials blocks = AreBlocked o s sets order.items v trials blocks
 AreReasons o s sets (plan.Unfit v) trials blocks = blocks ≡ []
 AreReasons o s sets plan.OutOfMemory trials blocks = blocks ≡ []
 

@@ -28,23 +28,26 @@ use clr_plan_answers::answer_words;
 use clr_plan_map::{leaders_of, plan_map, plan_title};
 use clr_plan_sentences::Setting;
 use clr_rows::Schema;
-use clr_work_orders::{Trial, try_remedies};
+use clr_work_orders::{Trial, among_words, try_remedies};
 use std::alloc::{AllocError, Global};
 
-/// Adds the cause of a no, and what was tried to help.
+/// Adds the cause of a no, and what was tried to help among the members in its order.
 fn add_blocked(
     section: &mut Builder,
     setting: Setting<'_>,
+    order: &[usize],
     cause: &Verdict,
     trials: &[Trial],
 ) -> Result<(), AllocError>
     requires { AreMembers setting.office.now (set_of setting.members.now) setting.members.now }
     ensures { OnOk result (Adds (AreBlocked setting.entry.office.now (set_of setting.entry.members.now)
-        setting.entry.members.now.changes.items cause.now trials.now) (map shown section.old.blocks.items) (map shown section.new.blocks.items)) }
+        setting.entry.members.now.changes.items order.now cause.now trials.now)
+        (map shown section.old.blocks.items) (map shown section.new.blocks.items)) }
 {
     let cause = setting.cause_words(cause)?;
+    let among = among_words(setting.alloc, setting.members.names, order)?;
     add_cause(section, &cause)?;
-    add_remedies(section, trials)
+    add_remedies(section, among.as_str(), trials)
 }
 
 /// Adds what serves each need of a cleared plan; or the cause of a blocked one, and what was tried to help.
@@ -62,7 +65,9 @@ fn add_reasons(
         Plan::Cleared(certificate) => {
             add_needs(section, setting, certificate.entries.as_slice())
         }
-        Plan::Blocked { cause, .. } => add_blocked(section, setting, cause, trials),
+        Plan::Blocked { order, cause } => {
+            add_blocked(section, setting, order.as_slice(), cause, trials)
+        }
         Plan::Unfit(_) => Ok(()),
         Plan::OutOfMemory => Ok(()),
     }

@@ -1,7 +1,5 @@
-pub mod ClearingLemmas
 pub mod FreeKeys
 pub mod KeyLemmas
 pub mod RemedyLemmas
 pub mod Savepoints
-pub mod SuspectLemmas
 pub mod TrialLemmas

@@ -14,7 +14,9 @@ use Rattle.clr_steps.specs.Quiet.{MergeSet}
 use Rattle.clr_steps.specs.Effects.{effect}
 use Rattle.clr_steps.specs.Refusals.{refusal}
 use Rattle.clr_steps.specs.Steps.{IsAnswer, answer, is_lost, refused_or_done, step, step_or_lost}
+use Rattle.clr_merge_clashes.specs.Laws.{merge_set_of_part}
 use Rattle.clr_work_orders.specs.declared.actions.Action.{Action}
+use Rattle.clr_work_orders.specs.declared.answers.Answer.{Answer}
 use Rattle.clr_work_orders.specs.declared.trials.Trial.{Trial}
 use Rattle.clr_work_orders.specs.Actions.{action_text}
 use Rattle.clr_work_orders.specs.Making.{AddsTrial, IsActionTried, IsBack, IsDone, IsEditJudged, IsEditTried}
@@ -23,26 +25,26 @@ use Rattle.clr_work_orders.specs.Trials.{AreTrials, IsTried, IsTrialAnswer, savi
 use Rattle.clr_work_orders.proofs.Savepoints.{IsBetween, as_before, edited, same}
 
 -- an edit was tried or not, and what was there is there again
-between : (o there : Office) (ws : Name) (edit : Edit) (s : MergeSet) (told : Option Bool) → IsEditJudged o ws edit s told there → IsBetween ws o there
+between : (o there : Office) (ws : Name) (edit : Edit) (s : MergeSet) (told : Option Answer) → IsEditJudged o ws edit s told there → IsBetween ws o there
 between o there ws edit s None (refused, e) = same e
-between o there ws edit s (Some cleared) (made, judged) = edited (edit ∷ []) made
+between o there ws edit s (Some given) (made, judged) = edited (edit ∷ []) made
 
-pub back_to : (o saved there left : Office) (ws savepoint : Name) (edit : Edit) (s : MergeSet) (told : Option Bool)
+pub back_to : (o saved there left : Office) (ws savepoint : Name) (edit : Edit) (s : MergeSet) (told : Option Answer)
     → IsSound (live_workspace o.live ∷ o.workspaces) → step o (command.Mark ws savepoint) ≡ answer Done saved
     → IsEditJudged saved ws edit s told there → IsBack there ws savepoint left → left ≡ o
 back_to o saved there left ws savepoint edit s told sound mark judged (rolled, roll, unmark) =
     as_before o sound ws savepoint saved there rolled left mark (between saved there ws edit s told judged) roll unmark
 
-pub told_of : (o saved there : Office) (ws : Name) (edit : Edit) (s : MergeSet) (told : Option Bool)
+pub told_of : (o saved there : Office) (ws : Name) (edit : Edit) (s : MergeSet) (told : Option Answer)
     → step o (saving ws) ≡ answer Done saved → IsEditJudged saved ws edit s told there → IsEditTried o ws edit s told
 told_of o saved there ws edit s None mark (refused, e) = inr (saved, mark, refused)
-told_of o saved there ws edit s (Some cleared) mark (made, judged) = (there, record { saved = saved; mark = mark; apply = made }, judged)
+told_of o saved there ws edit s (Some given) mark (made, judged) = (there, record { saved = saved; mark = mark; apply = made }, judged)
 
 -- what is told of an edit is told of the action that makes it
-pub told_as : (o : Office) (s : MergeSet) (at : ℕ) (edit : Edit) (ws : Name) → slice_get s.members at ≡ Some ws → (told : Option Bool)
-    → IsEditTried o ws edit s told → IsActionTried o s (action.Make at edit) told
-told_as o s at edit ws get None cannot = inr (ws, get, cannot)
-told_as o s at edit ws get (Some cleared) (next, made, judged) = (ws, get, next, made, judged)
+pub told_as : (o : Office) (s : MergeSet) (order : List ℕ) (at : ℕ) (edit : Edit) (ws : Name) → slice_get s.members at ≡ Some ws → (told : Option Answer)
+    → IsEditTried o ws edit (merge_set_of_part s order) told → IsActionTried o s order (action.Make at edit) told
+told_as o s order at edit ws get None cannot = inr (ws, get, cannot)
+told_as o s order at edit ws get (Some given) (next, made, judged) = (ws, get, next, made, judged)
 
 -- a command that isn't done, though there was memory, is refused, and leaves the office as it is
 pub undone : (o : Office) (c : Command) (reply : Reply) (left : Office) → IsAnswer o c reply left → (reply ≡ Done → ⊥) → (reply ≡ OutOfMemory → ⊥)
@@ -61,32 +63,34 @@ undone o c reply left is other found = by (is_lost reply) is
 -- one more trial -----------------------------------------------------------------------------------
 
 -- the trial of the last action stands behind the others
-pub trials_last : (o : Office) (s : MergeSet) (actions : List Action) (a : Action) (trials : List Trial) (last : Option Trial)
-    → AreTrials o s actions trials → IsTried o s a last → AreTrials o s (actions ++ a ∷ []) (trials ++ option_to_list last)
-trials_last o s [] a trials last none is =
+pub trials_last : (o : Office) (s : MergeSet) (order : List ℕ) (actions : List Action) (a : Action) (trials : List Trial) (last : Option Trial)
+    → AreTrials o s order actions trials → IsTried o s order a last → AreTrials o s order (actions ++ a ∷ []) (trials ++ option_to_list last)
+trials_last o s order [] a trials last none is =
     (last, is, [], refl, ap (λ ts. ts ++ option_to_list last) none ∙ sym (append-nil (option_to_list last)))
-trials_last o s (b ∷ actions) a trials last (first, one, rest, others, all) is = (
+trials_last o s order (b ∷ actions) a trials last (first, one, rest, others, all) is = (
   first,
   one,
   rest ++ option_to_list last,
-  trials_last o s actions a rest last others is,
+  trials_last o s order actions a rest last others is,
   ap (λ ts. ts ++ option_to_list last) all ∙ append_assoc (option_to_list first) rest (option_to_list last),
 )
 
-pub more_trials : (o now left : Office) (s : MergeSet) (actions : List Action) (a : Action) (old new : List Trial)
-    → AreTrials o s actions old × (now ≡ o) → AddsTrial now s a old new → left ≡ now → AreTrials o s (actions ++ a ∷ []) new × (left ≡ o)
-more_trials o now left s actions a old new (all, e) added back = (by (subst (λ (x : Office). AddsTrial x s a old new) e added), back ∙ e)
+pub more_trials : (o now left : Office) (s : MergeSet) (order : List ℕ) (actions : List Action) (a : Action) (old new : List Trial)
+    → AreTrials o s order actions old × (now ≡ o) → AddsTrial now s order a old new → left ≡ now
+    → AreTrials o s order (actions ++ a ∷ []) new × (left ≡ o)
+more_trials o now left s order actions a old new (all, e) added back = (by (subst (λ (x : Office). AddsTrial x s order a old new) e added), back ∙ e)
   where
-    by : AddsTrial o s a old new → AreTrials o s (actions ++ a ∷ []) new
-    by (trial, is, more) = subst (AreTrials o s (actions ++ a ∷ [])) (sym more) (trials_last o s actions a old trial all is)
+    by : AddsTrial o s order a old new → AreTrials o s order (actions ++ a ∷ []) new
+    by (trial, is, more) = subst (AreTrials o s order (actions ++ a ∷ [])) (sym more) (trials_last o s order actions a old trial all is)
 
 -- the trial that is made of an answer
-pub tried_as : (o : Office) (s : MergeSet) (a : Action) (cleared : Bool) (trial : Trial) → IsActionTried o s a (Some cleared)
-    → trial.words ≡ action_text o.schema s.members a → trial.action ≡ a → trial.is_cleared ≡ cleared → IsTried o s a (Some trial)
-tried_as o s a cleared trial told words is answers = (
+pub tried_as : (o : Office) (s : MergeSet) (order : List ℕ) (a : Action) (told : Answer) (trial : Trial) → IsActionTried o s order a (Some told)
+    → trial.words ≡ action_text o.schema s.members order a → trial.action ≡ a → trial.answer ≡ told → IsTried o s order a (Some trial)
+tried_as o s order a told trial given words is answers = (
   is,
   record {
-    words = words ∙ ap (action_text o.schema s.members) (sym is);
-    told = subst (λ (b : Bool). IsTrialAnswer o s trial.action b) (sym answers) (subst (λ (x : Action). IsTrialAnswer o s x cleared) (sym is) told);
+    words = words ∙ ap (action_text o.schema s.members order) (sym is);
+    told = subst (λ (b : Answer). IsTrialAnswer o s order trial.action b) (sym answers)
+        (subst (λ (x : Action). IsTrialAnswer o s order x told) (sym is) given);
   },
 )

@@ -1,5 +1,5 @@
 -- An action in words.
-use Rattle.std.specs.Prelude.{ℕ, List, [], ◌++◌, codes}
+use Rattle.std.specs.Prelude.{ℕ, List, [], ◌∷◌, ◌++◌, codes}
 use Rattle.clr_rows.specs.declared.places.Shape.{Shape}
 use Rattle.clr_rows.specs.declared.places.Shape.TheVariants as shape
 use Rattle.clr_rows.specs.declared.tables.TableDef.{TableDef}
@@ -8,6 +8,7 @@ use Rattle.clr_change.specs.declared.edits.Edit.TheVariants as edit
 use Rattle.clr_workspaces.specs.Marks.{Name}
 use Rattle.clr_member_changes.specs.Names.{member_name}
 use Rattle.clr_phrases.specs.Places.{place_text}
+use Rattle.clr_plan_answers.specs.Answers.{order_text}
 use Rattle.clr_plan_sentences.specs.Labels.{cell_label}
 use Rattle.clr_work_orders.specs.declared.actions.Action.{Action}
 use Rattle.clr_work_orders.specs.declared.actions.Action.TheVariants as action
@@ -23,7 +24,8 @@ edit_text tables name (edit.Insert q row) = codes "with " ++ cell_label tables q
 edit_text tables name (edit.Update q row) = codes "with " ++ cell_label tables q ++ codes " in " ++ name ++ codes " as it was taken over"
 edit_text tables name (edit.Delete q) = codes "without " ++ cell_label tables q ++ codes " in " ++ name
 
--- what is said of an action of members
-abbrev pub action_text : List TableDef → List Name → Action → List ℕ
-action_text tables members (action.LeaveOut at) = codes "without " ++ member_name members at
-action_text tables members (action.Make at e) = edit_text tables (member_name members at) e
+-- what is said of an action of members, which is tried among those in an order
+abbrev pub action_text : List TableDef → List Name → List ℕ → Action → List ℕ
+action_text tables members order (action.GoFirst at) = codes "first " ++ order_text members (at ∷ order)
+action_text tables members order (action.LeaveOut at) = codes "without " ++ member_name members at
+action_text tables members order (action.Make at e) = edit_text tables (member_name members at) e

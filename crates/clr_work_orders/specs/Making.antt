@@ -8,11 +8,10 @@ use Rattle.clr_steps.specs.declared.commands.Reply.TheVariants.{Done}
 use Rattle.clr_steps.specs.Offices.{Office}
 use Rattle.clr_steps.specs.Quiet.{MergeSet}
 use Rattle.clr_steps.specs.Steps.{answer, step}
-use Rattle.clr_merge_sets.specs.declared.plans.Plan.{Plan}
-use Rattle.clr_merge_sets.specs.declared.plans.Plan.TheVariants as plan
 use Rattle.clr_work_orders.specs.declared.actions.Action.{Action}
+use Rattle.clr_work_orders.specs.declared.answers.Answer.{Answer}
 use Rattle.clr_work_orders.specs.declared.trials.Trial.{Trial}
-use Rattle.clr_work_orders.specs.Trials.{CannotEdit, CannotTry, IsEdited, IsRefused, IsTried, IsTrialAnswer, TellsIfCleared}
+use Rattle.clr_work_orders.specs.Trials.{CannotEdit, CannotTry, IsEdited, IsRefused, IsTried, IsTrialAnswer, TellsAnswer}
 
 -- a command is done, or it is refused and nothing changes
 abbrev pub IsDone : Office → Command → Bool → Office → Type 0
@@ -24,34 +23,21 @@ abbrev pub IsBack : Office → Name → Name → Office → Type 0
 IsBack o ws savepoint next =
     (rolled : Office) × (step o (command.RollTo ws savepoint) ≡ answer Done rolled) × (step rolled (command.Unmark ws savepoint) ≡ answer Done next)
 
--- an edit was made, and the members are cleared then or not; or it is refused, and nothing changes
-abbrev pub IsEditJudged : Office → Name → Edit → MergeSet → Option Bool → Office → Type 0
-IsEditJudged o ws edit s (Some cleared) next = (step o (command.Apply ws (edit ∷ [])) ≡ answer Done next) × TellsIfCleared next s cleared
+-- an edit was made, and this is told of the members then; or it is refused, and nothing changes
+abbrev pub IsEditJudged : Office → Name → Edit → MergeSet → Option Answer → Office → Type 0
+IsEditJudged o ws edit s (Some told) next = (step o (command.Apply ws (edit ∷ [])) ≡ answer Done next) × TellsAnswer next s told
 IsEditJudged o ws edit s None next = IsRefused o (command.Apply ws (edit ∷ [])) × (next ≡ o)
 
--- an edit was tried behind the savepoint, and the members are cleared then or not; or it can't be tried
-abbrev pub IsEditTried : Office → Name → Edit → MergeSet → Option Bool → Type 0
-IsEditTried o ws edit s (Some cleared) = (next : Office) × IsEdited o ws edit next × TellsIfCleared next s cleared
+-- an edit was tried behind the savepoint, and this is told of the members then; or it can't be tried
+abbrev pub IsEditTried : Office → Name → Edit → MergeSet → Option Answer → Type 0
+IsEditTried o ws edit s (Some told) = (next : Office) × IsEdited o ws edit next × TellsAnswer next s told
 IsEditTried o ws edit s None = CannotEdit o ws edit
 
--- an action was tried, and the members are cleared then or not; or it can't be tried
-abbrev pub IsActionTried : Office → MergeSet → Action → Option Bool → Type 0
-IsActionTried o s action (Some cleared) = IsTrialAnswer o s action cleared
-IsActionTried o s action None = CannotTry o s action
+-- an action was tried among the members of an order, and this is told of it; or it can't be tried
+abbrev pub IsActionTried : Office → MergeSet → List ℕ → Action → Option Answer → Type 0
+IsActionTried o s order action (Some told) = IsTrialAnswer o s order action told
+IsActionTried o s order action None = CannotTry o s action
 
 -- the trial of an action stands behind the others, if it can be tried
-abbrev pub AddsTrial : Office → MergeSet → Action → List Trial → List Trial → Type 0
-AddsTrial o s action old new = (trial : Option Trial) × IsTried o s action trial × (new ≡ old ++ option_to_list trial)
-
--- the order of a plan that is blocked
-abbrev pub blocked_order : Plan → List ℕ
-blocked_order (plan.Blocked order cause) = order.items
-blocked_order (plan.Cleared c) = []
-blocked_order (plan.Unfit v) = []
-blocked_order plan.OutOfMemory = []
-
-abbrev pub is_blocked : Plan → Bool
-is_blocked (plan.Blocked order cause) = true
-is_blocked (plan.Cleared c) = false
-is_blocked (plan.Unfit v) = false
-is_blocked plan.OutOfMemory = false
+abbrev pub AddsTrial : Office → MergeSet → List ℕ → Action → List Trial → List Trial → Type 0
+AddsTrial o s order action old new = (trial : Option Trial) × IsTried o s order action trial × (new ≡ old ++ option_to_list trial)

@@ -28,6 +28,7 @@ use Rattle.clr_steps.specs.Quiet.{MergeSet}
 use Rattle.clr_clearance.specs.MergeSets.{change_sets}
 use Rattle.clr_clearance.specs.declared.verdicts.Verdict.{Verdict}
 use Rattle.clr_clearance.specs.declared.verdicts.Verdict.TheVariants as verdict
+use Rattle.clr_clash_helpers.specs.Helpers.{AreHelpersIn}
 use Rattle.clr_member_changes.specs.Names.{member_name}
 use Rattle.clr_merge_sets.specs.declared.plans.Plan.{Plan}
 use Rattle.clr_merge_sets.specs.declared.plans.Plan.TheVariants as plan
@@ -131,19 +132,20 @@ for_cause o s sets order place (verdict.SharedCell q first second) = undoing set
 for_cause o s sets order place (verdict.Uncovered need) = for_need o s sets order place need
 for_cause o s sets order place _ = []
 
--- one of several members is left out
-abbrev pub leaving_out : MergeSet → List ℕ → List Action
-leaving_out s order = if nat_lt 1 (length s.members) then map action.LeaveOut order else []
+-- one of several members in the order is left out
+abbrev pub leaving_out : List ℕ → List Action
+leaving_out order = if nat_lt 1 (length order) then map action.LeaveOut order else []
 
 -- where a row that serves the need of a cause would have to stand; another cause asks for no place
 abbrev pub IsPlaceOfCause : Office → MergeSet → Verdict → Meeting → Type 0
 IsPlaceOfCause o s (verdict.Uncovered need) place = IsPlaceIn o s need place
 IsPlaceOfCause o s _ place = place ≡ meeting.NoParts
 
--- what may clear members that are blocked in this order for this cause: it is taken away, or a member left out
+-- what may clear members that are blocked in this order for this cause: a member that helps goes first, it is taken away, or a member of the order left out
 abbrev pub AreForCause : Office → MergeSet → List Changes → List ℕ → Verdict → List Action → Type 0
 AreForCause o s sets order cause actions =
-    (place : Meeting) × IsPlaceOfCause o s cause place × (actions ≡ for_cause o s sets order place cause ++ leaving_out s order)
+    (place : Meeting) × IsPlaceOfCause o s cause place × (helpers : List ℕ) × AreHelpersIn o s order cause helpers
+    × (actions ≡ map action.GoFirst helpers ++ for_cause o s sets order place cause ++ leaving_out order)
 
 -- what is tried of a plan: nothing where the members aren't blocked
 abbrev pub AreRemedies : Office → MergeSet → Plan → List Action → Type 0

@@ -1,5 +1,5 @@
 -- What is tried of members that can't be merged in every order, and what the planner says of it.
-use Rattle.std.specs.Prelude.{◌≡◌, ◌++◌, ◌⊎◌, ℕ, Bool, true, false, List, [], ◌∷◌, Option, Some, None, codes, option_to_list, remove, slice_get}
+use Rattle.std.specs.Prelude.{◌≡◌, ◌++◌, ◌⊎◌, ℕ, false, List, [], ◌∷◌, Option, Some, None, codes, option_to_list, slice_get}
 use Rattle.clr_change.specs.declared.edits.Edit.{Edit}
 use Rattle.clr_workspaces.specs.Marks.{Name}
 use Rattle.clr_steps.specs.declared.commands.Command.{Command}
@@ -10,17 +10,20 @@ use Rattle.clr_steps.specs.Offices.{Office}
 use Rattle.clr_steps.specs.Quiet.{MergeSet}
 use Rattle.clr_steps.specs.Refusals.{refusal}
 use Rattle.clr_steps.specs.Steps.{answer, step}
-use Rattle.clr_clearance.specs.declared.verdicts.Verdict.{Verdict}
-use Rattle.clr_clearance.specs.Plans.{IsUnfit}
-use Rattle.clr_merge_sets.specs.MergeSetNames.{merge_set}
 use Rattle.clr_merge_sets.specs.declared.plans.Plan.{Plan}
+use Rattle.clr_merge_clashes.specs.Laws.{merge_set_of_part}
+use Rattle.clr_plan.specs.OnePlan.{AreAlike}
+use Rattle.clr_plan.specs.OrderedPlans.{IsExactInOrder, IsPlanInOrder, PromisesInOrder}
 use Rattle.clr_plan.specs.Plans.{IsPlan}
 use Rattle.clr_merge_sets.specs.Plans.{is_cleared, is_out_of_memory}
-use Rattle.clr_plan.specs.Promises.{IsExact, IsRefusedOrder, Promises}
+use Rattle.clr_plan.specs.Promises.{IsExact, Promises}
 use Rattle.clr_work_orders.specs.declared.actions.Action.{Action}
 use Rattle.clr_work_orders.specs.declared.actions.Action.TheVariants as action
+use Rattle.clr_work_orders.specs.declared.answers.Answer.{Answer}
 use Rattle.clr_work_orders.specs.declared.trials.Trial.{Trial}
 use Rattle.clr_work_orders.specs.Actions.{action_text}
+use Rattle.clr_work_orders.specs.Among.{blocked_order, positions_without}
+use Rattle.clr_work_orders.specs.Answers.{why_not}
 use Rattle.clr_work_orders.specs.Remedies.{AreRemedies}
 
 -- what the planner answers of a merge set, with what it promises
@@ -29,19 +32,30 @@ pub record IsAnswered (o : Office) (s : MergeSet) (p : Plan) : Type 0 where
   pub promises : Promises o s p
   pub exact : IsExact o s p
 
--- of the merges of some members in an order, with no workspace removed, one meets a conflict or breaks a rule; so the members aren't safe
-abbrev pub HasRefusedOrder : Office → MergeSet → Type 0
-HasRefusedOrder o s = (order : List ℕ) × IsRefusedOrder o s order
+-- what it answers of members that are merged in the order of their names, with what it promises
+pub record IsAnsweredInOrder (o : Office) (s : MergeSet) (p : Plan) : Type 0 where
+  pub plan : IsPlanInOrder o s p
+  pub promises : PromisesInOrder o s p
+  pub exact : IsExactInOrder o s p
 
--- a yes has a plan that is cleared, with what it promises; a no has a test of names that fails, or an order of merges that is refused
-abbrev pub HasReason : Office → MergeSet → Bool → Type 0
-HasReason o s true = (p : Plan) × IsAnswered o s p × (is_cleared p ≡ true)
-HasReason o s false = ((v : Verdict) × IsUnfit o s v) ⊎ HasRefusedOrder o s
+-- a plan for which memory was found, in short: whether it is cleared, and if not why
+pub record IsInShort (o : Office) (s : MergeSet) (p : Plan) (told : Answer) : Type 0 where
+  pub found : is_out_of_memory p ≡ false
+  pub cleared : told.is_cleared ≡ is_cleared p
+  pub why : told.why ≡ why_not o s p
 
--- each plan that found its memory is cleared, or none is; and why
-pub record TellsIfCleared (o : Office) (s : MergeSet) (cleared : Bool) : Type 0 where
-  pub told : (p : Plan) → IsPlan o s p → is_out_of_memory p ≡ false → cleared ≡ is_cleared p
-  pub reason : HasReason o s cleared
+-- what is told of the plans of a merge set: one for which memory was found, in short; each other such plan says the same
+pub record TellsAnswer (o : Office) (s : MergeSet) (told : Answer) : Type 0 where
+  pub made : Plan
+  pub answered : IsAnswered o s made
+  pub alike : (p : Plan) → IsPlan o s p → is_out_of_memory p ≡ false → AreAlike made p
+  pub short : IsInShort o s made told
+
+-- what is told of the plan of members that are merged in the order of their names
+pub record TellsAnswerInOrder (o : Office) (s : MergeSet) (told : Answer) : Type 0 where
+  pub made : Plan
+  pub answered : IsAnsweredInOrder o s made
+  pub short : IsInShort o s made told
 
 -- the savepoint to which a trial goes back
 abbrev pub saving : Name → Command
@@ -62,33 +76,37 @@ abbrev pub CannotEdit : Office → Name → Edit → Type 0
 CannotEdit o ws edit =
     IsRefused o (saving ws) ⊎ ((saved : Office) × (step o (saving ws) ≡ answer Done saved) × IsRefused saved (command.Apply ws (edit ∷ [])))
 
--- what is told of an action: the plan of the members but the one that is left out, or that of all in the office in which one made an edit
-abbrev pub IsTrialAnswer : Office → MergeSet → Action → Bool → Type 0
-IsTrialAnswer o s (action.LeaveOut at) cleared = TellsIfCleared o (merge_set s.root (remove s.members at)) cleared
-IsTrialAnswer o s (action.Make at edit) cleared =
-    (ws : Name) × (slice_get s.members at ≡ Some ws) × (next : Office) × IsEdited o ws edit next × TellsIfCleared next s cleared
+-- what is told of an action: the plan of the member that goes first and then those of an order, merged in this order; that of the members of the order but the
+-- one that is left out; or that of the order in the office in which one made an edit
+abbrev pub IsTrialAnswer : Office → MergeSet → List ℕ → Action → Answer → Type 0
+IsTrialAnswer o s order (action.GoFirst at) told = TellsAnswerInOrder o (merge_set_of_part s (at ∷ order)) told
+IsTrialAnswer o s order (action.LeaveOut at) told = TellsAnswer o (merge_set_of_part s (positions_without order at)) told
+IsTrialAnswer o s order (action.Make at edit) told =
+    (ws : Name) × (slice_get s.members at ≡ Some ws) × (next : Office) × IsEdited o ws edit next × TellsAnswer next (merge_set_of_part s order) told
 
 -- an action can't be tried: it is on no member, or the edit can't be made
 abbrev pub CannotTry : Office → MergeSet → Action → Type 0
-CannotTry o s (action.LeaveOut at) = slice_get s.members at ≡ None
+CannotTry o s (action.GoFirst at) = ⊥
+CannotTry o s (action.LeaveOut at) = ⊥
 CannotTry o s (action.Make at edit) = (slice_get s.members at ≡ None) ⊎ ((ws : Name) × (slice_get s.members at ≡ Some ws) × CannotEdit o ws edit)
 
--- a trial of an action: its words are those of the action, and what is told is what the planner answers of it
-pub record IsTrial (o : Office) (s : MergeSet) (trial : Trial) : Type 0 where
-  pub words : trial.words ≡ action_text o.schema s.members trial.action
-  pub told : IsTrialAnswer o s trial.action trial.is_cleared
+-- a trial of an action: its words are those of the action, and what is told is what the planner answers of it among the members of an order
+pub record IsTrial (o : Office) (s : MergeSet) (order : List ℕ) (trial : Trial) : Type 0 where
+  pub words : trial.words ≡ action_text o.schema s.members order trial.action
+  pub told : IsTrialAnswer o s order trial.action trial.answer
 
 -- what becomes of an action: it is tried, if it can be
-abbrev pub IsTried : Office → MergeSet → Action → Option Trial → Type 0
-IsTried o s action None = CannotTry o s action
-IsTried o s action (Some trial) = (trial.action ≡ action) × IsTrial o s trial
+abbrev pub IsTried : Office → MergeSet → List ℕ → Action → Option Trial → Type 0
+IsTried o s order action None = CannotTry o s action
+IsTried o s order action (Some trial) = (trial.action ≡ action) × IsTrial o s order trial
 
 -- one trial of each action that can be tried, in the order of the actions, and no other
-abbrev pub AreTrials : Office → MergeSet → List Action → List Trial → Type 0
-AreTrials o s [] trials = trials ≡ []
-AreTrials o s (action ∷ actions) trials =
-    (first : Option Trial) × IsTried o s action first × (rest : List Trial) × AreTrials o s actions rest × (trials ≡ option_to_list first ++ rest)
+abbrev pub AreTrials : Office → MergeSet → List ℕ → List Action → List Trial → Type 0
+AreTrials o s order [] trials = trials ≡ []
+AreTrials o s order (action ∷ actions) trials =
+    (first : Option Trial) × IsTried o s order action first × (rest : List Trial) × AreTrials o s order actions rest
+    × (trials ≡ option_to_list first ++ rest)
 
--- the trials of the remedies of a plan
+-- the trials of the remedies of a plan, among the designs of its cause
 abbrev pub AreTrialsOf : Office → MergeSet → Plan → List Trial → Type 0
-AreTrialsOf o s p trials = (actions : List Action) × AreRemedies o s p actions × AreTrials o s actions trials
+AreTrialsOf o s p trials = (actions : List Action) × AreRemedies o s p actions × AreTrials o s (blocked_order p) actions trials

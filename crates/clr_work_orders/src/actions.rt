@@ -1,6 +1,8 @@
 //! What may be tried, and how it is told.
 
 ghost use Rattle.std.specs.Prelude.{◌≡◌, ◌++◌, IfOk, OnOk, map, string_bytes};
+ghost use Rattle.std.specs.List.{flat_map};
+ghost use Rattle.clr_plan_answers.specs.Answers.{then_text};
 ghost use Rattle.clr_work_orders.specs.Actions.{action_text, brought_text, edit_text};
 
 use clr_change::Edit;
@@ -10,10 +12,12 @@ use clr_plan_sentences::add_label;
 use clr_rows::{Schema, Shape, Words};
 use std::alloc::{AllocError, Global};
 
-/// Something that may clear a set of members. Members are numbered by position.
+/// Something that may clear the members of an order. Members are numbered by position.
 #[derive(Debug, Drop)]
 pub enum Action {
-    /// All members but this one are merged.
+    /// This member is merged first, and then those of the order, one after another.
+    GoFirst(usize),
+    /// All members of the order but this one are merged.
     LeaveOut(usize),
     /// A member makes an edit; the member is given by its position.
     Make(usize, Edit),
@@ -35,6 +39,7 @@ pub(crate) fn copy_action(action: &Action) -> Result<Action, AllocError>
     ensures { IfOk result (λ copy. copy ≡ action.now) }
 {
     match action {
+        Action::GoFirst(member) => Ok(Action::GoFirst(*member)),
         Action::LeaveOut(member) => Ok(Action::LeaveOut(*member)),
         Action::Make(member, edit) => Ok(Action::Make(*member, copy_edit(edit)?)),
     }
@@ -82,17 +87,34 @@ fn add_edit(text: &mut String, schema: &Schema, name: &str, edit: &Edit) -> Resu
     }
 }
 
+/// Adds members that are merged behind another, one after another, as `, then Extension, then Bypass`.
+fn add_followers(text: &mut String, names: &[&str], order: &[usize]) -> Result<(), AllocError>
+    ensures { OnOk result (string_bytes text.new ≡ string_bytes text.old ++ flat_map (then_text (map (λ name. name.now) names.now)) order.now) }
+{
+    for member in order {
+        text.push_str(", then ")?;
+        text.push_str(member_name(&*names, *member))?;
+    }
+    Ok(())
+}
+
 /// Returns what is said of an action, as a text.
 fn action_string(
     alloc: Global,
     schema: &Schema,
     names: &[&str],
+    order: &[usize],
     action: &Action,
 ) -> Result<String, AllocError>
-    ensures { IfOk result (λ text. string_bytes text ≡ action_text schema.now (map (λ name. name.now) names.now) action.now) }
+    ensures { IfOk result (λ text. string_bytes text ≡ action_text schema.now (map (λ name. name.now) names.now) order.now action.now) }
 {
     let mut text = String::new(alloc);
     match action {
+        Action::GoFirst(member) => {
+            text.push_str("first ")?;
+            text.push_str(member_name(names, *member))?;
+            add_followers(&mut text, names, order)?;
+        }
         Action::LeaveOut(member) => {
             text.push_str("without ")?;
             text.push_str(member_name(names, *member))?;
@@ -104,14 +126,15 @@ fn action_string(
     Ok(text)
 }
 
-/// Returns what is said of an action of members.
+/// Returns what is said of an action of members that is tried among those in an order.
 pub(crate) fn action_words(
     alloc: Global,
     schema: &Schema,
     names: &[&str],
+    order: &[usize],
     action: &Action,
 ) -> Result<Words, AllocError>
-    ensures { IfOk result (λ words. words ≡ action_text schema.now (map (λ name. name.now) names.now) action.now) }
+    ensures { IfOk result (λ words. words ≡ action_text schema.now (map (λ name. name.now) names.now) order.now action.now) }
 {
-    Ok(Words::new(action_string(alloc, schema, names, action)?))
+    Ok(Words::new(action_string(alloc, schema, names, order, action)?))
 }

@@ -2,14 +2,17 @@
 
 ghost use Rattle.std.specs.Prelude.{◌≡◌, ◌++◌, IfOk, OnOk, map};
 ghost use Rattle.std.specs.Option.{option_copied};
+ghost use Rattle.clr_clash_helpers.specs.Helpers.{AreHelpersIn};
 ghost use Rattle.clr_serving_rows.specs.NeedPlaces.{IsPlaceIn};
 ghost use Rattle.clr_merge_sets.specs.MemberChanges.{AreMembers, set_of};
 ghost use Rattle.clr_work_orders.specs.Remedies.{AreForCause, AreRemedies, IsPlaceOfCause, for_cause, for_need, leaving_out, server_of};
+ghost use Rattle.clr_work_orders.specs.declared.actions.Action.TheVariants as action;
 ghost use Rattle.clr_phrases.specs.declared.meetings.Meeting.{Meeting as Met};
 
 use crate::actions::Action;
 use crate::bringing::add_serving;
 use crate::undoings::{add_giving_up, add_giving_up_any, add_keeping, add_undoing};
+use clr_clash_helpers::helpers_of;
 use clr_clearance::Verdict;
 use clr_engine::Office;
 use clr_member_changes::MemberChanges;
@@ -79,15 +82,11 @@ fn add_for_cause(
     }
 }
 
-/// Adds that one of several members is left out.
-fn add_leaving_out(
-    list: &mut Vec<Action>,
-    members: &MemberChanges<'_>,
-    order: &[usize],
-) -> Result<(), AllocError>
-    ensures { OnOk result (list.new.items ≡ list.old.items ++ leaving_out (set_of members.now) order.now) }
+/// Adds that one of several members in an order is left out.
+fn add_leaving_out(list: &mut Vec<Action>, order: &[usize]) -> Result<(), AllocError>
+    ensures { OnOk result (list.new.items ≡ list.old.items ++ leaving_out order.now) }
 {
-    if members.names.len() <= 1 {
+    if order.len() <= 1 {
         return Ok(());
     }
     for member in order {
@@ -96,19 +95,49 @@ fn add_leaving_out(
     Ok(())
 }
 
-/// Returns what may clear a set of members that is blocked in this order for this cause. That one is
-/// left out stands last, and isn't tried where there is but one.
+/// Returns the members that help those in an order, by position: none where the cause isn't a need.
+fn helpers_in(
+    setting: Setting<'_>,
+    order: &[usize],
+    cause: &Verdict,
+) -> Result<Vec<usize>, AllocError>
+    requires { AreMembers setting.office.now (set_of setting.members.now) setting.members.now }
+    ensures { IfOk result (λ helpers. AreHelpersIn setting.entry.office.now (set_of setting.entry.members.now) order.now cause.now helpers.items) }
+{
+    match cause {
+        Verdict::Uncovered(need) => {
+            helpers_of(setting.alloc, setting.office, setting.members, order, need)
+        }
+        _ => Ok(Vec::new(setting.alloc)),
+    }
+}
+
+/// Adds that each of these members goes first.
+fn add_going_first(list: &mut Vec<Action>, helpers: &[usize]) -> Result<(), AllocError>
+    ensures { OnOk result (list.new.items ≡ list.old.items ++ map action.GoFirst helpers.now) }
+{
+    for member in helpers {
+        list.push(Action::GoFirst(*member))?;
+    }
+    Ok(())
+}
+
+/// Returns what may clear a set of members that is blocked in this order for this cause. That a member which helps goes first stands first; that
+/// one of the order is left out stands last, and isn't tried where there is but one.
 fn remedies_for(
     setting: Setting<'_>,
     order: &[usize],
     cause: &Verdict,
 ) -> Result<Vec<Action>, AllocError>
-    ensures { IfOk result (λ list. AreMembers setting.entry.office.now (set_of setting.entry.members.now) setting.entry.members.now
-        → AreForCause setting.entry.office.now (set_of setting.entry.members.now) setting.entry.members.now.changes.items order.now cause.now list.items) }
+    requires { AreMembers setting.office.now (set_of setting.members.now) setting.members.now }
+    ensures { IfOk result (λ list. AreForCause setting.entry.office.now (set_of setting.entry.members.now)
+        setting.entry.members.now.changes.items order.now cause.now list.items) }
 {
+    let helpers = helpers_in(setting, order, cause)?;
     let mut list = Vec::new(setting.alloc);
+    add_going_first(&mut list, helpers.as_slice())?;
     add_for_cause(setting, &mut list, order, cause)?;
-    add_leaving_out(&mut list, setting.members, order)?;
+    add_leaving_out(&mut list, order)?;
     Ok(list)
 }
 
@@ -119,8 +148,8 @@ pub(crate) fn plan_remedies(
     members: &MemberChanges<'_>,
     plan: &Plan,
 ) -> Result<Vec<Action>, AllocError>
-    ensures { IfOk result (λ list. AreMembers office.now (set_of members.now) members.now
-        → AreRemedies office.now (set_of members.now) plan.now list.items) }
+    requires { AreMembers office.now (set_of members.now) members.now }
+    ensures { IfOk result (λ list. AreRemedies office.now (set_of members.now) plan.now list.items) }
 {
     let Plan::Blocked { order, cause } = plan else {
         return Ok(Vec::new(alloc));

@@ -1,7 +1,8 @@
 //! Remedies that are tried, each by itself, on the opened office.
 
-ghost use Rattle.std.specs.Prelude.{◌≡◌, ◌<◌, ◌∷◌, [], length, map, remove, IfOk, OnOk};
+ghost use Rattle.std.specs.Prelude.{◌≡◌, ◌∷◌, [], map, IfOk, OnOk};
 ghost use Rattle.clr_steps.specs.declared.commands.Command.TheVariants as command;
+ghost use Rattle.clr_merge_clashes.specs.Laws.{merge_set_of_part};
 ghost use Rattle.clr_merge_sets.specs.MemberChanges.{AreMembers, set_of};
 ghost use Rattle.clr_merge_sets.specs.MergeSetNames.{merge_set};
 ghost use Rattle.clr_work_orders.specs.declared.trials.TheConstants.{BEFORE_TRIAL as SAVEPOINT};
@@ -10,9 +11,9 @@ ghost use Rattle.clr_work_orders.specs.Making.{AddsTrial, IsActionTried, IsBack,
 ghost use Rattle.clr_work_orders.specs.Trials.{AreTrials, AreTrialsOf};
 
 use crate::actions::{Action, action_words, copy_action, copy_edit};
-use crate::clearing::are_cleared;
+use crate::among::{order_of, positions_behind, positions_without};
+use crate::answers::{Answer, answer_at, answer_in_order};
 use crate::remedies::plan_remedies;
-use crate::suspects::first_suspects;
 use clr_change::{Edit, Edits};
 use clr_engine::Office;
 use clr_member_changes::MemberChanges;
@@ -24,12 +25,12 @@ use std::alloc::{AllocError, Global};
 /// The savepoint to which a trial goes back. Where a workspace has one of this name, no edit is tried in it.
 pub(crate) const BEFORE_TRIAL: &str = "before_trial";
 
-/// A remedy that was tried, in words, and whether the members are cleared with it.
+/// A remedy that was tried, in words, and what the planner answers of it.
 #[derive(Debug, Drop)]
 pub struct Trial {
     pub words: Words,
     pub action: Action,
-    pub is_cleared: bool,
+    pub answer: Answer,
 }
 
 /// Performs a command, and answers whether it was done; where it wasn't, nothing changes.
@@ -103,159 +104,144 @@ fn go_back(alloc: Global, office: &mut Office, ws: &str) -> Result<(), AllocErro
     Ok(())
 }
 
-/// Makes an edit, and answers whether the members are cleared then; or none where it can't be made.
-fn judge_edit<'a>(
+/// Makes an edit, and answers what is told then of the members in an order; or none where it can't be made.
+fn judge_edit(
     alloc: Global,
     office: &mut Office,
     root: &str,
-    names: &[&'a str],
-    suspects: &mut Vec<&'a str>,
+    names: &[&str],
+    order: &[usize],
     ws: &str,
     edit: &Edit,
-) -> Result<Option<bool>, AllocError>
-    ensures { IfOk result (λ told. IsEditJudged office.old ws.now edit.now (merge_set root.now (map (λ name. name.now) names.now)) told office.new) }
+) -> Result<Option<Answer>, AllocError>
+    ensures { IfOk result (λ told. IsEditJudged office.old ws.now edit.now
+        (merge_set_of_part (merge_set root.now (map (λ name. name.now) names.now)) order.now) told office.new) }
 {
     if !make_edit(alloc, office, ws, edit)? {
         return Ok(None);
     }
-    let is_cleared = are_cleared(alloc, office, root, names, suspects)?;
-    Ok(Some(is_cleared))
+    let answer = answer_at(alloc, office, root, names, order)?;
+    Ok(Some(answer))
 }
 
-/// Tries an edit of one of the members behind a savepoint: whether the members are cleared with it, or none
+/// Tries an edit of one of the members behind a savepoint: what is told with it of the members in an order, or none
 /// where it can't be made. The office is as before, unless memory runs out.
-fn try_edit<'a>(
+fn try_edit(
     alloc: Global,
     office: &mut Office,
     root: &str,
-    names: &[&'a str],
-    suspects: &mut Vec<&'a str>,
+    names: &[&str],
+    order: &[usize],
     ws: &str,
     edit: &Edit,
-) -> Result<Option<bool>, AllocError>
-    ensures told { IfOk result (IsEditTried office.old ws.now edit.now (merge_set root.now (map (λ name. name.now) names.now))) }
+) -> Result<Option<Answer>, AllocError>
+    ensures told { IfOk result (IsEditTried office.old ws.now edit.now (merge_set_of_part (merge_set root.now (map (λ name. name.now) names.now)) order.now)) }
     ensures back { IfOk result (λ told. office.new ≡ office.old) }
 {
     let _sound = office.len();
     if !set_savepoint(alloc, office, ws)? {
         return Ok(None);
     }
-    let told = judge_edit(alloc, office, root, names, suspects, ws, edit)?;
+    let told = judge_edit(alloc, office, root, names, order, ws, edit)?;
     go_back(alloc, office, ws)?;
     Ok(told)
 }
 
-/// Returns the names but the one at a position.
-fn names_without<'a>(
-    alloc: Global,
-    names: &[&'a str],
-    left_out: usize,
-) -> Result<Vec<&'a str>, AllocError>
-    requires { left_out < length names.now }
-    ensures { IfOk result (λ rest. map (λ name. name.now) rest.items ≡ remove (map (λ name. name.now) names.now) left_out) }
-{
-    let mut rest = Vec::from_slice(alloc, names)?;
-    rest.remove(left_out);
-    Ok(rest)
-}
-
-/// Tries an action: whether the members are cleared with it, or none where it can't be tried. The office is
+/// Tries an action: what is told with it of the members in an order, or none where it can't be tried. The office is
 /// as before, unless memory runs out.
-fn try_action<'a>(
+fn try_action(
     alloc: Global,
     office: &mut Office,
     root: &str,
-    names: &[&'a str],
-    suspects: &mut Vec<&'a str>,
+    names: &[&str],
+    order: &[usize],
     action: &Action,
-) -> Result<Option<bool>, AllocError>
-    ensures told { IfOk result (IsActionTried office.old (merge_set root.now (map (λ name. name.now) names.now)) action.now) }
+) -> Result<Option<Answer>, AllocError>
+    ensures told { IfOk result (IsActionTried office.old (merge_set root.now (map (λ name. name.now) names.now)) order.now action.now) }
     ensures back { IfOk result (λ told. office.new ≡ office.old) }
 {
     match action {
-        Action::LeaveOut(member) if *member < names.len() => {
-            let rest = names_without(alloc, names, *member)?;
-            let is_cleared = are_cleared(alloc, office, root, rest.as_slice(), suspects)?;
-            Ok(Some(is_cleared))
+        Action::GoFirst(member) => {
+            let turns = positions_behind(alloc, *member, order)?;
+            let answer = answer_in_order(alloc, office, root, names, turns.as_slice())?;
+            Ok(Some(answer))
         }
-        Action::LeaveOut(_) => Ok(None),
+        Action::LeaveOut(member) => {
+            let rest = positions_without(alloc, order, *member)?;
+            let answer = answer_at(alloc, office, root, names, rest.as_slice())?;
+            Ok(Some(answer))
+        }
         Action::Make(member, edit) => match names.get(*member) {
-            Some(ws) => try_edit(alloc, office, root, names, suspects, ws, edit),
+            Some(ws) => try_edit(alloc, office, root, names, order, ws, edit),
             None => Ok(None),
         },
     }
 }
 
-/// Returns the trial of an action with this answer.
+/// Returns the trial of an action among the members in an order, with this answer.
 fn trial_of(
     alloc: Global,
     office: &Office,
     names: &[&str],
+    order: &[usize],
     action: &Action,
-    is_cleared: bool,
+    answer: Answer,
 ) -> Result<Trial, AllocError>
-    ensures words { IfOk result (λ trial. trial.words ≡ action_text office.now.schema (map (λ name. name.now) names.now) action.now) }
+    ensures words { IfOk result (λ trial. trial.words ≡ action_text office.now.schema (map (λ name. name.now) names.now) order.now action.now) }
     ensures action { IfOk result (λ trial. trial.action ≡ action.now) }
-    ensures cleared { IfOk result (λ trial. trial.is_cleared ≡ is_cleared) }
+    ensures answer { IfOk result (λ trial. trial.answer ≡ answer) }
 {
     Ok(Trial {
-        words: action_words(alloc, office.schema(), names, action)?,
+        words: action_words(alloc, office.schema(), names, order, action)?,
         action: copy_action(action)?,
-        is_cleared,
+        answer,
     })
 }
 
-/// Tries an action, and adds what is told of it, if it can be tried. The office is as before, unless memory runs out.
-fn add_trial<'a>(
+/// Tries an action among the members in an order, and adds what is told of it, if it can be tried. The office is as before, unless memory runs out.
+fn add_trial(
     alloc: Global,
     office: &mut Office,
     root: &str,
-    names: &[&'a str],
-    suspects: &mut Vec<&'a str>,
+    names: &[&str],
+    order: &[usize],
     action: &Action,
     trials: &mut Vec<Trial>,
 ) -> Result<(), AllocError>
-    ensures added { OnOk result (AddsTrial office.old (merge_set root.now (map (λ name. name.now) names.now)) action.now trials.old.items trials.new.items) }
+    ensures added { OnOk result (AddsTrial office.old (merge_set root.now (map (λ name. name.now) names.now)) order.now
+        action.now trials.old.items trials.new.items) }
     ensures back { OnOk result (office.new ≡ office.old) }
 {
-    match try_action(alloc, office, root, names, suspects, action)? {
-        Some(is_cleared) => {
-            Ok(trials.push(trial_of(alloc, office, names, action, is_cleared)?)?)
-        }
+    match try_action(alloc, office, root, names, order, action)? {
+        Some(answer) => Ok(trials.push(trial_of(alloc, office, names, order, action, answer)?)?),
         None => Ok(()),
     }
 }
 
-/// Tries actions, one after another. The office is as before, but where it fails, which is for want of
+/// Tries actions among the members in an order, one after another. The office is as before, but where it fails, which is for want of
 /// memory.
-fn try_all<'a>(
+fn try_all(
     alloc: Global,
     office: &mut Office,
     root: &str,
-    names: &[&'a str],
-    mut suspects: Vec<&'a str>,
+    names: &[&str],
+    order: &[usize],
     actions: &[Action],
 ) -> Result<Vec<Trial>, AllocError>
-    ensures tried { IfOk result (λ trials. AreTrials office.old (merge_set root.now (map (λ name. name.now) names.now)) actions.now trials.items) }
+    ensures tried { IfOk result (λ trials. AreTrials office.old (merge_set root.now (map (λ name. name.now) names.now)) order.now
+        actions.now trials.items) }
     ensures back { IfOk result (λ trials. office.new ≡ office.old) }
 {
     let mut trials = Vec::new(alloc);
     for action in actions {
-        add_trial(
-            alloc,
-            office,
-            root,
-            names,
-            &mut suspects,
-            action,
-            &mut trials,
-        )?;
+        add_trial(alloc, office, root, names, order, action, &mut trials)?;
     }
     Ok(trials)
 }
 
 /// Tries what may clear members that this plan says are blocked, each remedy by itself, and returns what `plan` answers of each;
-/// nothing is tried of any other plan. A remedy is a member left out, or a row brought or given up. One that can't be tried isn't
+/// nothing is tried of any other plan. A remedy is that a member which helps goes first, that a member is left out, or that a row is brought
+/// or given up. It is tried among the members in the order of the plan alone, and with the one that goes first. One that can't be tried isn't
 /// told, nor is an edit in a workspace that has a savepoint `before_trial` or as many savepoints as there may be. The office is left as it
 /// was, unless memory runs out.
 pub fn try_remedies(
@@ -264,12 +250,12 @@ pub fn try_remedies(
     members: &MemberChanges<'_>,
     plan: &Plan,
 ) -> Result<Vec<Trial>, AllocError>
-    ensures tried { IfOk result (λ trials. AreMembers office.old (set_of members.now) members.now
-        → AreTrialsOf office.old (set_of members.now) plan.now trials.items) }
+    requires { AreMembers office.old (set_of members.now) members.now }
+    ensures tried { IfOk result (λ trials. AreTrialsOf office.old (set_of members.now) plan.now trials.items) }
     ensures back { IfOk result (λ trials. office.new ≡ office.old) }
 {
     let (root, names) = (members.root, members.names);
     let actions = plan_remedies(alloc, office, members, plan)?;
-    let suspects = first_suspects(alloc, names, plan)?;
-    try_all(alloc, office, root, names, suspects, actions.as_slice())
+    let order = order_of(plan);
+    try_all(alloc, office, root, names, order, actions.as_slice())
 }

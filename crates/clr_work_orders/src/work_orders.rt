@@ -4,6 +4,7 @@ ghost use Rattle.std.specs.Prelude.{◌≡◌, ◌++◌, codes, map, IfOk, OnOk}
 ghost use Rattle.clr_merge_sets.specs.MergeSetNames.{merge_set};
 ghost use Rattle.clr_work_orders.specs.WorkOrders.{IsWorkOrder, set_apart, trials_text};
 
+use crate::among::{among_words, order_of};
 use crate::trial_lines::add_trials;
 use crate::trials::{Trial, try_remedies};
 use clr_engine::Office;
@@ -32,19 +33,20 @@ fn add_apart(text: &mut Vec<u8>, sentences: &str) -> Result<(), AllocError>
     text.extend_from_slice(sentences.as_bytes())
 }
 
-/// Returns sentences, then the lines of trials and the sentences of orders, and behind an empty line the lines of a plan.
+/// Returns sentences, then the lines of trials among some designs and the sentences of orders, and behind an empty line the lines of a plan.
 fn order_text(
     alloc: Global,
     sentences: &str,
+    among: &str,
     trials: &[Trial],
     orders: &str,
     lines: &[u8],
 ) -> Result<Vec<u8>, AllocError>
     ensures { IfOk result (λ text. text.items
-        ≡ sentences.now ++ trials_text trials.now ++ set_apart orders.now ++ codes "\n" ++ lines.now) }
+        ≡ sentences.now ++ trials_text among.now trials.now ++ set_apart orders.now ++ codes "\n" ++ lines.now) }
 {
     let mut text = Vec::from_slice(alloc, sentences.as_bytes())?;
-    add_trials(&mut text, trials)?;
+    add_trials(&mut text, among, trials)?;
     add_apart(&mut text, orders)?;
     text.extend_from_slice(b"\n")?;
     text.extend_from_slice(lines)?;
@@ -55,8 +57,10 @@ fn order_text(
 /// where the members are cleared what each of them changes, and what serves each need that they touch; where
 /// they are blocked an order in which a merge is refused, the cause with its rows, and where they meet; where a
 /// name is unfit what is wrong with it. Then come the remedies that were tried, each by itself, with what
-/// `plan` answers of it, the cleared ones first: a member left out, a row brought or given up. Of members that are
-/// blocked an order is told in which they can be merged, or why none was found. Behind an empty line stand the
+/// `plan` answers of it, the cleared ones first: a member left out, a row brought or given up. They are tried among the
+/// designs of the cause, which are in that order, and not among all members; behind a no stands its own cause. Of each member
+/// that helps these, what `plan_in_order` answers if it goes first is told among them. Of members
+/// that are blocked an order is told in which they can be merged, or why none was found. Behind an empty line stand the
 /// lines of the plan. Lengths and places are told in metres, with three decimals. The office is
 /// left as it was, unless memory runs out. A remedy that can't be tried isn't told, nor
 /// is an edit in a workspace that has a savepoint `before_trial` or as many savepoints as there may be.
@@ -79,10 +83,12 @@ pub fn work_order(
     };
     let sentences = plan_sentences(setting, &planned)?;
     let orders = order_sentences(alloc, office, &members, &planned)?;
+    let among = among_words(alloc, names, order_of(&planned))?;
     let trials = try_remedies(alloc, office, &members, &planned)?;
     let text = order_text(
         alloc,
         sentences.as_str(),
+        among.as_str(),
         trials.as_slice(),
         orders.as_str(),
         lines.as_slice(),

@@ -1,4 +1,4 @@
-use Rattle.std.proofs.Common.{map}
+use Rattle.std.proofs.Common.{◌∙◌, map}
 use Rattle.std.proofs.lemmas.Result.{on_ok_weaker}
 use Rattle.clr_merge_sets.specs.MemberChanges.{set_of}
 use Rattle.clr_plan_page.specs.Shown.{shown}
@@ -10,6 +10,6 @@ returns c =
     let o = c.args.setting.office.now in
     let m = c.args.setting.members.now in
     on_ok_weaker c.add_remedies.result
-    (λ told. blocked_told o (set_of m) m.changes.items c.args.cause.now c.args.trials.now c.in_ok-cause.cause
+    (λ told. blocked_told o (set_of m) m.changes.items c.args.order.now c.args.cause.now c.as_str.result.now c.args.trials.now c.in_ok-cause.cause
     (map shown c.args.section.now.blocks.items) (map shown c.add_cause.new.section.blocks.items) (map shown c.add_remedies.new.section.blocks.items)
-    (c.in_ok-cause.ensures c.requires) c.in_ok-add_cause.ensures told) c.add_remedies.ensures
+    (c.in_ok-cause.ensures c.requires) (c.as_str.ensures.value ∙ c.in_ok-among.ensures) c.in_ok-add_cause.ensures told) c.add_remedies.ensures

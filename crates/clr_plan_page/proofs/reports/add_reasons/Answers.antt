@@ -19,7 +19,8 @@ returns-in-Blocked c =
     let o = c.args.setting.office.now in
     let m = c.args.setting.members.now in
     on_ok_weaker c.add_blocked.result
-    (λ told. reasons_of_blocked o (set_of m) m.changes.items c.args.plan.now c.args.trials.now _ _ _ _ c.in-Blocked.is told) c.add_blocked.ensures
+    (λ told. reasons_of_blocked o (set_of m) m.changes.items c.args.plan.now c.args.trials.now _ _ _ _ _ c.in-Blocked.is c.as_slice-in-Blocked.ensures.value
+    told) c.add_blocked.ensures
 
 pub returns-in-Unfit : goal.returns-in-Unfit
 returns-in-Unfit c =

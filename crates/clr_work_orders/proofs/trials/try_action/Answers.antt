@@ -19,5 +19,5 @@ returns-in-Some-clause-told c =
     item in
     let named : slice_get (map (λ name. name.now) names) c.in-Make.member ≡ Some c.in-Some.ws.now.now =
     slice_get-map (λ name. name.now) names c.in-Make.member ∙ ap (option_map (λ name. name.now)) there in
-    subst (λ (action : Action). IfOk c.try_edit.result (IsActionTried o s action)) (sym c.in-Make.is)
-    (IfOk-weaker c.try_edit.result _ _ (told_as o s c.in-Make.member c.in-Make.edit c.in-Some.ws.now.now named) c.try_edit.ensures.told)
+    subst (λ (action : Action). IfOk c.try_edit.result (IsActionTried o s c.args.order.now action)) (sym c.in-Make.is)
+    (IfOk-weaker c.try_edit.result _ _ (told_as o s c.args.order.now c.in-Make.member c.in-Make.edit c.in-Some.ws.now.now named) c.try_edit.ensures.told)

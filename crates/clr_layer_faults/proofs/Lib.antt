@@ -1,0 +1,4 @@
+mod PlaceLemmas
+mod RangeLemmas
+mod RecordLemmas
+mod RefusalLemmas

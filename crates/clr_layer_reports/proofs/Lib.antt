@@ -1,0 +1,3 @@
+mod DegreeLemmas
+mod LineLemmas
+mod ReportLemmas

@@ -1,0 +1,4 @@
+pub mod Degrees
+pub mod FaultSayings
+pub mod NearNames
+pub mod Reports

@@ -1,0 +1,21 @@
+//! What is said of a layer with faults.
+//!
+//! - `layer_report`: all that is wrong with a layer (`IsLayerReport`), byte for byte: the first 100 faults, each on a line with the name of the file, the
+//!   line and the column at which its field begins, its name, the column's name and its value in a sentence, the row and perhaps a hint; and where there
+//!   is more than one, how many they are, in all and of each kind and column. Which faults there are, in which order, and at which bytes, is what
+//!   `clr_layer_faults` finds.
+//! - `degrees_text`: that the coordinates of a layer look like degrees (`look_like_degrees`), or nothing.
+//! - `limits_of_reports`: how many faults are shown, and how many names of a header.
+#![tactic(auto)]
+
+mod counts;
+mod degrees;
+mod laws;
+mod located_lines;
+mod near_names;
+mod reports;
+mod sentences;
+
+pub use degrees::degrees_text;
+pub use laws::limits_of_reports;
+pub use reports::layer_report;
