@@ -25,7 +25,7 @@ fn print_of_why(alloc: Global, why: Why) -> Result<Print, AllocError>
     let (text, ending) = match why {
         Why::NoFault => (Vec::from_slice(alloc, b"no fault\n")?, Ending::Done),
         Why::OldErrors(lines) => (no_fault_and(alloc, lines.as_slice())?, Ending::Done),
-        Why::Unheld(lines) => (lines, Ending::Refused),
+        Why::Unheld(lines) => (lines, Ending::Unheld),
         Why::Faulty(lines) => (lines, Ending::Unread),
     };
     Ok(Print {

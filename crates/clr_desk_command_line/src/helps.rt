@@ -6,7 +6,7 @@ pub(crate) const ABOUT: &str =
 pub(crate) const STATUSES: &str =
     "The answer is on standard output, and what is to be said beside it on standard error.
 It ends with status 0 where all is done or cleared, 1 where something is refused or can't be merged, 2 where its words
-or files can't be read, and 3 for want of memory.";
+or files can't be read, 3 for want of memory, 4 where a rule doesn't hold, and 5 where a name isn't there.";
 
 pub(crate) const CERTIFICATE_PRINTS: &str =
     "It prints the certificate and nothing else, ready for `clr_desk check`, with status 0.

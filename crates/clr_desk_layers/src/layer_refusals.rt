@@ -2,7 +2,7 @@
 ghost use Rattle.std.specs.Prelude.{◌≡◌, IfOk};
 ghost use Rattle.clr_desk_layers.specs.Counted.{removal_print};
 ghost use Rattle.clr_desk_layers.specs.Since.{other_schema_word};
-ghost use Rattle.clr_desk_layers.specs.Layers.{no_workspace_word, unfit_print, wkt_column_word};
+ghost use Rattle.clr_desk_layers.specs.Layers.{no_workspace_word, unfit_print, unknown_print, wkt_column_word};
 ghost use Rattle.clr_layer_faults.specs.UnfitLines.{no_table_word};
 ghost use Rattle.clr_desk_prints.specs.Printing.{printed};
 
@@ -22,9 +22,10 @@ fn unfit_print(alloc: Global, why: &[u8], name: &[u8]) -> Result<Print, AllocErr
 
 /// Returns what is printed where no table has this name.
 pub(crate) fn no_table(alloc: Global, name: &str) -> Result<Print, AllocError>
-    ensures { IfOk result (λ p. printed p ≡ unfit_print no_table_word name.now) }
+    ensures { IfOk result (λ p. printed p ≡ unknown_print no_table_word name.now) }
 {
-    unfit_print(alloc, b"8 NoTable", name.as_bytes())
+    let print = unfit_print(alloc, b"8 NoTable", name.as_bytes())?;
+    Ok(print.refused_for(true))
 }
 
 /// Returns what is printed where no workspace has this name.
