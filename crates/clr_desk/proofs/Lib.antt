@@ -1,6 +1,7 @@
 mod LayerReportLemmas
 mod LineEnds
 mod LinedTexts
+mod OneAgain
 mod OneAnswer
 mod OneChoice
 mod OneDeskAnswer

@@ -10,7 +10,7 @@ use Rattle.clr_office_texts.specs.Drafts.{Opened}
 use Rattle.clr_office.specs.Clearances.{fault_print}
 use Rattle.clr_office_reports.specs.Printing.{IsNoPrint, IsPrintIn, IsPrintWhereHeld, Printed as Lines}
 use Rattle.clr_process_io.specs.declared.faults.RunFault.TheVariants as run_fault
-use Rattle.clr_desk_prints.specs.NameHints.{HintsAt, IsHinted, with_lines}
+use Rattle.clr_desk_prints.specs.NameHints.{HintsAt, IsHinted, has_unknown, refused_for, status_refused_for, with_lines}
 use Rattle.clr_desk_prints.specs.Printing.{IsPrintoutIn, IsPrintoutOfCase, PrintoutOrFault, as_notes, of_case, of_fault, of_office, of_why}
 use Rattle.clr_desk_prints.proofs.OneHint.{one_hints}
 use Rattle.clr_desk_errors.specs.Accepting.{IsPrintoutOfDraft, of_draft, of_no_office}
@@ -72,14 +72,19 @@ module _ (P : Office → Certificate → PrintoutOrFault → Type 0) (one_print 
       let same : why ≡ way = cc in
       told ∙ ap (λ w. as_notes (fault_print w)) same ∙ sym told_too
 
--- hints change no status
-found_bare : (lines : List ℕ) (bare : PrintoutOrFault) → FoundMemory (with_lines lines bare) → FoundMemory bare
-found_bare lines (Ok print) found = found
-found_bare lines (Err e) found = tt
+-- where memory was found for hints and for the status of a name that nothing has, it was found for what is printed of them
+stays_lost : (unknown : Bool) → status_refused_for unknown 3 ≡ 3
+stays_lost true = refl
+stays_lost false = refl
+
+found_bare : (unknown : Bool) (lines : List ℕ) (bare : PrintoutOrFault) → FoundMemory (with_lines lines (refused_for unknown bare)) → FoundMemory bare
+found_bare unknown lines (Ok print) found = λ e. found (ap (status_refused_for unknown) e ∙ stays_lost unknown)
+found_bare unknown lines (Err e) found = tt
 
 -- with hints
 pub one_hinted : (P : Office → PrintoutOrFault → Type 0) (names : List Name) (o : Office) → IsOnePrint (P o) → IsOnePrint (IsHinted P names o)
 one_hinted P names o one_print print other (bare, here, (lines, hints, is)) (plain, there, (others, hints_too, is_too)) found found_too =
+    let unknown = has_unknown o names in
     let same : bare ≡ plain = one_print bare plain here there
-    (found_bare lines bare (subst FoundMemory is found)) (found_bare others plain (subst FoundMemory is_too found_too)) in
-    is ∙ (λ i. with_lines (one_hints o names lines others hints hints_too i) (same i)) ∙ sym is_too
+    (found_bare unknown lines bare (subst FoundMemory is found)) (found_bare unknown others plain (subst FoundMemory is_too found_too)) in
+    is ∙ (λ i. with_lines (one_hints o names lines others hints hints_too i) (refused_for unknown (same i))) ∙ sym is_too

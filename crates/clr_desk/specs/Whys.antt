@@ -13,11 +13,11 @@ IsWhy kind.Office office second = IsOfficeWhy office
 IsWhy kind.Script office second = IsScriptWhy office second
 IsWhy kind.Certificate office second = IsCertificateWhy office second
 
--- status 0 where there is no fault, 1 where a need is broken in the office that isn't known, and 2 where there is a fault
+-- status 0 where there is no fault, 4 where a need is broken in the office that isn't known, and 2 where there is a fault
 abbrev pub why_print : Why → PrintoutOrFault
 why_print why.NoFault = Ok (record { text = codes "no fault\n"; notes = []; status = 0 })
 why_print (why.OldErrors lines) = Ok (record { text = codes "no fault\n" ++ lines.items; notes = []; status = 0 })
-why_print (why.Unheld lines) = Ok (record { text = lines.items; notes = []; status = 1 })
+why_print (why.Unheld lines) = Ok (record { text = lines.items; notes = []; status = 4 })
 why_print (why.Faulty lines) = Ok (record { text = lines.items; notes = []; status = 2 })
 
 abbrev pub IsWhyPrint : TextKind → List ℕ → List ℕ → PrintoutOrFault → Type 0

@@ -7,7 +7,7 @@ ghost use Rattle.clr_desk_prints.specs.Printing.{IsMadePrintout, IsPrintoutOfCas
 use crate::waiting::waiting_text;
 use clr_cert::Certificate;
 use clr_check::{ClearedRun, perform_cleared, read_case};
-use clr_desk_prints::{Print, hint_lines, notes_of};
+use clr_desk_prints::{Print, has_unknown, hint_lines, notes_of};
 use clr_engine::Office;
 use clr_office::{
     RunFault, Words, dump_text, fault_output, merge_commands, replies_output, stop_output,
@@ -67,9 +67,12 @@ pub fn answer_merge(
 {
     match read_case(alloc, office, certificate) {
         Ok((mut office, certificate)) => {
-            let lines = hint_lines(alloc, &office, certificate.root.as_str(), names)?;
-            let print = merge_members(alloc, &mut office, &certificate, names)?;
-            Ok(print.with_notes(lines.as_slice())?)
+            let root = certificate.root.as_str();
+            let is_unknown = has_unknown(&office, root, names);
+            let lines = hint_lines(alloc, &office, root, names)?;
+            let bare = merge_members(alloc, &mut office, &certificate, names)?;
+            let told = bare.refused_for(is_unknown);
+            Ok(told.with_notes(lines.as_slice())?)
         }
         Err(fault) => notes_of(alloc, fault_output(alloc, fault)),
     }

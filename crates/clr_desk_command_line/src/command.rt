@@ -2,13 +2,13 @@
 
 ghost use Rattle.std.specs.Prelude.{◌≡◌, IfOk};
 ghost use Rattle.clap.specs.Words.{app_of};
-ghost use Rattle.clr_desk_command_line.specs.Program.{drawing, importing, ordering, program};
+ghost use Rattle.clr_desk_command_line.specs.Program.{drawing, exporting, importing, mending, ordering, program};
 
 use crate::helps::{
     ABOUT, ACCEPT_PRINTS, CERTIFICATE_PRINTS, CHECK_PRINTS, CLASHES_PRINTS, DESIGN_PRINTS,
-    ERRORS_PRINTS, FORMAT_PRINTS, GEOJSON_PRINTS, KEEP_PRINTS, LAYER_PRINTS, MAP_PRINTS,
-    MENDED_PRINTS, MERGE_PRINTS, OFFICE_PRINTS, ORDER_PRINTS, REPORT_PRINTS, STATUSES, WHY_PRINTS,
-    WORDS_PRINTS,
+    DESIGNS_PRINTS, ERRORS_PRINTS, FORMAT_PRINTS, GEOJSON_PRINTS, KEEP_PRINTS, LAYER_PRINTS,
+    MAP_PRINTS, MENDED_PRINTS, MERGE_PRINTS, OFFICE_PRINTS, ORDER_PRINTS, REACH_PRINTS,
+    REPORT_PRINTS, STATUSES, WHY_PRINTS, WORDS_PRINTS,
 };
 use clap::Command;
 use clr_command_line::{
@@ -34,9 +34,32 @@ const LAYERS: Argument<'static> = Argument::RequiredValues(
     "A table, and the file of its layer, which is CSV",
 );
 
+const GIVEN_LAYERS: Argument<'static> = Argument::Values(
+    "TABLE=FILE",
+    "A table, and the file of its layer, which is CSV",
+);
+
 const ROUND: Argument<'static> = Argument::Flag(
     "round",
     "Round coordinates that are finer than a millimetre",
+);
+
+const COPIED: Argument<'static> = Argument::ValueOption(
+    "base",
+    "COPIED",
+    "The file of the office text from which the layers were copied [default: DB]",
+);
+
+const REMOVES: Argument<'static> = Argument::ValueOption(
+    "removes",
+    "CHOICE",
+    "Whether a design may remove rows, yes or no [default: yes]",
+);
+
+const LEAST_KEY: Argument<'static> = Argument::ValueOption(
+    "keys",
+    "N",
+    "The least key for a row without one [default: 1]",
 );
 
 const SYSTEM: Argument<'static> = Argument::ValueOption(
@@ -121,16 +144,18 @@ const DESK: ProgramTable<'static> = ProgramTable {
 const OVER_PLANS: &[Subcommand<'static>] = &[
     Subcommand {
         name: "why",
-        about: "Says where an office text, a script or a certificate has its fault, and which",
+        about: "Says where an office text, a script, a certificate or a layer has its fault, and which",
         prints: WHY_PRINTS,
         arguments: &[
             DATABASE,
+            GIVEN_LAYERS,
             Argument::ValueOption("script", "FILE", "The file of a script for this office"),
             Argument::ValueOption(
                 "certificate",
                 "FILE",
                 "The file of a certificate over this office",
             ),
+            ROUND,
         ],
     },
     Subcommand {
@@ -153,8 +178,8 @@ const OVER_PLANS: &[Subcommand<'static>] = &[
     },
 ];
 
-/// The subcommands that come after those, which bring networks and designs in and out.
-const OVER_NETWORKS: &[Subcommand<'static>] = &[
+/// The subcommands that come after those, which show plans and tables to other systems.
+const EXPORTS: &[Subcommand<'static>] = &[
     Subcommand {
         name: "geojson",
         about: "Prints what the plan of designs is about as GeoJSON",
@@ -175,6 +200,10 @@ const OVER_NETWORKS: &[Subcommand<'static>] = &[
             ),
         ],
     },
+];
+
+/// The subcommands that come after those, which bring networks and designs in.
+const IMPORTS: &[Subcommand<'static>] = &[
     Subcommand {
         name: "office",
         about: "Puts the rows of layers into LIVE, and prints the office",
@@ -190,6 +219,11 @@ const OVER_NETWORKS: &[Subcommand<'static>] = &[
                 "accept",
                 "Accept what is broken then, so that it is known in the office",
             ),
+            Argument::ValueOption(
+                "skip",
+                "BAD",
+                "Take the records without a fault, and write the others to this new file",
+            ),
         ],
     },
     Subcommand {
@@ -200,28 +234,33 @@ const OVER_NETWORKS: &[Subcommand<'static>] = &[
             DATABASE,
             Argument::Value("NAME", "The name of the new design"),
             LAYERS,
-            Argument::ValueOption(
-                "base",
-                "COPIED",
-                "The file of the office text from which the layers were copied [default: DB]",
-            ),
-            Argument::ValueOption(
-                "removes",
-                "CHOICE",
-                "Whether the design may remove rows, yes or no [default: yes]",
-            ),
+            COPIED,
+            REMOVES,
+            Argument::Flag("again", "Bring a design again that stands already"),
             Argument::Flag("script", "Print the script that makes the design"),
-            Argument::ValueOption(
-                "keys",
-                "N",
-                "The least key for a row without one [default: 1]",
+            LEAST_KEY,
+            ROUND,
+        ],
+    },
+    Subcommand {
+        name: "designs",
+        about: "Makes the designs of a folder, each of its layers, and prints the office with them",
+        prints: DESIGNS_PRINTS,
+        arguments: &[
+            DATABASE,
+            Argument::Value(
+                "FOLDER",
+                "A folder with one folder for each design, in which each file TABLE.csv is a layer",
             ),
+            COPIED,
+            REMOVES,
+            LEAST_KEY,
             ROUND,
         ],
     },
 ];
 
-/// The last subcommands, which are about errors.
+/// The subcommands that come after those, which are about errors.
 const OVER_ERRORS: &[Subcommand<'static>] = &[
     Subcommand {
         name: "errors",
@@ -247,6 +286,29 @@ const OVER_ERRORS: &[Subcommand<'static>] = &[
     },
 ];
 
+/// The last subcommand, which is about cuts.
+const OVER_CUTS: &[Subcommand<'static>] = &[Subcommand {
+    name: "reach",
+    about: "Prints the rows of a table that a cut of the network lacks",
+    prints: REACH_PRINTS,
+    arguments: &[
+        Argument::Value(
+            "CUT",
+            "The file of an office text with the designs and some of the rows, which is JSON",
+        ),
+        Argument::Value(
+            "TABLE",
+            "The table, whose rows are read from standard input",
+        ),
+        DESIGNS,
+        Argument::Flag(
+            "groups",
+            "Print also what ties designs to one another, for groups of designs",
+        ),
+        ROUND,
+    ],
+}];
+
 /// Returns the command line with the subcommands about certificates and choices.
 fn choice_command<'a>(alloc: Global) -> Result<Command<'a>, AllocError>
     ensures { IfOk result (λ c. app_of c ≡ ordering) }
@@ -262,18 +324,34 @@ fn plan_command<'a>(alloc: Global) -> Result<Command<'a>, AllocError>
     with_subcommands(alloc, command, OVER_PLANS)
 }
 
-/// Returns the command line with the subcommands about plans and about networks.
-fn network_command<'a>(alloc: Global) -> Result<Command<'a>, AllocError>
-    ensures { IfOk result (λ c. app_of c ≡ importing) }
+/// Returns the command line with these subcommands, and those that show plans and tables to other systems.
+fn export_command<'a>(alloc: Global) -> Result<Command<'a>, AllocError>
+    ensures { IfOk result (λ c. app_of c ≡ exporting) }
 {
     let command = plan_command(alloc)?;
-    with_subcommands(alloc, command, OVER_NETWORKS)
+    with_subcommands(alloc, command, EXPORTS)
 }
 
-/// Returns the whole command line. It is described by four tables: what a proof of one takes grows with the square of its subcommands.
+/// Returns the command line with these subcommands, and those that bring networks and designs in.
+fn import_command<'a>(alloc: Global) -> Result<Command<'a>, AllocError>
+    ensures { IfOk result (λ c. app_of c ≡ importing) }
+{
+    let command = export_command(alloc)?;
+    with_subcommands(alloc, command, IMPORTS)
+}
+
+/// Returns the command line with these subcommands, and those about errors.
+fn error_command<'a>(alloc: Global) -> Result<Command<'a>, AllocError>
+    ensures { IfOk result (λ c. app_of c ≡ mending) }
+{
+    let command = import_command(alloc)?;
+    with_subcommands(alloc, command, OVER_ERRORS)
+}
+
+/// Returns the whole command line. It is described by six tables: what a proof of one takes grows with the square of its subcommands.
 pub fn whole_command<'a>(alloc: Global) -> Result<Command<'a>, AllocError>
     ensures { IfOk result (λ c. app_of c ≡ program) }
 {
-    let command = network_command(alloc)?;
-    with_subcommands(alloc, command, OVER_ERRORS)
+    let command = error_command(alloc)?;
+    with_subcommands(alloc, command, OVER_CUTS)
 }

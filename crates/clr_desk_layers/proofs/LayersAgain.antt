@@ -16,7 +16,7 @@ use Rattle.clr_layer_changes.proofs.UnitedLemmas.{united_itself}
 use Rattle.clr_layer_text.specs.TableRows.{IsTableLayer}
 use Rattle.clr_desk_layers.specs.Designs.{IsDesignPrintOver, IsPrintOfDesign, IsPrintOfLayers, IsPrintOfLive, IsPrintOfScript, of_content, of_fault, text_print}
 use Rattle.clr_desk_layers.specs.Layers.{IsPrintOfTable, no_workspace_word, of_layer, of_no_table, of_no_workspace, of_table}
-use Rattle.clr_desk_layers.specs.Layers.{of_wkt_column, unfit_print, wkt_column_word}
+use Rattle.clr_desk_layers.specs.Layers.{of_wkt_column, unfit_print, unknown_print, wkt_column_word}
 use Rattle.clr_layer_faults.specs.UnfitLines.{no_table_word}
 use Rattle.clr_desk_prints.specs.Printing.{PrintoutOrFault}
 use Rattle.clr_desk_layers.specs.Counted.{IsCounted}
@@ -40,6 +40,10 @@ not_refused : (text why : List ℕ) (name : Name) → text_print text ≡ unfit_
 unfolding status_in
 not_refused text why name e = let one : ◌≡◌ {A = ℕ} 0 1 = ap status_in e in cc
 
+not_unknown : (text why : List ℕ) (name : Name) → text_print text ≡ unknown_print why name → ⊥
+unfolding status_in
+not_unknown text why name e = let five : ◌≡◌ {A = ℕ} 0 5 = ap status_in e in cc
+
 same_text : (text other : List ℕ) → text_print text ≡ text_print other → text ≡ other
 unfolding text_in
 same_text text other e = ap text_in e
@@ -52,7 +56,7 @@ layer_of_live o layer (of_table at named there of_rows) = (at, named, by of_rows
     by (of_layer text is e) = subst (λ (t : List ℕ). IsTableLayer o.schema at o.live (Some t)) (sym (same_text layer.text.items text e))
         (subst (λ (content : Content). IsTableLayer o.schema at content (Some text)) (live_content o) is)
     by (of_wkt_column is e) = absurd (not_refused layer.text.items wkt_column_word layer.table e)
-layer_of_live o layer (of_no_table none e) = absurd (not_refused layer.text.items no_table_word layer.table e)
+layer_of_live o layer (of_no_table none e) = absurd (not_unknown layer.text.items no_table_word layer.table e)
 layer_of_live o layer (of_no_workspace at named none e) = absurd (not_refused layer.text.items no_workspace_word live_name e)
 
 -- what is printed of layers that ask for LIVE's content

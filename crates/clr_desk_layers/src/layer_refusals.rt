@@ -2,7 +2,7 @@
 ghost use Rattle.std.specs.Prelude.{◌≡◌, IfOk};
 ghost use Rattle.clr_desk_layers.specs.Counted.{removal_print};
 ghost use Rattle.clr_desk_layers.specs.Since.{other_schema_word};
-ghost use Rattle.clr_desk_layers.specs.Layers.{no_workspace_word, unfit_print, wkt_column_word};
+ghost use Rattle.clr_desk_layers.specs.Layers.{no_workspace_word, unfit_print, unknown_print, wkt_column_word};
 ghost use Rattle.clr_layer_faults.specs.UnfitLines.{no_table_word};
 ghost use Rattle.clr_desk_prints.specs.Printing.{printed};
 
@@ -13,7 +13,7 @@ use clr_rows::{CellId, Schema};
 use std::alloc::{AllocError, Global};
 
 /// Returns the print of what can't be a layer or a design: no text, and the line that says why as its only note, which counts as a refusal.
-fn unfit_print(alloc: Global, why: &[u8], name: &[u8]) -> Result<Print, AllocError>
+pub fn unfit_print(alloc: Global, why: &[u8], name: &[u8]) -> Result<Print, AllocError>
     ensures { IfOk result (λ p. printed p ≡ unfit_print why.now name.now) }
 {
     let line = unfit_line(alloc, why, name)?;
@@ -22,9 +22,10 @@ fn unfit_print(alloc: Global, why: &[u8], name: &[u8]) -> Result<Print, AllocErr
 
 /// Returns what is printed where no table has this name.
 pub(crate) fn no_table(alloc: Global, name: &str) -> Result<Print, AllocError>
-    ensures { IfOk result (λ p. printed p ≡ unfit_print no_table_word name.now) }
+    ensures { IfOk result (λ p. printed p ≡ unknown_print no_table_word name.now) }
 {
-    unfit_print(alloc, b"8 NoTable", name.as_bytes())
+    let print = unfit_print(alloc, b"8 NoTable", name.as_bytes())?;
+    Ok(print.refused_for(true))
 }
 
 /// Returns what is printed where no workspace has this name.
@@ -42,14 +43,14 @@ pub(crate) fn wkt_column(alloc: Global, name: &str) -> Result<Print, AllocError>
 }
 
 /// Returns what is printed where the table of this name isn't the same in the office that layers were copied from.
-pub(crate) fn other_schema(alloc: Global, table: &str) -> Result<Print, AllocError>
+pub fn other_schema(alloc: Global, table: &str) -> Result<Print, AllocError>
     ensures { IfOk result (λ p. printed p ≡ unfit_print other_schema_word table.now) }
 {
     unfit_print(alloc, b"10 OtherSchema", table.as_bytes())
 }
 
 /// Returns what is printed where a design would remove the row at this cell, and mustn't.
-pub(crate) fn removal(alloc: Global, schema: &Schema, cell: CellId) -> Result<Print, AllocError>
+pub fn removal(alloc: Global, schema: &Schema, cell: CellId) -> Result<Print, AllocError>
     ensures { IfOk result (λ p. printed p ≡ removal_print schema.now cell) }
 {
     let mut row = Vec::new(alloc);

@@ -1,5 +1,5 @@
 -- What is made for texts, by what is made of what they give.
-use Rattle.std.proofs.Common.{◌≡◌, Bool, true, false, [], Result, Ok, Err, ap, refl, subst, sym}
+use Rattle.std.proofs.Common.{◌≡◌, Result, Ok, Err, ap, refl, subst, sym}
 use Rattle.clr_steps.specs.Offices.{Office}
 use Rattle.clr_cert.specs.declared.certificates.Certificate.{Certificate}
 use Rattle.clr_office.specs.Cases.{Case, IsCaseFault}
@@ -14,13 +14,8 @@ use Rattle.clr_process_io.specs.declared.faults.RunFault.TheVariants as run_faul
 use Rattle.clr_office.specs.Output.{Output}
 use Rattle.clr_desk_prints.specs.Printing.{AreLinesAsNotes, IsMadePrintout, IsPrintoutFault, IsPrintoutIn, IsPrintoutOfCase, PrintoutOrFault, as_notes}
 use Rattle.clr_desk_prints.specs.Printing.{of_fault}
-use Rattle.clr_desk_prints.specs.Printing.{of_why, unless_lost}
+use Rattle.clr_desk_prints.specs.Printing.{of_why}
 use Rattle.clr_desk_prints.specs.declared.prints.Print.{Print}
-
--- no text, whether it is dropped or not
-no_text : (lost : Bool) → unless_lost lost [] ≡ []
-no_text true = refl
-no_text false = refl
 
 module _ (Q : Lines → Type 0) (P : PrintoutOrFault → Type 0) (leads : (lines : Lines) → Q lines → P (as_notes lines)) where
   fault_noted : (e : RunFault) → IsLinesFault Q e → IsPrintoutFault P e
@@ -36,7 +31,7 @@ module _ (Q : Lines → Type 0) (P : PrintoutOrFault → Type 0) (leads : (lines
   -- lines that are made of one are notes that are made of the other
   pub noted : (answer : Result Output RunFault) (result : Result Print RunFault) → AreLinesMade Q answer → AreLinesAsNotes answer result →
       IsMadePrintout P result
-  noted (Ok output) (Ok print) made are = rw (are, no_text output.lost) (leads _ made)
+  noted (Ok output) (Ok print) made are = subst P (sym are) (leads _ made)
   noted (Ok output) (Err f) made are = absurd are
   noted (Err e) (Ok print) made are = absurd are
   noted (Err e) (Err f) made are = subst (IsPrintoutFault P) (sym are) (fault_noted e made)

@@ -50,6 +50,8 @@ status_by ending.Done = 0
 status_by ending.Refused = 1
 status_by ending.Unread = 2
 status_by ending.Lost = 3
+status_by ending.Unheld = 4
+status_by ending.Unknown = 5
 
 abbrev pub is_lost_ending : Ending → Bool
 is_lost_ending ending.Lost = true
@@ -59,9 +61,13 @@ is_lost_ending _ = false
 abbrev pub printed : Print → PrintoutOrFault
 printed print = Ok (record { text = unless_lost (is_lost_ending print.ending) print.text.items; notes = print.notes.items; status = status_by print.ending })
 
--- no text, and as notes the lines that `clr_office` prints, with its exit status
+-- no text, and as notes the line of a need that is broken and isn't known, which has an exit status of its own
+abbrev pub unheld_print : List ℕ → PrintoutOrFault
+unheld_print line = Ok (record { text = []; notes = line; status = 4 })
+
+-- what is printed of an office text that isn't looked at: the line that `clr_office` prints of it, or its fault
 abbrev pub as_notes : Lines → PrintoutOrFault
-as_notes (Ok printed) = Ok (record { text = []; notes = printed.0; status = printed.1 })
+as_notes (Ok printed) = unheld_print printed.0
 as_notes (Err e) = Err e
 
 -- texts --------------------------------------------------------------------------------------
@@ -88,8 +94,8 @@ abbrev pub IsMadePrintout : (PrintoutOrFault → Type 0) → Result Print RunFau
 IsMadePrintout IsPrint (Ok print) = IsPrint (printed print)
 IsMadePrintout IsPrint (Err e) = IsPrintoutFault IsPrint e
 
--- lines that were made, as notes
+-- the line of a need that is broken and isn't known, as it was made, as notes
 abbrev pub AreLinesAsNotes : Result Output RunFault → Result Print RunFault → Type 0
-AreLinesAsNotes (Ok output) (Ok print) = printed print ≡ printout_of [] output.lines.items output.refused output.lost
+AreLinesAsNotes (Ok output) (Ok print) = printed print ≡ unheld_print output.lines.items
 AreLinesAsNotes (Err e) (Err f) = f ≡ e
 AreLinesAsNotes _ _ = ⊥

@@ -7,11 +7,13 @@ ghost use Rattle.clr_desk_prints.specs.NameHints.{IsHinted};
 ghost use Rattle.clr_desk_prints.specs.Printing.{IsMadePrintout, IsPrintoutIn, printed};
 
 use crate::prints::{Print, notes_of};
+use crate::unknown_names::has_unknown;
 use clr_asked_members::members_asked;
 use clr_office::{Office, RunFault, Words, hint_lines, open_office, texts_of_names};
 use std::alloc::{AllocError, Global};
 
-/// Returns what a call prints of an office, and behind its notes hints at those of a root and names that no workspace has.
+/// Returns what a call prints of an office, and behind its notes hints at those of a root and names that no workspace has. If there is such a
+/// name, a refusal has a status of its own.
 fn hinted_print<F: FnOnce(&mut Office) -> Result<Print, AllocError>>(
     alloc: Global,
     office: &mut Office,
@@ -22,9 +24,11 @@ fn hinted_print<F: FnOnce(&mut Office) -> Result<Print, AllocError>>(
     requires { F.IsAlwaysCallable print }
     ensures { IfOk result (λ p. IsHinted (PrintsOffice (F.post print)) (root.now ∷ names.now) office.old (printed p)) }
 {
+    let is_unknown = has_unknown(office, root, names);
     let lines = hint_lines(alloc, office, root, names)?;
     let bare = print(office)?;
-    bare.with_notes(lines.as_slice())
+    let told = bare.refused_for(is_unknown);
+    told.with_notes(lines.as_slice())
 }
 
 /// Returns what a call prints of the office of a text, and behind its notes hints at those of a root and names that no workspace has,

@@ -1,7 +1,7 @@
 //! What is printed, and how it ends.
-ghost use Rattle.std.specs.Prelude.{◌≡◌, [], false, IfOk};
+ghost use Rattle.std.specs.Prelude.{◌≡◌, [], false, true, IfOk};
 ghost use Rattle.clr_office.specs.Printing.{status_of};
-ghost use Rattle.clr_desk_prints.specs.NameHints.{with_lines};
+ghost use Rattle.clr_desk_prints.specs.NameHints.{refused_for, status_refused_for, with_lines};
 ghost use Rattle.clr_desk_prints.specs.Printing.{AreLinesAsNotes, is_lost_ending, printed, printout_of, status_by, unless_lost};
 
 use clr_office::{Output, RunFault};
@@ -18,6 +18,10 @@ pub enum Ending {
     Unread,
     /// A plan, a verdict or a merge found no memory.
     Lost,
+    /// A need is broken in LIVE, or in a workspace that is held, and the text of the office doesn't know it.
+    Unheld,
+    /// Something was refused, and a name was asked for that nothing has.
+    Unknown,
 }
 
 impl Ending {
@@ -33,6 +37,21 @@ impl Ending {
             Ending::Refused
         } else {
             Ending::Done
+        }
+    }
+
+    /// Returns this ending, where a name was asked for that nothing has.
+    fn for_unknown(self) -> Ending
+        ensures status { status_by result ≡ status_refused_for true (status_by self) }
+        ensures lost { is_lost_ending result ≡ is_lost_ending self }
+    {
+        match self {
+            Ending::Done => Ending::Done,
+            Ending::Refused => Ending::Unknown,
+            Ending::Unread => Ending::Unread,
+            Ending::Lost => Ending::Lost,
+            Ending::Unheld => Ending::Unheld,
+            Ending::Unknown => Ending::Unknown,
         }
     }
 }
@@ -74,6 +93,21 @@ impl Print {
         Ok(self)
     }
 
+    /// Returns this print, where a name was asked for that nothing has or none was. Where one was, what is refused ends so.
+    pub fn refused_for(self, is_unknown: bool) -> Print
+        ensures { printed result ≡ refused_for is_unknown (printed self) }
+    {
+        if is_unknown {
+            Print {
+                text: self.text,
+                notes: self.notes,
+                ending: self.ending.for_unknown(),
+            }
+        } else {
+            self
+        }
+    }
+
     /// Returns what goes to standard output: the text, and nothing where something found no memory.
     pub fn shown_text(&self) -> &[u8]
         ensures { result.now ≡ unless_lost (is_lost_ending self.now.ending) self.now.text.items }
@@ -85,7 +119,8 @@ impl Print {
     }
 
     /// Returns the exit status: 0 where all was done, 1 where something was refused, 2 where a text has a
-    /// fault, and 3 where something found no memory.
+    /// fault, 3 where something found no memory, 4 where a need is broken that isn't known, and 5 where something was
+    /// refused and a name was asked for that nothing has.
     pub fn status(&self) -> u8
         ensures { result ≡ status_by self.now.ending }
     {
@@ -94,16 +129,22 @@ impl Print {
             Ending::Refused => 1,
             Ending::Unread => 2,
             Ending::Lost => 3,
+            Ending::Unheld => 4,
+            Ending::Unknown => 5,
         }
     }
 }
 
-/// Returns lines as notes, without a text.
+/// Returns the line of a need that is broken in an office and isn't known, as notes without a text.
 pub fn notes_of(alloc: Global, answer: Result<Output, RunFault>) -> Result<Print, RunFault>
     ensures { AreLinesAsNotes answer result }
 {
     match answer {
-        Ok(output) => Ok(Print::new(Vec::new(alloc), output.lines, output.refused, output.lost)),
+        Ok(output) => Ok(Print {
+            text: Vec::new(alloc),
+            notes: output.lines,
+            ending: Ending::Unheld,
+        }),
         Err(fault) => Err(fault),
     }
 }
