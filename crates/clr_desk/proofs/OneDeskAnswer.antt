@@ -83,6 +83,7 @@ one_within (ask.Why kind) office second layers whole = absurd (false≢true whol
 one_within (ask.WorkOrder root names) office second layers whole = absurd (false≢true whole)
 one_within (ask.Map root names) office second layers whole = absurd (false≢true whole)
 one_within (ask.Report root names) office second layers whole = absurd (false≢true whole)
+one_within (ask.Board root names) office second layers whole = absurd (false≢true whole)
 one_within (ask.Geographic asked) office second layers whole = one_geographic asked office second layers whole
 
 one_if : (too_long : Bool) (asked : DeskAsk) (office second : List ℕ) (layers : List GivenLayer) → is_whole asked ≡ true

@@ -28,6 +28,7 @@ module _ (office second : List ℕ) (layers : List GivenLayer) where
   untorn (ask.Why kind) h = search rules
   untorn (ask.Map root names) h = search rules
   untorn (ask.Report root names) h = search rules
+  untorn (ask.Board root names) h = search rules
   untorn (ask.WorkOrder root names) h = search rules
   untorn (ask.Geographic (geographic.Features root names system)) h = search rules
   untorn (ask.Geographic (geographic.Layer table workspace)) h = search rules

@@ -14,6 +14,7 @@ use Rattle.clr_desk_command_line.specs.declared.asks.DeskAsk.TheVariants as ask
 use Rattle.clr_desk.specs.Certificates.{IsCertificatePrint}
 use Rattle.clr_desk.specs.Checks.{IsCheckPrint}
 use Rattle.clr_desk.specs.Choices.{IsChoicePrint}
+use Rattle.clr_desk_board.specs.Boards.{IsBoardPrint}
 use Rattle.clr_desk_clashes.specs.Clashes.{IsClashesPrint}
 use Rattle.clr_desk.specs.Formats.{IsFormatPrint}
 use Rattle.clr_desk.specs.Geographic.{IsGeographicAnswer}
@@ -49,6 +50,8 @@ IsDeskAnswerWithin (ask.Map root names) office second layers print =
     IsPrintoutIn (IsHinted (IsMapPrint root names) (root ∷ names)) (opened_in office) print
 IsDeskAnswerWithin (ask.Report root names) office second layers print =
     IsPrintoutIn (IsHinted (IsReportPrint root names) (root ∷ names)) (opened_in office) print
+IsDeskAnswerWithin (ask.Board root names) office second layers print =
+    IsPrintoutIn (IsHinted (IsBoardPrint root names) (root ∷ names)) (opened_in office) print
 IsDeskAnswerWithin (ask.WorkOrder root names) office second layers print =
     IsPrintoutIn (IsHinted (IsOrderPrint root names) (root ∷ names)) (opened_in office) print
 IsDeskAnswerWithin (ask.Geographic asked) office second layers print = IsGeographicAnswer asked office second layers print

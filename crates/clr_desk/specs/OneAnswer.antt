@@ -24,6 +24,7 @@ is_whole ask.Errors = false
 is_whole (ask.WorkOrder root names) = false
 is_whole (ask.Map root names) = false
 is_whole (ask.Report root names) = false
+is_whole (ask.Board root names) = false
 is_whole (ask.Geographic asked) = is_whole_layer asked
 is_whole _ = true
 

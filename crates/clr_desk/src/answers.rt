@@ -16,6 +16,7 @@ use crate::in_order::answer_in_order;
 use crate::merges::answer_merge;
 use crate::orders::answer_work_order;
 use crate::whys::answer_why;
+use clr_desk_board::answer_board;
 use clr_desk_clashes::answer_clashes;
 use clr_desk_command_line::DeskAsk;
 use clr_desk_errors::{answer_accept, answer_errors, answer_mended};
@@ -68,6 +69,7 @@ fn answer_texts(
             root.as_str(),
             names.as_slice(),
         ),
+        DeskAsk::Board(root, names) => answer_board(alloc, office, root.as_str(), names.as_slice()),
         DeskAsk::WorkOrder(root, names) => {
             answer_work_order(alloc, office, root.as_str(), names.as_slice())
         }

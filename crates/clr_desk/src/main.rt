@@ -23,6 +23,7 @@
 //!   (`IsOrderPrint`); of `map` a page of vector graphics whose title begins with the word for what the plan says, which it shows, and whose
 //!   description ends with the lines of the plan, with the plan's status (`IsMapPrint`); of `report` a page of hypertext that
 //!   begins with that word and that picture, and ends with the command of `clr_office` and the lines of the plan (`IsReportPrint`); of
+//!   `board` a page of hypertext that says of each member how it stands, each clash with who helps it, and who goes before whom (`IsBoardPrint`); of
 //!   `geojson` the features of a plan, with the plan's status, and of `layer` the layer of a table; of `office` the text of the office whose LIVE
 //!   has the rows of layers, and of `design` that of the office with one more design that has them, or the script that makes it, or why there is
 //!   none (`IsGeographicAnswer`); of `accept` the text of the same office with just its broken needs as known, of `mended` the known needs that

@@ -17,7 +17,7 @@ known name rows = if reads_layers name then Some (tt {0}) else option_map (λ as
 abbrev names : List Text
 names =
     codes "certificate" ∷ codes "check" ∷ codes "merge" ∷ codes "format" ∷ codes "keep" ∷ codes "clashes" ∷ codes "order" ∷ codes "why" ∷ codes "words" ∷ codes "map"
-    ∷ codes "report" ∷ codes "geojson" ∷ codes "layer" ∷ codes "office" ∷ codes "design" ∷ codes "errors" ∷ codes "accept" ∷ codes "mended" ∷ []
+    ∷ codes "report" ∷ codes "board" ∷ codes "geojson" ∷ codes "layer" ∷ codes "office" ∷ codes "design" ∷ codes "errors" ∷ codes "accept" ∷ codes "mended" ∷ []
 
 all_ask : AllAsk known names
 unfolding ask_by_name asked_of_office geographic_asked members_ask
@@ -35,7 +35,7 @@ all_ask = (
             λ rows. refl,
             (
               λ rows. refl,
-              (λ rows. refl, (λ rows. refl, (λ rows. refl, (λ rows. refl, (λ rows. refl, (λ rows. refl, (λ rows. refl, (λ rows. refl, (λ rows. refl, (λ rows. refl, (λ rows. refl, tt))))))))))),
+              (λ rows. refl, (λ rows. refl, (λ rows. refl, (λ rows. refl, (λ rows. refl, (λ rows. refl, (λ rows. refl, (λ rows. refl, (λ rows. refl, (λ rows. refl, (λ rows. refl, (λ rows. refl, tt)))))))))))),
             ),
           ),
         ),

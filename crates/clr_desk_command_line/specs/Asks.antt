@@ -11,7 +11,7 @@ use Rattle.clr_records.specs.Decimals.{number_of}
 use Rattle.clr_command_line.specs.Asks.{database_and, database_of, given_names, given_value, is_set}
 use Rattle.clr_desk_command_line.specs.declared.asks.DeskAsk.{DeskAsk}
 use Rattle.clr_desk_command_line.specs.declared.asks.DeskAsk.TheVariants.{Certificate, Check, Merge, Format, Accept, Mended, Errors, Keep, Clashes, Why}
-use Rattle.clr_desk_command_line.specs.declared.asks.DeskAsk.TheVariants.{Geographic, InOrder, Map, Report, WorkOrder}
+use Rattle.clr_desk_command_line.specs.declared.asks.DeskAsk.TheVariants.{Board, Geographic, InOrder, Map, Report, WorkOrder}
 use Rattle.clr_desk_command_line.specs.declared.asks.DesignAsk.{DesignAsk}
 use Rattle.clr_desk_command_line.specs.declared.asks.GeographicAsk.{GeographicAsk}
 use Rattle.clr_desk_command_line.specs.declared.asks.GeographicAsk.TheVariants.{Features, Layer, Office, AcceptedOffice, ErrorFeatures}
@@ -65,7 +65,8 @@ members_ask name rows root names =
     else (if bytes_eq name (codes "words") then Some (WorkOrder root names)
     else (if bytes_eq name (codes "map") then Some (Map root names)
     else (if bytes_eq name (codes "report") then Some (Report root names)
-    else None))))))
+    else (if bytes_eq name (codes "board") then Some (Board root names)
+    else None)))))))
 
 abbrev pub members_asked : Text → List Row → Option (DeskAsk × List Text)
 members_asked name rows = option_map (λ asked. (asked, database_of rows)) (members_ask name rows (given_root rows) (given_names rows))

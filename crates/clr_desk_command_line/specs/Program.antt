@@ -51,6 +51,9 @@ map = over_members (codes "map")
 abbrev pub report : App
 report = over_members (codes "report")
 
+abbrev pub board : App
+board = over_members (codes "board")
+
 -- the option with the name of a system of coordinates
 abbrev pub system : Rule
 system = option (codes "crs")
@@ -106,7 +109,7 @@ explaining = with_subcommand (with_subcommand ordering why.top) words.top
 
 -- with the commands that draw
 abbrev pub drawing : App
-drawing = with_subcommand (with_subcommand explaining map.top) report.top
+drawing = with_subcommand (with_subcommand (with_subcommand explaining map.top) report.top) board.top
 
 -- with the commands that print texts for geographic information systems
 abbrev pub exporting : App

@@ -94,6 +94,8 @@ pub enum DeskAsk {
     Map(Words, Names),
     /// The plan of these children of a root as a page with its picture: the root, and the children, or none for all.
     Report(Words, Names),
+    /// These children of a root, each with how it stands to the others, on one page: the root, and the children, or none for all.
+    Board(Words, Names),
     /// What is asked in the texts of geographic information systems.
     Geographic(GeographicAsk),
 }

@@ -5,10 +5,10 @@ ghost use Rattle.clap.specs.Words.{app_of};
 ghost use Rattle.clr_desk_command_line.specs.Program.{drawing, importing, ordering, program};
 
 use crate::helps::{
-    ABOUT, ACCEPT_PRINTS, CERTIFICATE_PRINTS, CHECK_PRINTS, CLASHES_PRINTS, DESIGN_PRINTS,
-    ERRORS_PRINTS, FORMAT_PRINTS, GEOJSON_PRINTS, KEEP_PRINTS, LAYER_PRINTS, MAP_PRINTS,
-    MENDED_PRINTS, MERGE_PRINTS, OFFICE_PRINTS, ORDER_PRINTS, REPORT_PRINTS, STATUSES, WHY_PRINTS,
-    WORDS_PRINTS,
+    ABOUT, ACCEPT_PRINTS, BOARD_PRINTS, CERTIFICATE_PRINTS, CHECK_PRINTS, CLASHES_PRINTS,
+    DESIGN_PRINTS, ERRORS_PRINTS, FORMAT_PRINTS, GEOJSON_PRINTS, KEEP_PRINTS, LAYER_PRINTS,
+    MAP_PRINTS, MENDED_PRINTS, MERGE_PRINTS, OFFICE_PRINTS, ORDER_PRINTS, REPORT_PRINTS, STATUSES,
+    WHY_PRINTS, WORDS_PRINTS,
 };
 use clap::Command;
 use clr_command_line::{
@@ -149,6 +149,12 @@ const OVER_PLANS: &[Subcommand<'static>] = &[
         name: "report",
         about: "Tells the plan of designs in one page, an HTML file with its picture",
         prints: REPORT_PRINTS,
+        arguments: OVER_MEMBERS,
+    },
+    Subcommand {
+        name: "board",
+        about: "Tells how all designs stand in one page, an HTML file with a small map of each",
+        prints: BOARD_PRINTS,
         arguments: OVER_MEMBERS,
     },
 ];

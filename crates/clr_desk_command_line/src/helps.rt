@@ -106,6 +106,15 @@ and 1 where they aren't.
 Example:
   clr_desk report office.json Renewal Extension Bypass > plan.html";
 
+pub(crate) const BOARD_PRINTS: &str =
+    "It prints one HTML file that needs nothing beside it, about all designs at once: how each stands (it can go now,
+goes after others, clashes, is in conflict, or is refused alone), the clashes with their causes and what would help, who
+goes before whom, the old errors by rule, and each design with a small map. Without names it takes all children of the
+root. The status is 0 where all designs can go now, and 1 where they can't.
+
+Example:
+  clr_desk board office.json > board.html";
+
 pub(crate) const GEOJSON_PRINTS: &str =
     "It prints what the plan is about as GeoJSON, for a geographic information system: the rows of the root, what
 each design adds, changes and removes, which rows the cause names, and the place of the cause. Coordinates are in

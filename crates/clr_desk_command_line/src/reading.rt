@@ -102,6 +102,7 @@ fn members_ask(name: &str, matches: &ArgMatches, root: Words, names: Names) -> O
         "words" => Some(DeskAsk::WorkOrder(root, names)),
         "map" => Some(DeskAsk::Map(root, names)),
         "report" => Some(DeskAsk::Report(root, names)),
+        "board" => Some(DeskAsk::Board(root, names)),
         _ => None,
     }
 }
@@ -220,8 +221,8 @@ fn refusal(alloc: Global, matches: &ArgMatches) -> Result<AskFault, AllocError> 
 /// Returns what the words of a command line ask for, with the program's name first, and the names of the files that it is asked of: that of the office text,
 /// and then that of the script, the certificate or the office that was copied, and those of the layers, where there are some. The subcommands are `check DB
 /// CERT`, `merge DB CERT NAME..`, `format DB`, `accept DB`, `mended DB`, `errors DB [--geojson] [--crs SYSTEM]`, `why DB [--script FILE] [--certificate
-/// FILE]`, `certificate`, `keep`, `clashes`, `order`, `words`, `map` and `report`, each with `DB [--under ROOT] NAME..`, of which `certificate` and `keep`
-/// take `--in-order` and `order` takes `--certificate`, `geojson DB [--under ROOT] [--crs SYSTEM] NAME..`, `layer DB TABLE [--in WORKSPACE]`, `office SCHEMA
+/// FILE]`, `certificate`, `keep`, `clashes`, `order`, `words`, `map`, `report` and `board`, each with `DB [--under ROOT] NAME..`, of which `certificate` and
+/// `keep` take `--in-order` and `order` takes `--certificate`, `geojson DB [--under ROOT] [--crs SYSTEM] NAME..`, `layer DB TABLE [--in WORKSPACE]`, `office SCHEMA
 /// TABLE=FILE.. [--round] [--accept]` and `design DB NAME TABLE=FILE.. [--base COPIED] [--removes CHOICE] [--script] [--keys N] [--round]`. There are none or
 /// more names, and one or more layers. The root, and the workspace of a layer, is LIVE where none is given; N is 1, and CHOICE is `yes`.
 ///

@@ -43,7 +43,7 @@ fn rows_table(alloc: Global, named: &[RowWords]) -> Result<Table, AllocError>
 }
 
 /// Adds why members are blocked: the reason, the rows that the cause names, and where they meet.
-pub(crate) fn add_cause(section: &mut Builder, cause: &CauseWords) -> Result<(), AllocError>
+pub fn add_cause(section: &mut Builder, cause: &CauseWords) -> Result<(), AllocError>
     ensures { OnOk result (map shown section.new.blocks.items ≡ map shown section.old.blocks.items ++ cause_shown cause.now) }
 {
     section.add_paragraph(cause.reason.as_str())?;

@@ -8,6 +8,8 @@
 //!   on the page; each other text is escaped.
 //! - [`back`]: the office is as it was; what is told of a remedy was tried on it.
 //! - `commands_of_reports`: the commands of `clr_office` that a report tells.
+//! - Other pages are made of the same parts: `Builder`, `row_of` and `table_of` [all exact], `add_cause` of a cause, and `old_errors_of` of the needs that a
+//!   root breaks.
 #![tactic(auto)]
 
 mod cause_tables;
@@ -21,6 +23,9 @@ mod remedies;
 mod reports;
 mod sections;
 
+pub use cause_tables::add_cause;
 pub use clr_plan_map::plan_map;
 pub use feet::commands_of_reports;
+pub use old_errors::old_errors_of;
 pub use reports::plan_report;
+pub use sections::{Builder, plain_text, row_of, table_of};

@@ -85,7 +85,7 @@ fn errors_section(setting: Setting<'_>, needs: &[Broken]) -> Result<Section, All
 }
 
 /// Returns the section of the needs that the root breaks, counted by rule, and none where it breaks none.
-pub(crate) fn old_errors_of(setting: Setting<'_>) -> Result<Vec<Section>, AllocError>
+pub fn old_errors_of(setting: Setting<'_>) -> Result<Vec<Section>, AllocError>
     ensures { IfOk result (λ sections. map section_shown sections.items
         ≡ old_errors_shown setting.entry.office.now setting.entry.members.now.root.now) }
 {

@@ -9,13 +9,13 @@ use std::alloc::{AllocError, Global};
 
 /// Blocks that become a section.
 #[derive(Drop)]
-pub(crate) struct Builder {
-    pub(crate) alloc: Global,
+pub struct Builder {
+    pub alloc: Global,
     blocks: Vec<Block>,
 }
 
 /// Returns a plain text.
-pub(crate) fn plain_text(alloc: Global, words: &str) -> Result<InlineText, AllocError>
+pub fn plain_text(alloc: Global, words: &str) -> Result<InlineText, AllocError>
     ensures { IfOk result (λ text. words_of_text text ≡ words.now) }
 {
     Ok(InlineText::Plain(Vec::from_slice(alloc, words.as_bytes())?))
@@ -29,7 +29,7 @@ fn strong_text(alloc: Global, words: &str) -> Result<InlineText, AllocError>
 }
 
 /// Returns an empty table with these heads.
-pub(crate) fn table_of(alloc: Global, heads: &[&str]) -> Result<Table, AllocError>
+pub fn table_of(alloc: Global, heads: &[&str]) -> Result<Table, AllocError>
     ensures heads { IfOk result (λ table. heads_of table ≡ map (λ head. head.now) heads.now) }
     ensures rows { IfOk result (λ table. table.rows.items ≡ []) }
 {
@@ -55,7 +55,7 @@ fn cell_text(alloc: Global, is_first: bool, words: &str) -> Result<InlineText, A
 }
 
 /// Returns a row of cells, the first of them in bold letters.
-pub(crate) fn row_of(alloc: Global, cells: &[&str]) -> Result<TableRow, AllocError>
+pub fn row_of(alloc: Global, cells: &[&str]) -> Result<TableRow, AllocError>
     ensures { IfOk result (λ row. words_of_row row ≡ map (λ cell. cell.now) cells.now) }
 {
     let mut texts = Vec::with_capacity(alloc, cells.len())?;
@@ -68,7 +68,7 @@ pub(crate) fn row_of(alloc: Global, cells: &[&str]) -> Result<TableRow, AllocErr
 
 impl Builder {
     /// Returns a section with nothing in it.
-    pub(crate) fn new(alloc: Global) -> Builder
+    pub fn new(alloc: Global) -> Builder
         ensures { result.blocks.items ≡ [] }
     {
         Builder {
@@ -78,7 +78,7 @@ impl Builder {
     }
 
     /// Adds a heading.
-    pub(crate) fn add_heading(&mut self, words: &str) -> Result<(), AllocError>
+    pub fn add_heading(&mut self, words: &str) -> Result<(), AllocError>
         ensures { OnOk result (map shown self.new.blocks.items ≡ map shown self.old.blocks.items ++ Heading words.now ∷ []) }
     {
         let words = Vec::from_slice(self.alloc, words.as_bytes())?;
@@ -86,7 +86,7 @@ impl Builder {
     }
 
     /// Adds a paragraph, where there are words for one.
-    pub(crate) fn add_paragraph(&mut self, words: &str) -> Result<(), AllocError>
+    pub fn add_paragraph(&mut self, words: &str) -> Result<(), AllocError>
         ensures { OnOk result (map shown self.new.blocks.items ≡ map shown self.old.blocks.items ++ said words.now) }
     {
         if words.is_empty() {
@@ -97,7 +97,7 @@ impl Builder {
     }
 
     /// Adds a table.
-    pub(crate) fn add_table(&mut self, table: Table) -> Result<(), AllocError>
+    pub fn add_table(&mut self, table: Table) -> Result<(), AllocError>
         ensures { OnOk result (map shown self.new.blocks.items
             ≡ map shown self.old.blocks.items ++ ShownTable (heads_of table) (rows_of table) ∷ []) }
     {
@@ -105,14 +105,14 @@ impl Builder {
     }
 
     /// Adds a block.
-    pub(crate) fn add(&mut self, block: Block) -> Result<(), AllocError>
+    pub fn add(&mut self, block: Block) -> Result<(), AllocError>
         ensures { OnOk result (map shown self.new.blocks.items ≡ map shown self.old.blocks.items ++ shown block ∷ []) }
     {
         Ok(self.blocks.push(block)?)
     }
 
     /// Returns the section.
-    pub(crate) fn into_section(self) -> Section
+    pub fn into_section(self) -> Section
         ensures { section_shown result ≡ map shown self.blocks.items }
     {
         Section {

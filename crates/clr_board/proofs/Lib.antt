@@ -1,0 +1,5 @@
+mod Finds
+mod Numbers
+mod Settled
+mod StateLaws
+mod Turns

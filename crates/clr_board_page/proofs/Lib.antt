@@ -1,0 +1,4 @@
+mod Causes
+mod Each
+mod Numbers
+mod Sections
