@@ -1,9 +1,11 @@
+mod KeyedReportLemmas
 mod LayerReportLemmas
 mod LineEnds
 mod LinedTexts
 mod OneAnswer
 mod OneChoice
 mod OneDeskAnswer
+mod OneIds
 mod OnePrint
 mod PlaceLemmas
 mod Trying

@@ -32,6 +32,8 @@ use Rattle.clr_desk.proofs.OneAnswer.{one_accept_print, one_accepted, one_mended
 use Rattle.clr_desk.proofs.OneAnswer.{one_check_print, one_counted, one_design_script, one_format_print, one_live, one_merge_print, one_of_layers}
 use Rattle.clr_desk.proofs.OneAnswer.{one_over, one_since}
 use Rattle.clr_desk.proofs.OneAnswer.{one_plan_print}
+use Rattle.clr_desk_ids.specs.GrownIds.{IsIdsPrint}
+use Rattle.clr_desk.proofs.OneIds.{one_ids}
 use Rattle.clr_desk.proofs.OneChoice.{one_choice_print}
 use Rattle.clr_desk.proofs.OnePrint.{one_hinted, one_in, one_of_case, one_of_draft}
 
@@ -39,6 +41,9 @@ one_geographic : (asked : GeographicAsk) (office second : List ℕ) (layers : Li
     → IsOnePrint (IsGeographicAnswer asked office second layers)
 one_geographic (geographic.Features root names system) office second layers whole = absurd (false≢true whole)
 one_geographic (geographic.Layer table workspace) office second layers whole = absurd (false≢true whole)
+one_geographic (geographic.LayerWithIds table workspace) office second layers whole = absurd (false≢true whole)
+one_geographic (geographic.Ids tables first) office ids layers whole =
+    one_of_draft (IsIdsPrint ids first layers) (one_ids ids first layers) (draft_in office)
 one_geographic (geographic.ErrorFeatures system) office second layers whole = absurd (false≢true whole)
 one_geographic (geographic.AcceptedOffice tables rounded) office second layers whole =
     one_of_draft (IsAcceptedOfficePrint (options_of 1 rounded) layers)

@@ -31,6 +31,8 @@ module _ (office second : List ℕ) (layers : List GivenLayer) where
   untorn (ask.WorkOrder root names) h = search rules
   untorn (ask.Geographic (geographic.Features root names system)) h = search rules
   untorn (ask.Geographic (geographic.Layer table workspace)) h = search rules
+  untorn (ask.Geographic (geographic.LayerWithIds table workspace)) h = search rules
+  untorn (ask.Geographic (geographic.Ids tables first)) h = search rules
   untorn (ask.Geographic (geographic.Office tables rounded)) h = search rules
   untorn (ask.Geographic (geographic.AcceptedOffice tables rounded)) h = search rules
   untorn (ask.Geographic (geographic.ErrorFeatures system)) h = search rules

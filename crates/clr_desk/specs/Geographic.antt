@@ -12,6 +12,8 @@ use Rattle.clr_desk_layers.specs.Designs.{IsAcceptedOfficePrint, IsDesignPrint, 
 use Rattle.clr_desk_layers.specs.Since.{IsDesignSincePrint}
 use Rattle.clr_desk_command_line.specs.declared.asks.DesignAsk.{DesignAsk}
 use Rattle.clr_desk_pages.specs.Features.{IsFeaturesAnswer}
+use Rattle.clr_desk_ids.specs.GrownIds.{IsIdsPrint}
+use Rattle.clr_desk_ids.specs.NamedLayers.{IsNamedLayerPrint}
 use Rattle.clr_desk_layers.specs.Layers.{IsLayerPrint}
 use Rattle.clr_desk_prints.specs.NameHints.{IsHinted}
 use Rattle.clr_desk_prints.specs.Printing.{IsPrintoutIn, PrintoutOrFault}
@@ -24,11 +26,15 @@ options_of first_key rounded = record { first_key = first_key; rounded = rounded
 abbrev pub design_options : DesignAsk → LayerOptions
 design_options design = options_of design.first_key design.is_rounded
 
--- what is to be printed for what is asked of an office text, a second one, which is that of the office from which layers were copied, and layers
+-- what is to be printed for what is asked of an office text, a second one, which is that of the office from which layers were copied or of a book of ids,
+-- and layers
 abbrev pub IsGeographicAnswer : GeographicAsk → List ℕ → List ℕ → List GivenLayer → PrintoutOrFault → Type 0
 IsGeographicAnswer (ask.Features root names system) office second layers print = IsFeaturesAnswer root names system (opened_in office) print
 IsGeographicAnswer (ask.Layer table workspace) office second layers print =
     IsPrintoutIn (IsHinted (IsLayerPrint table workspace) (workspace ∷ [])) (opened_in office) print
+IsGeographicAnswer (ask.LayerWithIds table workspace) office ids layers print =
+    IsNamedLayerPrint ids table (IsPrintoutIn (IsHinted (IsLayerPrint table workspace) (workspace ∷ [])) (opened_in office)) print
+IsGeographicAnswer (ask.Ids tables first) office ids layers print = IsPrintoutOfDraft (IsIdsPrint ids first layers) (draft_in office) print
 IsGeographicAnswer (ask.Office tables rounded) office second layers print =
     IsPrintoutIn (IsOfficePrint (options_of 1 rounded) layers) (opened_in office) print
 IsGeographicAnswer (ask.AcceptedOffice tables rounded) office second layers print =

@@ -14,11 +14,14 @@ tables_of (ask.Geographic (geographic.AcceptedOffice tables rounded)) = tables
 tables_of (ask.Geographic (geographic.Design design)) = design.tables
 tables_of (ask.Geographic (geographic.DesignSince design)) = design.tables
 tables_of (ask.Geographic (geographic.DesignScript design)) = design.tables
+tables_of (ask.Geographic (geographic.Ids tables first)) = tables
 tables_of _ = []
 
--- how many texts stand before those of the layers: that of the office, and that of the office from which layers were copied where one is given
+-- how many texts stand before those of the layers: that of the office, and that of the office from which layers were copied, or of a book of ids, where one
+-- is given
 abbrev pub office_count : DeskAsk → ℕ
 office_count (ask.Geographic (geographic.DesignSince design)) = 2
+office_count (ask.Geographic (geographic.Ids tables first)) = 2
 office_count _ = 1
 
 -- a layer as its table and its text

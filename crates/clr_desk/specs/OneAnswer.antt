@@ -13,6 +13,7 @@ use Rattle.clr_desk.specs.Answers.{IsDeskAnswerTo}
 abbrev pub is_whole_layer : GeographicAsk → Bool
 is_whole_layer (geographic.Features root names system) = false
 is_whole_layer (geographic.Layer table workspace) = false
+is_whole_layer (geographic.LayerWithIds table workspace) = false
 is_whole_layer (geographic.ErrorFeatures system) = false
 is_whole_layer _ = true
 

@@ -84,7 +84,7 @@ fn is_any_too_long(layers: &[GivenLayer]) -> bool
 }
 
 /// Writes what is to be printed for what is asked of an office text, of a second text, which is the
-/// script, the certificate or the office that was copied where there is one, and of layers, where they are asked for, each with its
+/// script, the certificate, the office that was copied or the book of ids where there is one, and of layers, where they are asked for, each with its
 /// table: the notes by one put, and then the text by another.
 /// Returns the exit status: 0 all done or cleared, or no fault; 1 something refused, members that can't be
 /// merged in every order, or a rule that doesn't hold; 2 a fault, where `why` asks for it, or the fault of

@@ -6,6 +6,7 @@ ghost use Rattle.clr_desk_prints.specs.Printing.{IsMadePrintout};
 
 use clr_desk_command_line::{DesignAsk, GeographicAsk};
 use clr_desk_errors::answer_error_features;
+use clr_desk_ids::{answer_ids, answer_named_layer};
 use clr_desk_layers::{
     GivenLayer, LayerOptions, answer_accepted_office, answer_design, answer_design_script,
     answer_design_since, answer_layer, answer_office,
@@ -36,7 +37,7 @@ fn design_options(design: &DesignAsk) -> LayerOptions
 }
 
 /// Returns what is printed for what is asked of an office text, of a second one and of layers in the texts of geographic information systems. The second
-/// is the text of the office from which layers were copied where one is given.
+/// is the text of the office from which layers were copied, or that of a book of ids, where one is given.
 pub(crate) fn answer_geographic(
     alloc: Global,
     ask: &GeographicAsk,
@@ -57,6 +58,10 @@ pub(crate) fn answer_geographic(
         GeographicAsk::Layer(table, workspace) => {
             answer_layer(alloc, office, table.as_str(), workspace.as_str())
         }
+        GeographicAsk::LayerWithIds(table, workspace) => {
+            answer_named_layer(alloc, office, second, table.as_str(), workspace.as_str())
+        }
+        GeographicAsk::Ids(_, first) => answer_ids(alloc, office, second, *first, layers),
         GeographicAsk::Office(_, rounded) => {
             answer_office(alloc, office, office_options(*rounded), layers)
         }

@@ -21,6 +21,7 @@ fn tables_of(ask: &DeskAsk) -> &[Words]
             | GeographicAsk::DesignSince(design)
             | GeographicAsk::DesignScript(design),
         ) => design.tables.as_slice(),
+        DeskAsk::Geographic(GeographicAsk::Ids(tables, _)) => tables.as_slice(),
         _ => &[],
     }
 }
@@ -31,7 +32,7 @@ pub(crate) fn office_count(ask: &DeskAsk) -> usize
     ensures small { result ≤ 2 }
 {
     match ask {
-        DeskAsk::Geographic(GeographicAsk::DesignSince(_)) => 2,
+        DeskAsk::Geographic(GeographicAsk::DesignSince(_) | GeographicAsk::Ids(_, _)) => 2,
         _ => 1,
     }
 }
@@ -80,7 +81,7 @@ fn take_behind(
 }
 
 /// Takes the layers that are asked for out of texts, each with its table: the text of the first layer stands right behind that of the office, or behind
-/// that of the office from which layers were copied where one is given, and the others follow in the order of their tables. The texts of offices stay,
+/// that of the office from which layers were copied or of a book of ids where one is given, and the others follow in the order of their tables. The texts of offices stay,
 /// and where no layer is asked for, all texts do.
 pub fn take_layers(
     alloc: Global,

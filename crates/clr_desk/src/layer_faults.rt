@@ -15,7 +15,7 @@ use clr_rows::Schema;
 use std::alloc::{AllocError, Global};
 
 /// Returns whether coordinates of the layers that are asked for are rounded.
-fn is_rounded(ask: &DeskAsk) -> bool
+pub(crate) fn is_rounded(ask: &DeskAsk) -> bool
     ensures { result ≡ is_rounded ask.now }
 {
     match ask {

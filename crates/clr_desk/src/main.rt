@@ -31,6 +31,9 @@
 //! - `take_layers` [`layers`, `offices`]: each table that is asked for with the text in its place.
 //! - `faults_of_layers` [`faults`]: all that is wrong with layers, each fault with its file, line and column (`AreLayerFaults`). `degrees_of_layers`
 //!   [`degrees`]: the layers whose coordinates look like degrees.
+//! - `id_fault_place` [`place`], `growth_fault_place` [`place`] and `faults_of_keyed_layers` [`faults`]: where the id is that a book gives no key, or the new
+//!   one that it can't give one, and all that is wrong with layers in
+//!   which ids stand for keys. `layers_with_keys` of `clr_desk_ids` has given them keys before, by a book of ids; `answer` knows no id.
 //! - `texts_have_one_answer` [`answer`]: memory aside, what is asked has one answer alone, but for what the definitions of clashes, of orders, of faults,
 //!   and of sentences, pictures, pages, features, layers and errors leave open.
 //! - [`silent`]: with status 3 nothing went to the sink of the text.
@@ -49,6 +52,7 @@ mod given_layers;
 mod in_order;
 mod laws;
 mod layer_faults;
+mod layer_ids;
 mod line_ends;
 mod merges;
 mod orders;
@@ -59,7 +63,9 @@ use crate::answers::answer;
 use crate::fault_places::fault_place;
 use crate::given_layers::take_layers;
 use crate::layer_faults::{degrees_of_layers, faults_of_layers};
-use clr_desk_command_line::{AskFault, DeskAsk, ask_of};
+use crate::layer_ids::{faults_of_keyed_layers, growth_fault_place, id_fault_place};
+use clr_desk_command_line::{AskFault, DeskAsk, GeographicAsk, ask_of, ids_file};
+use clr_desk_ids::{book_fault_place, layers_with_keys};
 use clr_desk_layers::GivenLayer;
 use clr_office::{Port, RunFault, Sink, Words};
 use clr_process_io::{
@@ -109,48 +115,142 @@ fn print_remarks(rt: &HostRuntime, lines: Result<Vec<u8>, AllocError>) {
     }
 }
 
-/// Prints remarks on layers on standard error: what is wrong with them, behind the line of the first fault, where this is the status; and which of them
-/// look like degrees. Where no memory is found for it, the line stands alone.
+/// Layers as they were given, and with the keys by which they were read, where they have ids.
+struct ReadLayers<'a> {
+    given: &'a [GivenLayer],
+    keyed: Option<&'a [GivenLayer]>,
+}
+
+/// Returns where a book of ids that is the second text has its fault, and else what is wrong with layers.
+fn faults_of(
+    rt: &HostRuntime,
+    ask: &DeskAsk,
+    files: &[Words],
+    office: &[u8],
+    second: &[u8],
+    layers: &ReadLayers<'_>,
+) -> Result<Vec<u8>, AllocError> {
+    let given = layers.given;
+    match (ask, layers.keyed) {
+        (DeskAsk::Geographic(GeographicAsk::LayerWithIds(..)), _) => {
+            book_fault_place(rt.alloc(), file_name(files, 1), second)
+        }
+        (DeskAsk::Geographic(GeographicAsk::Ids(_, first)), _) => {
+            growth_fault_place(rt.alloc(), *first, files, office, second, given)
+        }
+        (_, Some(keyed)) => faults_of_keyed_layers(rt.alloc(), ask, files, office, given, keyed),
+        (_, None) if given.is_empty() => Ok(Vec::new(rt.alloc())),
+        (_, None) => faults_of_layers(rt.alloc(), ask, files, office, given),
+    }
+}
+
+/// Prints remarks on layers and ids on standard error: what is wrong with them, behind the line of the first fault, where this is the status; and which
+/// layers look like degrees. Where no memory is found for it, the line stands alone.
 fn print_layer_remarks(
     rt: &HostRuntime,
     ask: &DeskAsk,
     files: &[Words],
     office: &[u8],
-    layers: &[GivenLayer],
+    second: &[u8],
+    layers: &ReadLayers<'_>,
     status: u8,
 ) {
-    if layers.is_empty() {
-        return;
-    }
     if status == UNREADABLE {
-        print_remarks(rt, faults_of_layers(rt.alloc(), ask, files, office, layers));
+        print_remarks(rt, faults_of(rt, ask, files, office, second, layers));
     }
-    print_remarks(rt, degrees_of_layers(rt.alloc(), ask, files, layers));
+    if !layers.given.is_empty() {
+        print_remarks(rt, degrees_of_layers(rt.alloc(), ask, files, layers.given));
+    }
 }
 
-/// Answers what the words ask of files, and gives the exit status.
-fn answer_files(rt: &HostRuntime, ask: &DeskAsk, files: &[Words]) -> Result<u8, RunFault> {
+/// A file of a book of ids: its name, and its text.
+struct IdsFile<'a> {
+    name: &'a str,
+    text: Vec<u8>,
+}
+
+/// Gives layers the keys of a book of ids. Where they have none, prints the line that says why, and where that is, and gives the exit status instead.
+fn with_keys(
+    rt: &HostRuntime,
+    ask: &DeskAsk,
+    files: &[Words],
+    ids: &IdsFile<'_>,
+    layers: &[GivenLayer],
+) -> Result<Result<Vec<GivenLayer>, u8>, RunFault> {
+    let text = ids.text.as_slice();
+    match layers_with_keys(rt.alloc(), text, layers)? {
+        Ok(keyed) => Ok(Ok(keyed)),
+        Err(print) => {
+            let status = print.status();
+            print_remarks(rt, Ok(print.notes));
+            print_remarks(rt, id_fault_place(rt.alloc(), ask, files, ids.name, text, layers));
+            Ok(Err(status))
+        }
+    }
+}
+
+/// Reads the file of a book of ids, if one is named. Where it can't be read, prints the line that says so, and gives the exit status instead.
+fn read_ids<'a>(rt: &HostRuntime, names: &'a [Words]) -> Result<Option<IdsFile<'a>>, u8> {
+    let name = file_name(names, 0);
+    match read_files(rt, names) {
+        Ok(mut texts) => Ok(texts.pop().map(|text| IdsFile { name, text })),
+        Err(refused) => Err(refuse_file(rt, name, refused.fault)),
+    }
+}
+
+/// Answers what the words ask of files, and gives the exit status. The layers have ids of the book where one is given.
+fn answer_files(
+    rt: &HostRuntime,
+    ask: &DeskAsk,
+    files: &[Words],
+    ids: &[Words],
+) -> Result<u8, RunFault> {
     let mut texts = match read_files(rt, files) {
         Ok(texts) => texts,
         Err(refused) => return Ok(refuse_file(rt, file_name(files, refused.file), refused.fault)),
     };
+    let ids = match read_ids(rt, ids) {
+        Ok(ids) => ids,
+        Err(status) => return Ok(status),
+    };
     let layers = take_layers(rt.alloc(), ask, &mut texts)?;
-    let (office, second) = (text_at(&texts, 0), text_at(&texts, 1));
+    let given = layers.as_slice();
+    let Some(ids) = ids else {
+        let layers = ReadLayers { given, keyed: None };
+        return answer_layers(rt, ask, files, &texts, &layers);
+    };
+    match with_keys(rt, ask, files, &ids, given)? {
+        Ok(keyed) => {
+            let keyed = Some(keyed.as_slice());
+            answer_layers(rt, ask, files, &texts, &ReadLayers { given, keyed })
+        }
+        Err(status) => Ok(status),
+    }
+}
+
+/// Answers what the words ask of texts and of layers, and gives the exit status.
+fn answer_layers(
+    rt: &HostRuntime,
+    ask: &DeskAsk,
+    files: &[Words],
+    texts: &[Vec<u8>],
+    layers: &ReadLayers<'_>,
+) -> Result<u8, RunFault> {
+    let (office, second) = (text_at(texts, 0), text_at(texts, 1));
     let is_read = matches!(ask, DeskAsk::WorkOrder(..) | DeskAsk::Why(_));
     let mut writer = Screen::new(rt.alloc(), Port::new(rt.stdout()), is_read);
     let mut notes = Screen::new(rt.alloc(), Port::new(rt.stderr()), true);
-    let layers = layers.as_slice();
     let ended = answer(
         rt.alloc(),
         ask,
         office,
         second,
-        layers,
+        layers.keyed.unwrap_or(layers.given),
         &mut writer,
         &mut notes,
     );
     if let Ok(status) = ended {
-        print_layer_remarks(rt, ask, files, office, layers, status);
+        print_layer_remarks(rt, ask, files, office, second, layers, status);
     }
     match ended {
         Ok(_) | Err(RunFault::WriteFailed) => {
@@ -170,11 +270,24 @@ fn print_message(rt: &HostRuntime, error: &clap::Error) -> u8 {
     status
 }
 
+/// What is asked, the files, and the file of a book of ids, if one is given.
+type Asked = (DeskAsk, Vec<Words>, Vec<Words>);
+
+/// Returns what the words ask for.
+fn asked_by(rt: &HostRuntime, texts: &[&str]) -> Result<Asked, AskFault> {
+    let (ask, files) = ask_of(rt.alloc(), texts)?;
+    let mut ids = Vec::new(rt.alloc());
+    if let Some(name) = ids_file(rt.alloc(), texts)? {
+        ids.push(name)?;
+    }
+    Ok((ask, files, ids))
+}
+
 /// Does what the words ask for, and gives the exit status.
 fn run_words(rt: &HostRuntime, words: &[String]) -> Result<u8, RunFault> {
     let texts = texts_of_words(rt, words)?;
-    match ask_of(rt.alloc(), texts.as_slice()) {
-        Ok((ask, files)) => answer_files(rt, &ask, files.as_slice()),
+    match asked_by(rt, texts.as_slice()) {
+        Ok((ask, files, ids)) => answer_files(rt, &ask, files.as_slice(), ids.as_slice()),
         Err(AskFault::Refused(error)) => Ok(print_message(rt, &error)),
         Err(AskFault::OutOfMemory) => Err(RunFault::OutOfMemory),
     }

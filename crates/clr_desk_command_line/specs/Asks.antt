@@ -15,7 +15,7 @@ use Rattle.clr_desk_command_line.specs.declared.asks.DeskAsk.TheVariants.{Geogra
 use Rattle.clr_desk_command_line.specs.declared.asks.DesignAsk.{DesignAsk}
 use Rattle.clr_desk_command_line.specs.declared.asks.GeographicAsk.{GeographicAsk}
 use Rattle.clr_desk_command_line.specs.declared.asks.GeographicAsk.TheVariants.{Features, Layer, Office, AcceptedOffice, ErrorFeatures}
-use Rattle.clr_desk_command_line.specs.declared.asks.GeographicAsk.TheVariants.{Design, DesignSince, DesignScript}
+use Rattle.clr_desk_command_line.specs.declared.asks.GeographicAsk.TheVariants.{Design, DesignSince, DesignScript, Ids, LayerWithIds}
 use Rattle.clr_desk_command_line.specs.declared.asks.OrderAsk.{OrderAsk}
 use Rattle.clr_desk_command_line.specs.declared.asks.OrderAsk.TheVariants as order
 use Rattle.clr_desk_command_line.specs.declared.asks.TextKind.TheVariants as kind
@@ -78,8 +78,20 @@ merge_ask rows = (Merge (given_names rows), database_and (codes "CERT") rows)
 abbrev pub features_of : List Row → GeographicAsk × List Text
 features_of rows = (Features (given_root rows) (given_names rows) (first_of (codes "crs") rows), database_of rows)
 
+-- the file of a book of ids, if one is given
+abbrev pub ids_files : List Row → List Text
+ids_files rows = option_map_or (λ file. file ∷ []) (first_of (codes "ids") rows) []
+
+-- the layer of a table in a workspace, with ids in place of keys or with its keys
+abbrev pub layer_as : (has_ids : Bool) → Text → Text → GeographicAsk
+layer_as true table workspace = LayerWithIds table workspace
+layer_as false table workspace = Layer table workspace
+
 abbrev pub layer_ask : List Row → GeographicAsk × List Text
-layer_ask rows = (Layer (given_or [] (codes "TABLE") rows) (given_or live_name (codes "in") rows), database_of rows)
+layer_ask rows = (
+  layer_as (is_some (first_of (codes "ids") rows)) (given_or [] (codes "TABLE") rows) (given_or live_name (codes "in") rows),
+  database_of rows ++ ids_files rows,
+)
 
 -- layers, each a word of a table's name, `=` and a file's name ----------------------------------------
 
@@ -166,6 +178,13 @@ abbrev pub design_ask : List Row → Option (GeographicAsk × List Text)
 design_ask rows =
     option_and_then (λ first_key. option_and_then (λ may_remove. design_ask_with rows first_key may_remove) (may_remove_of rows)) (first_key_of rows)
 
+-- what is asked of a book of ids and layers, and its files: that of the office, that of the book, and those of the layers
+abbrev pub ids_ask_from : List Row → ℕ → Option (GeographicAsk × List Text)
+ids_ask_from rows first_key = option_map (λ layers. (Ids layers.0 first_key, database_and (codes "IDS") rows ++ layers.1)) (layers_ask rows)
+
+abbrev pub ids_ask : List Row → Option (GeographicAsk × List Text)
+ids_ask rows = option_and_then (ids_ask_from rows) (first_key_of rows)
+
 -- what is asked in the texts of geographic information systems, and the files; or nothing where a layer, a key or a choice can't be read, or where the
 -- script of a design is asked for that has none
 unfoldable pub geographic_asked : Text → List Row → Option (GeographicAsk × List Text)
@@ -174,7 +193,8 @@ geographic_asked name rows =
     else (if bytes_eq name (codes "layer") then Some (layer_ask rows)
     else (if bytes_eq name (codes "office") then office_ask rows
     else (if bytes_eq name (codes "design") then design_ask rows
-    else None)))
+    else (if bytes_eq name (codes "ids") then ids_ask rows
+    else None))))
 
 -- what a subcommand asks for ------------------------------------------------------------------
 
@@ -207,9 +227,17 @@ ask_by_name name rows =
 abbrev pub ask_of : Option (Text × List Row) → Option (DeskAsk × List Text)
 ask_of found = option_and_then (λ p. ask_by_name p.0 p.1) found
 
+-- a subcommand puts layers into an office
+abbrev pub puts_layers : Text → Bool
+puts_layers name = bytes_eq name (codes "office") || bytes_eq name (codes "design")
+
 -- a subcommand reads layers
 abbrev pub reads_layers : Text → Bool
-reads_layers name = bytes_eq name (codes "office") || bytes_eq name (codes "design")
+reads_layers name = puts_layers name || bytes_eq name (codes "ids")
+
+-- the file of the book of ids by which layers are put into an office, if one is given
+abbrev pub ids_given : Option (Text × List Row) → Option Text
+ids_given found = option_and_then (λ p. if puts_layers p.0 then first_of (codes "ids") p.1 else None) found
 
 -- where a subcommand reads layers, each layer, the first key and the choice can be read, and no script is asked for where there is none
 abbrev pub is_readable : Option (Text × List Row) → Bool

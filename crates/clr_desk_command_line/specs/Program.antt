@@ -58,11 +58,19 @@ system = option (codes "crs")
 abbrev pub geojson : App
 geojson = with_rule (over_members (codes "geojson")) system
 
+-- the option with the file of a book of ids
+abbrev pub ids_file : Rule
+ids_file = option (codes "ids")
+
 abbrev pub layer : App
-layer = with_rule (with_rule (database_command (codes "layer")) (value (codes "TABLE"))) (option (codes "in"))
+layer = with_rule (with_rule (with_rule (database_command (codes "layer")) (value (codes "TABLE"))) (option (codes "in"))) ids_file
+
+-- the tables and the rules, and the layers
+abbrev pub office_of_layers : App
+office_of_layers = with_rule (with_rule (new_app (codes "office")) (value (codes "SCHEMA"))) layers
 
 abbrev pub office : App
-office = with_rule (with_rule (with_rule (with_rule (new_app (codes "office")) (value (codes "SCHEMA"))) layers) round) (flag (codes "accept"))
+office = with_rule (with_rule (with_rule office_of_layers round) (flag (codes "accept"))) ids_file
 
 -- the design's name, and its layers
 abbrev pub design_of_layers : App
@@ -73,7 +81,11 @@ abbrev pub design_from : App
 design_from = with_rule (with_rule design_of_layers (option (codes "base"))) (option (codes "removes"))
 
 abbrev pub design : App
-design = with_rule (with_rule (with_rule design_from (flag (codes "script"))) (option (codes "keys"))) round
+design = with_rule (with_rule (with_rule (with_rule design_from (flag (codes "script"))) (option (codes "keys"))) round) ids_file
+
+-- the book of ids, and the layers whose ids it gets
+abbrev pub ids : App
+ids = with_rule (with_rule (with_rule (database_command (codes "ids")) (value (codes "IDS"))) layers) (option (codes "keys"))
 
 abbrev pub errors : App
 errors = with_rule (with_rule (database_command (codes "errors")) (flag (codes "geojson"))) system
@@ -114,7 +126,7 @@ exporting = with_subcommand (with_subcommand drawing geojson.top) layer.top
 
 -- with the commands that read layers
 abbrev pub importing : App
-importing = with_subcommand (with_subcommand exporting office.top) design.top
+importing = with_subcommand (with_subcommand (with_subcommand exporting office.top) design.top) ids.top
 
 -- the whole program, with the commands about old errors
 abbrev pub program : App

@@ -32,6 +32,8 @@ pub enum GeographicAsk {
     Features(Words, Names, Option<Words>),
     /// The rows of a table in a workspace, as a layer: the table, and the workspace.
     Layer(Words, Words),
+    /// The same layer with ids in place of keys, by the book of ids that is the second text.
+    LayerWithIds(Words, Words),
     /// The office in which LIVE has the rows of layers: the tables of the layers, in the order of their files, and whether coordinates finer than
     /// a millimetre are rounded.
     Office(Names, bool),
@@ -45,6 +47,9 @@ pub enum GeographicAsk {
     DesignSince(DesignAsk),
     /// The script that makes this design.
     DesignScript(DesignAsk),
+    /// The book of ids that is the second text, with the ids of layers too: the tables of the layers, in the order of their files, and the least key
+    /// that a new id gets.
+    Ids(Names, u64),
 }
 
 /// What is asked of orders in which members can be merged.

@@ -6,7 +6,7 @@ ghost use Rattle.clr_desk_command_line.specs.Program.{drawing, importing, orderi
 
 use crate::helps::{
     ABOUT, ACCEPT_PRINTS, CERTIFICATE_PRINTS, CHECK_PRINTS, CLASHES_PRINTS, DESIGN_PRINTS,
-    ERRORS_PRINTS, FORMAT_PRINTS, GEOJSON_PRINTS, KEEP_PRINTS, LAYER_PRINTS, MAP_PRINTS,
+    ERRORS_PRINTS, FORMAT_PRINTS, GEOJSON_PRINTS, IDS_PRINTS, KEEP_PRINTS, LAYER_PRINTS, MAP_PRINTS,
     MENDED_PRINTS, MERGE_PRINTS, OFFICE_PRINTS, ORDER_PRINTS, REPORT_PRINTS, STATUSES, WHY_PRINTS,
     WORDS_PRINTS,
 };
@@ -38,6 +38,15 @@ const ROUND: Argument<'static> = Argument::Flag(
     "round",
     "Round coordinates that are finer than a millimetre",
 );
+
+const IDS: Argument<'static> = Argument::ValueOption(
+    "ids",
+    "IDS",
+    "The file of the ids of rows, which stand in KEY in place of keys",
+);
+
+const FIRST_ID: Argument<'static> =
+    Argument::ValueOption("keys", "N", "The least key for a new id [default: 1]");
 
 const SYSTEM: Argument<'static> = Argument::ValueOption(
     "crs",
@@ -173,6 +182,7 @@ const OVER_NETWORKS: &[Subcommand<'static>] = &[
                 "WORKSPACE",
                 "The workspace whose rows are printed [default: LIVE]",
             ),
+            IDS,
         ],
     },
     Subcommand {
@@ -190,6 +200,7 @@ const OVER_NETWORKS: &[Subcommand<'static>] = &[
                 "accept",
                 "Accept what is broken then, so that it is known in the office",
             ),
+            IDS,
         ],
     },
     Subcommand {
@@ -217,6 +228,18 @@ const OVER_NETWORKS: &[Subcommand<'static>] = &[
                 "The least key for a row without one [default: 1]",
             ),
             ROUND,
+            IDS,
+        ],
+    },
+    Subcommand {
+        name: "ids",
+        about: "Gives the new ids of layers keys of a block, and prints the ids of rows",
+        prints: IDS_PRINTS,
+        arguments: &[
+            DATABASE,
+            Argument::Value("IDS", "The file of the ids of rows, a CSV of TABLE,ID,KEY"),
+            LAYERS,
+            FIRST_ID,
         ],
     },
 ];

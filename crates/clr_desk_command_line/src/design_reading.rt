@@ -38,7 +38,7 @@ fn key_in(text: &str) -> Option<u64>
 }
 
 /// Returns the key from which on rows get keys, which is 1 where none is given, or nothing where what is given is no key.
-fn first_key(matches: &ArgMatches) -> Option<u64>
+pub(crate) fn first_key(matches: &ArgMatches) -> Option<u64>
     ensures { result ≡ first_key_of (rows_of (found_of matches.now)) }
 {
     match matches.get_str("keys") {
@@ -48,7 +48,7 @@ fn first_key(matches: &ArgMatches) -> Option<u64>
 }
 
 /// Returns files with others behind them.
-fn append_files(mut files: Vec<Words>, mut others: Vec<Words>) -> Result<Vec<Words>, AllocError>
+pub(crate) fn append_files(mut files: Vec<Words>, mut others: Vec<Words>) -> Result<Vec<Words>, AllocError>
     ensures { IfOk result (λ all. all.items ≡ files.items ++ others.items) }
 {
     files.append(&mut others)?;

@@ -117,7 +117,8 @@ Example:
 
 pub(crate) const LAYER_PRINTS: &str =
     "It prints the rows of a table as CSV: their keys, their values and, in metres, their shapes as WKT.
-Where there is no such table or workspace it prints nothing, and says so on standard error, with status 1.
+Where there is no such table or workspace it prints nothing, and says so on standard error, with status 1. With --ids
+the column KEY has the id of each row in place of its key.
 
 Example:
   clr_desk layer office.json main > main.csv";
@@ -144,6 +145,17 @@ nothing, and on standard error the line that says so, with status 2 or 1.
 
 Example:
   clr_desk design office.json Bypass main=main.csv --base copied.json > with_bypass.json";
+
+pub(crate) const IDS_PRINTS: &str =
+    "It prints the ids of rows, each with its table and its key, as CSV with the columns TABLE, ID and KEY: those of IDS
+as they are, and behind them the new ids in the column KEY of the layers, each with the least key from N on that no id
+and no row of LIVE has; and nothing else, with status 0. How many ids there are, and how many are new, stands on
+standard error. Write it to another file, and put that in place of IDS, before the layers are read by
+`clr_desk office --ids` or `clr_desk design --ids`, which make no keys. Where a row of LIVE in these tables has no id,
+or IDS or a layer can't be read, it prints nothing, and on standard error the line that says so, with status 1 or 2.
+
+Example:
+  clr_desk ids office.json ids.csv main=main.csv > ids.new && mv ids.new ids.csv";
 
 pub(crate) const ERRORS_PRINTS: &str =
     "It prints each need that is broken in LIVE: whether it is known, the rule, the rows, and the place; with --geojson

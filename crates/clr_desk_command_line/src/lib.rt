@@ -5,6 +5,7 @@
 //!   key and the choice can be read where a subcommand has them, are refused only where there is no memory, but for
 //!   the script of a design that has none. Texts of
 //!   help, usage and refusals are tested only.
+//! - `ids_file` [`ids`]: the file of the book of ids by which layers are read.
 #![tactic(auto)]
 
 mod asks;
@@ -12,6 +13,7 @@ mod command;
 mod complaints;
 mod design_reading;
 mod helps;
+mod ids_reading;
 mod layer_reading;
 mod named_layers;
 mod reading;
@@ -19,4 +21,5 @@ mod values;
 
 pub use asks::{DesignAsk, DeskAsk, GeographicAsk, OrderAsk, TextKind};
 pub use clr_command_line::AskFault;
+pub use ids_reading::ids_file;
 pub use reading::ask_of;

@@ -218,12 +218,14 @@ fn refusal(alloc: Global, matches: &ArgMatches) -> Result<AskFault, AllocError> 
 }
 
 /// Returns what the words of a command line ask for, with the program's name first, and the names of the files that it is asked of: that of the office text,
-/// and then that of the script, the certificate or the office that was copied, and those of the layers, where there are some. The subcommands are `check DB
-/// CERT`, `merge DB CERT NAME..`, `format DB`, `accept DB`, `mended DB`, `errors DB [--geojson] [--crs SYSTEM]`, `why DB [--script FILE] [--certificate
-/// FILE]`, `certificate`, `keep`, `clashes`, `order`, `words`, `map` and `report`, each with `DB [--under ROOT] NAME..`, of which `certificate` and `keep`
-/// take `--in-order` and `order` takes `--certificate`, `geojson DB [--under ROOT] [--crs SYSTEM] NAME..`, `layer DB TABLE [--in WORKSPACE]`, `office SCHEMA
-/// TABLE=FILE.. [--round] [--accept]` and `design DB NAME TABLE=FILE.. [--base COPIED] [--removes CHOICE] [--script] [--keys N] [--round]`. There are none or
-/// more names, and one or more layers. The root, and the workspace of a layer, is LIVE where none is given; N is 1, and CHOICE is `yes`.
+/// and then that of the script, the certificate, the office that was copied or the book of ids, and those of the layers, where there are some; that of
+/// the book of `office` and `design` is given by `ids_file`. The subcommands are `check DB CERT`, `merge DB CERT NAME..`, `format DB`, `accept DB`,
+/// `mended DB`, `errors DB [--geojson] [--crs SYSTEM]`, `why DB [--script FILE] [--certificate FILE]`, `certificate`, `keep`, `clashes`, `order`, `words`,
+/// `map` and `report`, each with `DB [--under ROOT] NAME..`, of which `certificate` and `keep` take `--in-order` and `order` takes `--certificate`,
+/// `geojson DB [--under ROOT] [--crs SYSTEM] NAME..`, `layer DB TABLE [--in WORKSPACE] [--ids IDS]`, `office SCHEMA TABLE=FILE.. [--round] [--accept] [--ids
+/// IDS]`, `design DB NAME TABLE=FILE.. [--base COPIED] [--removes CHOICE] [--script] [--keys N] [--round] [--ids IDS]` and `ids DB IDS TABLE=FILE.. [--keys
+/// N]`. There are none or more names, and one or more layers. The root, and the workspace of a layer, is LIVE where none is given; N is 1, and CHOICE is
+/// `yes`.
 ///
 /// Fails with `Refused` where the words name no subcommand or another count of values than it has, where a layer has no `=`, N is no key, CHOICE is neither
 /// `yes` nor `no`, or both COPIED and a script are asked for, or where they ask for help, as `help`, `--help` and `-h`, or for the version, as `--version`
