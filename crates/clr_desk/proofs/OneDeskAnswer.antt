@@ -1,5 +1,5 @@
 -- What is asked of texts has one answer alone.
-use Rattle.std.proofs.Common.{◌≡◌, ◌∙◌, ◌||◌, ◌∷◌, Bool, true, false, List, ℕ, sym}
+use Rattle.std.proofs.Common.{◌≡◌, ◌∙◌, ◌||◌, [], ◌∷◌, Bool, true, false, List, ℕ, Ok, Err, ap, subst, sym}
 use Rattle.std.specs.List.{list_any}
 use Rattle.std.proofs.lemmas.Bool.{false≢true}
 use Rattle.clr_check.specs.Cases.{case_of}
@@ -15,19 +15,21 @@ use Rattle.clr_desk_layers.specs.Designs.{IsAcceptedOfficePrint, IsDesignPrint, 
 use Rattle.clr_desk_layers.specs.Designs.{IsPrintOfAccepted, IsPrintOfLive, IsPrintOfScript}
 use Rattle.clr_desk_layers.specs.Counted.{IsCounted}
 use Rattle.clr_desk_layers.specs.Since.{IsDesignSincePrint, IsSincePrint}
-use Rattle.clr_desk_errors.specs.Accepting.{IsAcceptPrint}
+use Rattle.clr_desk_errors.specs.Accepting.{IsAcceptPrint, IsPrintoutOfDraft}
 use Rattle.clr_desk_errors.specs.Mended.{IsMendedPrint}
 use Rattle.clr_desk_prints.specs.Members.{set_asked}
 use Rattle.clr_desk_prints.specs.NameHints.{IsHinted}
-use Rattle.clr_desk_prints.specs.Printing.{PrintoutOrFault}
+use Rattle.clr_desk_prints.specs.Printing.{IsPrintoutIn, IsPrintoutOfCase, PrintoutOrFault}
 use Rattle.clr_desk.specs.Answers.{IsDeskAnswerIf, IsDeskAnswerTo, IsDeskAnswerWithin, is_too_long_layer}
 use Rattle.clr_desk.specs.Certificates.{IsCertificatePrint}
 use Rattle.clr_desk.specs.Checks.{IsCheckPrint}
 use Rattle.clr_desk.specs.Choices.{IsChoicePrint}
 use Rattle.clr_desk.specs.Formats.{IsFormatPrint}
-use Rattle.clr_desk.specs.Geographic.{IsGeographicAnswer, design_options, options_of}
+use Rattle.clr_cut_texts.specs.Marks.{is_cut_text}
+use Rattle.clr_desk.specs.Geographic.{IsGeographicAnswer, IsPrintIf, design_options, may_remove_over, options_of}
 use Rattle.clr_desk.specs.Merges.{IsHintedMerge, IsMergePrintout}
-use Rattle.clr_desk.specs.OneAnswer.{IsOnePrint, OneDeskAnswerLaw, is_whole, is_whole_layer}
+use Rattle.clr_desk.specs.CutMarks.{IsMarkedAlike, with_mark}
+use Rattle.clr_desk.specs.OneAnswer.{FoundMemory, IsOnePrint, OneDeskAnswerLaw, is_whole, is_whole_layer}
 use Rattle.clr_desk.proofs.OneAnswer.{one_accept_print, one_accepted, one_mended_print}
 use Rattle.clr_desk.proofs.OneAnswer.{one_check_print, one_counted, one_design_script, one_format_print, one_live, one_merge_print, one_of_layers}
 use Rattle.clr_desk.proofs.OneAnswer.{one_over, one_since}
@@ -35,27 +37,52 @@ use Rattle.clr_desk.proofs.OneAnswer.{one_plan_print}
 use Rattle.clr_desk.proofs.OneChoice.{one_choice_print}
 use Rattle.clr_desk.proofs.OnePrint.{one_hinted, one_in, one_of_case, one_of_draft}
 
+-- a print that is marked has the status of the one that isn't
+found_bare : (is_of_cut : Bool) (bare print : PrintoutOrFault) → print ≡ with_mark is_of_cut bare → FoundMemory print → FoundMemory bare
+found_bare true (Ok p) print is found = subst FoundMemory is found
+found_bare true (Err e) print is found = tt
+found_bare false bare print is found = subst FoundMemory is found
+
+-- where one text is printed, one is printed with its mark
+one_marked : (P : PrintoutOrFault → Type 0) (text : List ℕ) → IsOnePrint P → IsOnePrint (IsMarkedAlike P text)
+one_marked P text one print other (bare, made, is) (bare_too, made_too, is_too) found found_too =
+    let cut = is_cut_text text in
+    is ∙ ap (with_mark cut) (one bare bare_too made made_too (found_bare cut bare print is found) (found_bare cut bare_too other is_too found_too)) ∙ sym is_too
+
+-- where a text is a cut there is one refusal
+one_unless : (is_cut : Bool) (P : PrintoutOrFault → Type 0) (refused : PrintoutOrFault) → IsOnePrint P
+    → IsOnePrint (λ print. IsPrintIf is_cut (print ≡ refused) (P print))
+one_unless true P refused one print other a b found found_too = a ∙ sym b
+one_unless false P refused one print other a b found found_too = one print other a b found found_too
+
 one_geographic : (asked : GeographicAsk) (office second : List ℕ) (layers : List GivenLayer) → is_whole_layer asked ≡ true
     → IsOnePrint (IsGeographicAnswer asked office second layers)
 one_geographic (geographic.Features root names system) office second layers whole = absurd (false≢true whole)
 one_geographic (geographic.Layer table workspace) office second layers whole = absurd (false≢true whole)
 one_geographic (geographic.ErrorFeatures system) office second layers whole = absurd (false≢true whole)
+one_geographic (geographic.Cut tables rounded) office second layers whole = absurd (false≢true whole)
 one_geographic (geographic.AcceptedOffice tables rounded) office second layers whole =
-    one_of_draft (IsAcceptedOfficePrint (options_of 1 rounded) layers)
-    (λ o. one_of_layers (options_of 1 rounded) layers IsPrintOfAccepted one_accepted o o.live o.live) (draft_in office)
+    one_unless (is_cut_text office) (IsPrintoutOfDraft (IsAcceptedOfficePrint (options_of 1 rounded) layers) (draft_in office)) _
+    (one_of_draft (IsAcceptedOfficePrint (options_of 1 rounded) layers)
+    (λ o. one_of_layers (options_of 1 rounded) layers IsPrintOfAccepted one_accepted o o.live o.live) (draft_in office))
 one_geographic (geographic.Office tables rounded) office second layers whole =
-    one_in (IsOfficePrint (options_of 1 rounded) layers) (λ o. one_of_layers (options_of 1 rounded) layers IsPrintOfLive one_live o o.live o.live)
-    (opened_in office)
+    one_unless (is_cut_text office) (IsPrintoutIn (IsOfficePrint (options_of 1 rounded) layers) (opened_in office)) _
+    (one_in (IsOfficePrint (options_of 1 rounded) layers) (λ o. one_of_layers (options_of 1 rounded) layers IsPrintOfLive one_live o o.live o.live)
+    (opened_in office))
 one_geographic (geographic.Design design) office second layers whole =
-    one_in (IsDesignPrint design.name (design_options design) design.may_remove layers)
-    (λ o. one_over design.name (design_options design) design.may_remove layers o o.live o.live) (opened_in office)
+    let may_remove = may_remove_over design office [] in
+    one_marked (IsPrintoutIn (IsDesignPrint design.name (design_options design) may_remove layers) (opened_in office)) office
+    (one_in (IsDesignPrint design.name (design_options design) may_remove layers)
+    (λ o. one_over design.name (design_options design) may_remove layers o o.live o.live) (opened_in office))
 one_geographic (geographic.DesignSince design) office copied layers whole =
-    one_in (IsDesignSincePrint copied design.name (design_options design) design.may_remove layers)
-    (λ o. one_of_draft (IsSincePrint design.name (design_options design) design.may_remove layers o)
-    (one_since design.name (design_options design) design.may_remove layers o) (draft_in copied))
-    (opened_in office)
+    let may_remove = may_remove_over design office copied in
+    one_marked (IsPrintoutIn (IsDesignSincePrint copied design.name (design_options design) may_remove layers) (opened_in office)) office
+    (one_in (IsDesignSincePrint copied design.name (design_options design) may_remove layers)
+    (λ o. one_of_draft (IsSincePrint design.name (design_options design) may_remove layers o)
+    (one_since design.name (design_options design) may_remove layers o) (draft_in copied))
+    (opened_in office))
 one_geographic (geographic.DesignScript design) office second layers whole =
-    let may_remove = design.may_remove in
+    let may_remove = may_remove_over design office [] in
     one_in (IsDesignScriptPrint design.name (design_options design) may_remove layers)
     (λ o. one_of_layers (design_options design) layers (IsCounted may_remove o.live (IsPrintOfScript design.name))
     (one_counted may_remove o.live (IsPrintOfScript design.name) (one_design_script design.name)) o o.live o.live)
@@ -68,10 +95,12 @@ one_within (ask.Certificate root names) office second layers whole =
     (λ o. one_hinted (IsCertificatePrint root names) (root ∷ names) o (one_plan_print o (set_asked o root names))) (opened_in office)
 one_within ask.Check office certificate layers whole = one_of_case IsCheckPrint one_check_print (case_of office certificate)
 one_within (ask.Merge names) office certificate layers whole =
-    one_of_case (IsHintedMerge names)
-    (λ o c. one_hinted (λ read. IsMergePrintout names read c) (c.root ∷ names) o (one_merge_print o c names)) (case_of office certificate)
+    one_marked (IsPrintoutOfCase (IsHintedMerge names) (case_of office certificate)) office
+    (one_of_case (IsHintedMerge names)
+    (λ o c. one_hinted (λ read. IsMergePrintout names read c) (c.root ∷ names) o (one_merge_print o c names)) (case_of office certificate))
 one_within ask.Format office second layers whole = one_in IsFormatPrint one_format_print (opened_in office)
-one_within ask.Accept office second layers whole = one_of_draft IsAcceptPrint one_accept_print (draft_in office)
+one_within ask.Accept office second layers whole =
+    one_marked (IsPrintoutOfDraft IsAcceptPrint (draft_in office)) office (one_of_draft IsAcceptPrint one_accept_print (draft_in office))
 one_within ask.Mended office second layers whole = one_of_draft (IsMendedPrint (known_in office)) (one_mended_print (known_in office)) (draft_in office)
 one_within ask.Errors office second layers whole = absurd (false≢true whole)
 one_within (ask.Keep root names) office second layers whole =
@@ -84,6 +113,7 @@ one_within (ask.WorkOrder root names) office second layers whole = absurd (false
 one_within (ask.Map root names) office second layers whole = absurd (false≢true whole)
 one_within (ask.Report root names) office second layers whole = absurd (false≢true whole)
 one_within (ask.Geographic asked) office second layers whole = one_geographic asked office second layers whole
+one_within (ask.Database asked) office second layers whole = absurd (false≢true whole)
 
 one_if : (too_long : Bool) (asked : DeskAsk) (office second : List ℕ) (layers : List GivenLayer) → is_whole asked ≡ true
     → IsOnePrint (IsDeskAnswerIf too_long asked office second layers)

@@ -14,6 +14,8 @@ use Rattle.clr_desk_command_line.specs.declared.asks.DeskAsk.TheVariants as ask
 use Rattle.clr_desk.specs.Certificates.{IsCertificatePrint}
 use Rattle.clr_desk.specs.Checks.{IsCheckPrint}
 use Rattle.clr_desk.specs.Choices.{IsChoicePrint}
+use Rattle.clr_desk.specs.CutMarks.{IsMarkedAlike}
+use Rattle.clr_desk.specs.Databases.{IsDatabaseAnswer}
 use Rattle.clr_desk_clashes.specs.Clashes.{IsClashesPrint}
 use Rattle.clr_desk.specs.Formats.{IsFormatPrint}
 use Rattle.clr_desk.specs.Geographic.{IsGeographicAnswer}
@@ -34,9 +36,10 @@ abbrev pub IsDeskAnswerWithin : DeskAsk → List ℕ → List ℕ → List Given
 IsDeskAnswerWithin (ask.Certificate root names) office second layers print =
     IsPrintoutIn (IsHinted (IsCertificatePrint root names) (root ∷ names)) (opened_in office) print
 IsDeskAnswerWithin ask.Check office certificate layers print = IsPrintoutOfCase IsCheckPrint (case_of office certificate) print
-IsDeskAnswerWithin (ask.Merge names) office certificate layers print = IsPrintoutOfCase (IsHintedMerge names) (case_of office certificate) print
+IsDeskAnswerWithin (ask.Merge names) office certificate layers print =
+    IsMarkedAlike (IsPrintoutOfCase (IsHintedMerge names) (case_of office certificate)) office print
 IsDeskAnswerWithin ask.Format office second layers print = IsPrintoutIn IsFormatPrint (opened_in office) print
-IsDeskAnswerWithin ask.Accept office second layers print = IsPrintoutOfDraft IsAcceptPrint (draft_in office) print
+IsDeskAnswerWithin ask.Accept office second layers print = IsMarkedAlike (IsPrintoutOfDraft IsAcceptPrint (draft_in office)) office print
 IsDeskAnswerWithin ask.Mended office second layers print = IsPrintoutOfDraft (IsMendedPrint (known_in office)) (draft_in office) print
 IsDeskAnswerWithin ask.Errors office second layers print = IsPrintoutOfDraft (IsErrorsPrint (known_in office)) (draft_in office) print
 IsDeskAnswerWithin (ask.Keep root names) office second layers print = IsPrintoutIn (IsHinted (IsChoicePrint root names) (root ∷ names)) (opened_in office) print
@@ -52,6 +55,7 @@ IsDeskAnswerWithin (ask.Report root names) office second layers print =
 IsDeskAnswerWithin (ask.WorkOrder root names) office second layers print =
     IsPrintoutIn (IsHinted (IsOrderPrint root names) (root ∷ names)) (opened_in office) print
 IsDeskAnswerWithin (ask.Geographic asked) office second layers print = IsGeographicAnswer asked office second layers print
+IsDeskAnswerWithin (ask.Database asked) office second layers print = IsDatabaseAnswer asked office second print
 
 -- what is answered, where it is given whether a text is too long
 abbrev pub IsDeskAnswerIf : Bool → DeskAsk → List ℕ → List ℕ → List GivenLayer → PrintoutOrFault → Type 0

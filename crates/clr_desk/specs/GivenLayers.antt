@@ -14,6 +14,7 @@ tables_of (ask.Geographic (geographic.AcceptedOffice tables rounded)) = tables
 tables_of (ask.Geographic (geographic.Design design)) = design.tables
 tables_of (ask.Geographic (geographic.DesignSince design)) = design.tables
 tables_of (ask.Geographic (geographic.DesignScript design)) = design.tables
+tables_of (ask.Geographic (geographic.Cut tables rounded)) = tables
 tables_of _ = []
 
 -- how many texts stand before those of the layers: that of the office, and that of the office from which layers were copied where one is given

@@ -17,6 +17,7 @@ use Rattle.clr_desk.specs.GivenLayers.{office_count}
 abbrev pub is_rounded : DeskAsk → Bool
 is_rounded (ask.Geographic (geographic.Office tables rounded)) = rounded
 is_rounded (ask.Geographic (geographic.AcceptedOffice tables rounded)) = rounded
+is_rounded (ask.Geographic (geographic.Cut tables rounded)) = rounded
 is_rounded (ask.Geographic (geographic.Design design)) = design.is_rounded
 is_rounded (ask.Geographic (geographic.DesignSince design)) = design.is_rounded
 is_rounded (ask.Geographic (geographic.DesignScript design)) = design.is_rounded

@@ -2,6 +2,8 @@ pub mod Answers
 pub mod Certificates
 pub mod Checks
 pub mod Choices
+pub mod CutMarks
+pub mod Databases
 pub mod FaultPlaces
 pub mod Formats
 pub mod Geographic

@@ -9,11 +9,12 @@ use Rattle.clr_desk_prints.specs.Printing.{PrintoutOrFault}
 use Rattle.clr_desk.specs.Answers.{IsDeskAnswerTo}
 
 -- what is asked has an answer that its definition tells whole; of clashes, orders, errors, faults, sentences, pictures, pages, features and layers it
--- leaves something open
+-- leaves something open, and of databases nothing is said here
 abbrev pub is_whole_layer : GeographicAsk → Bool
 is_whole_layer (geographic.Features root names system) = false
 is_whole_layer (geographic.Layer table workspace) = false
 is_whole_layer (geographic.ErrorFeatures system) = false
+is_whole_layer (geographic.Cut tables rounded) = false
 is_whole_layer _ = true
 
 abbrev pub is_whole : DeskAsk → Bool
@@ -25,6 +26,7 @@ is_whole (ask.WorkOrder root names) = false
 is_whole (ask.Map root names) = false
 is_whole (ask.Report root names) = false
 is_whole (ask.Geographic asked) = is_whole_layer asked
+is_whole (ask.Database asked) = false
 is_whole _ = true
 
 -- no plan, verdict or merge found no memory: the status isn't the one that says so

@@ -10,6 +10,8 @@ ghost use Rattle.clr_desk_prints.specs.Printing.{IsMadePrintout};
 use crate::certificates::answer_certificate;
 use crate::checks::answer_check;
 use crate::choices::answer_keep;
+use crate::cut_marks::marked;
+use crate::databases::answer_database;
 use crate::formats::answer_format;
 use crate::geographic::answer_geographic;
 use crate::in_order::answer_in_order;
@@ -40,9 +42,12 @@ fn answer_texts(
             answer_certificate(alloc, office, root.as_str(), names.as_slice())
         }
         DeskAsk::Check => answer_check(alloc, office, second),
-        DeskAsk::Merge(names) => answer_merge(alloc, office, second, names.as_slice()),
+        DeskAsk::Merge(names) => {
+            let answer = answer_merge(alloc, office, second, names.as_slice());
+            marked(alloc, office, answer)
+        }
         DeskAsk::Format => answer_format(alloc, office),
-        DeskAsk::Accept => answer_accept(alloc, office),
+        DeskAsk::Accept => marked(alloc, office, answer_accept(alloc, office)),
         DeskAsk::Mended => answer_mended(alloc, office),
         DeskAsk::Errors => answer_errors(alloc, office),
         DeskAsk::Keep(root, names) => answer_keep(alloc, office, root.as_str(), names.as_slice()),
@@ -61,6 +66,7 @@ fn answer_texts(
         ),
         DeskAsk::Why(kind) => answer_why(alloc, kind, office, second),
         DeskAsk::Geographic(ask) => answer_geographic(alloc, ask, office, second, layers),
+        DeskAsk::Database(ask) => answer_database(alloc, ask, office, second),
         DeskAsk::Map(root, names) => answer_map(alloc, office, root.as_str(), names.as_slice()),
         DeskAsk::Report(root, names) => answer_report(
             alloc,

@@ -14,7 +14,9 @@ fn tables_of(ask: &DeskAsk) -> &[Words]
 {
     match ask {
         DeskAsk::Geographic(
-            GeographicAsk::Office(tables, _) | GeographicAsk::AcceptedOffice(tables, _),
+            GeographicAsk::Office(tables, _)
+            | GeographicAsk::AcceptedOffice(tables, _)
+            | GeographicAsk::Cut(tables, _),
         ) => tables.as_slice(),
         DeskAsk::Geographic(
             GeographicAsk::Design(design)

@@ -20,7 +20,9 @@ fn is_rounded(ask: &DeskAsk) -> bool
 {
     match ask {
         DeskAsk::Geographic(
-            GeographicAsk::Office(_, rounded) | GeographicAsk::AcceptedOffice(_, rounded),
+            GeographicAsk::Office(_, rounded)
+            | GeographicAsk::AcceptedOffice(_, rounded)
+            | GeographicAsk::Cut(_, rounded),
         ) => *rounded,
         DeskAsk::Geographic(
             GeographicAsk::Design(design)

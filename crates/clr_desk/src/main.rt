@@ -26,13 +26,16 @@
 //!   `geojson` the features of a plan, with the plan's status, and of `layer` the layer of a table; of `office` the text of the office whose LIVE
 //!   has the rows of layers, and of `design` that of the office with one more design that has them, or the script that makes it, or why there is
 //!   none (`IsGeographicAnswer`); of `accept` the text of the same office with just its broken needs as known, of `mended` the known needs that
-//!   aren't broken any more, and of `errors` the broken needs of LIVE, whether known or not, with status 0 only where all are known.
+//!   aren't broken any more, and of `errors` the broken needs of LIVE, whether known or not, with status 0 only where all are known; of `edits` the edits
+//!   that take LIVE of one office to LIVE of another, as CSV or as a transaction in SQL, and of `propose` SQL that proposes a cut (`IsDatabaseAnswer`).
 //! - `fault_place` [`place`]: the file, the line and the column of the fault of the office text or the certificate, and nothing of any other.
 //! - `take_layers` [`layers`, `offices`]: each table that is asked for with the text in its place.
 //! - `faults_of_layers` [`faults`]: all that is wrong with layers, each fault with its file, line and column (`AreLayerFaults`). `degrees_of_layers`
 //!   [`degrees`]: the layers whose coordinates look like degrees.
 //! - `texts_have_one_answer` [`answer`]: memory aside, what is asked has one answer alone, but for what the definitions of clashes, of orders, of faults,
 //!   and of sentences, pictures, pages, features, layers and errors leave open.
+//! - `answer_reach`, of `reach`: what goes to both sinks is what `IsReachAnswer` of `clr_desk_cuts` says. It is written as the table is read, so the
+//!   two points below don't speak of it.
 //! - [`silent`]: with status 3 nothing went to the sink of the text.
 //! - [`keeps`]: with any fault but WriteFailed nothing was written. After a failed write it isn't known
 //!   how much was; where the sink of the notes failed, nothing went to that of the text (`IsTorn`).
@@ -42,6 +45,8 @@ mod answers;
 mod certificates;
 mod checks;
 mod choices;
+mod cut_marks;
+mod databases;
 mod fault_places;
 mod formats;
 mod geographic;
@@ -59,7 +64,8 @@ use crate::answers::answer;
 use crate::fault_places::fault_place;
 use crate::given_layers::take_layers;
 use crate::layer_faults::{degrees_of_layers, faults_of_layers};
-use clr_desk_command_line::{AskFault, DeskAsk, ask_of};
+use clr_desk_command_line::{AskFault, Asked, DeskAsk, ReachAsk, ask_of};
+use clr_desk_cuts::{Aim, ReachOptions, answer_reach};
 use clr_desk_layers::GivenLayer;
 use clr_office::{Port, RunFault, Sink, Words};
 use clr_process_io::{
@@ -128,6 +134,53 @@ fn print_layer_remarks(
     print_remarks(rt, degrees_of_layers(rt.alloc(), ask, files, layers));
 }
 
+/// Gives the exit status of an answer whose text and notes went to these, with the line of its fault and its place.
+fn end_answer(
+    rt: &HostRuntime,
+    ended: Result<u8, RunFault>,
+    is_closed: bool,
+    files: &[Words],
+    office: &[u8],
+    second: &[u8],
+) -> u8 {
+    match ended {
+        Ok(_) | Err(RunFault::WriteFailed) => end_run(rt, ended, is_closed),
+        Err(fault) => refuse_texts(rt, fault, files, office, second),
+    }
+}
+
+/// Holds a table, read from standard input, against the cut of a file, and gives the exit status.
+fn answer_stream(rt: &HostRuntime, ask: &ReachAsk, files: &[Words]) -> Result<u8, RunFault> {
+    let texts = match read_files(rt, files) {
+        Ok(texts) => texts,
+        Err(refused) => return Ok(refuse_file(rt, file_name(files, refused.file), refused.fault)),
+    };
+    let aim = if ask.is_for_groups {
+        Aim::Groups
+    } else {
+        Aim::Plans
+    };
+    let options = ReachOptions {
+        aim,
+        rounded: ask.is_rounded,
+    };
+    let office = text_at(&texts, 0);
+    let mut writer = Port::new(rt.stdout());
+    let mut notes = Screen::new(rt.alloc(), Port::new(rt.stderr()), true);
+    let ended = answer_reach(
+        rt.alloc(),
+        options,
+        office,
+        ask.table.as_str(),
+        ask.names.as_slice(),
+        rt.stdin(),
+        &mut writer,
+        &mut notes,
+    );
+    let is_closed = writer.is_closed() || notes.below().is_closed();
+    Ok(end_answer(rt, ended, is_closed, files, office, &[]))
+}
+
 /// Answers what the words ask of files, and gives the exit status.
 fn answer_files(rt: &HostRuntime, ask: &DeskAsk, files: &[Words]) -> Result<u8, RunFault> {
     let mut texts = match read_files(rt, files) {
@@ -152,13 +205,8 @@ fn answer_files(rt: &HostRuntime, ask: &DeskAsk, files: &[Words]) -> Result<u8, 
     if let Ok(status) = ended {
         print_layer_remarks(rt, ask, files, office, layers, status);
     }
-    match ended {
-        Ok(_) | Err(RunFault::WriteFailed) => {
-            let is_closed = writer.below().is_closed() || notes.below().is_closed();
-            Ok(end_run(rt, ended, is_closed))
-        }
-        Err(fault) => Ok(refuse_texts(rt, fault, files, office, second)),
-    }
+    let is_closed = writer.below().is_closed() || notes.below().is_closed();
+    Ok(end_answer(rt, ended, is_closed, files, office, second))
 }
 
 /// Prints what the parser of the command line says, and behind a version from what the program was built; and gives the exit status.
@@ -174,7 +222,8 @@ fn print_message(rt: &HostRuntime, error: &clap::Error) -> u8 {
 fn run_words(rt: &HostRuntime, words: &[String]) -> Result<u8, RunFault> {
     let texts = texts_of_words(rt, words)?;
     match ask_of(rt.alloc(), texts.as_slice()) {
-        Ok((ask, files)) => answer_files(rt, &ask, files.as_slice()),
+        Ok((Asked::OfTexts(ask), files)) => answer_files(rt, &ask, files.as_slice()),
+        Ok((Asked::Reach(ask), files)) => answer_stream(rt, &ask, files.as_slice()),
         Err(AskFault::Refused(error)) => Ok(print_message(rt, &error)),
         Err(AskFault::OutOfMemory) => Err(RunFault::OutOfMemory),
     }

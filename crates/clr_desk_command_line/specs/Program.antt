@@ -84,6 +84,27 @@ accept = database_command (codes "accept")
 abbrev pub mended : App
 mended = database_command (codes "mended")
 
+-- what `reach` reads: a cut, a table and the designs
+abbrev pub reach_of_table : App
+reach_of_table = with_rule (with_rule (with_rule (new_app (codes "reach")) (value (codes "CUT"))) (value (codes "TABLE"))) name_arguments
+
+abbrev pub reach : App
+reach = with_rule (with_rule reach_of_table (flag (codes "groups"))) round
+
+-- the options of SQL
+abbrev pub with_database : App → App
+with_database app = with_rule (with_rule (with_rule app (option (codes "sql"))) system) (option (codes "origin"))
+
+-- layers that are put into a cut
+abbrev pub cut : App
+cut = with_rule (with_rule (with_rule (new_app (codes "cut")) (value (codes "OFFICE"))) layers) round
+
+abbrev pub propose : App
+propose = with_database (with_rule (new_app (codes "propose")) (value (codes "OFFICE")))
+
+abbrev pub edits : App
+edits = with_database (with_rule (with_rule (new_app (codes "edits")) (value (codes "OLD"))) (value (codes "NEW")))
+
 -- the program with the commands that print a certificate or judge one
 abbrev pub certifying : App
 certifying = with_subcommand (with_subcommand (demanding (codes "clr_desk")) certificate.top) check.top
@@ -116,6 +137,14 @@ exporting = with_subcommand (with_subcommand drawing geojson.top) layer.top
 abbrev pub importing : App
 importing = with_subcommand (with_subcommand exporting office.top) design.top
 
--- the whole program, with the commands about old errors
+-- with the commands about old errors
+abbrev pub mending : App
+mending = with_subcommand (with_subcommand (with_subcommand importing errors.top) accept.top) mended.top
+
+-- with the commands about cuts
+abbrev pub cutting : App
+cutting = with_subcommand (with_subcommand (with_subcommand mending reach.top) propose.top) cut.top
+
+-- the whole program, with the command that leads back into a database
 abbrev pub program : App
-program = with_subcommand (with_subcommand (with_subcommand importing errors.top) accept.top) mended.top
+program = with_subcommand cutting edits.top

@@ -1,6 +1,7 @@
 //! What can be asked.
 
-use clr_rows::{Names, Words};
+use clr_rows::{Names, Place, Words};
+use clr_sql::Dialect;
 
 /// A kind of text that the program reads.
 #[derive(Clone, Copy, Debug, Drop)]
@@ -45,6 +46,9 @@ pub enum GeographicAsk {
     DesignSince(DesignAsk),
     /// The script that makes this design.
     DesignScript(DesignAsk),
+    /// The cut of a network into which the rows of layers are put: the tables of the layers, in the order of their files, and whether coordinates finer
+    /// than a millimetre are rounded.
+    Cut(Names, bool),
 }
 
 /// What is asked of orders in which members can be merged.
@@ -96,4 +100,47 @@ pub enum DeskAsk {
     Report(Words, Names),
     /// What is asked in the texts of geographic information systems.
     Geographic(GeographicAsk),
+    /// What is asked for a database.
+    Database(DatabaseAsk),
+}
+
+/// SQL for a database.
+#[derive(Debug, Drop)]
+pub struct SqlAsk {
+    pub dialect: Dialect,
+    /// The name of the reference system of its coordinates, as it was given.
+    pub system: Option<Words>,
+    /// Where the place (0, 0) of the office is in that system, in millimetres.
+    pub origin: Place,
+}
+
+/// What is asked for a database.
+#[derive(Debug, Drop)]
+pub enum DatabaseAsk {
+    /// The edits that take LIVE of an office text to LIVE of a second one, as CSV.
+    Edits,
+    /// The same as SQL.
+    SqlEdits(SqlAsk),
+    /// SQL that proposes a cut for the designs of an office text.
+    Proposal(SqlAsk),
+}
+
+/// A table that is held against a cut, as it is read from a stream.
+#[derive(Debug, Drop)]
+pub struct ReachAsk {
+    pub table: Words,
+    /// The designs of the cut, or none for all.
+    pub names: Names,
+    /// Whether the cut is to have what ties designs to one another, too.
+    pub is_for_groups: bool,
+    /// Whether coordinates finer than a millimetre are rounded.
+    pub is_rounded: bool,
+}
+
+/// What is asked: of texts alone, or of an office text and a stream.
+#[derive(Debug, Drop)]
+pub enum Asked {
+    OfTexts(DeskAsk),
+    /// Which rows of a table, that is read from a stream, a cut lacks; the office text is the cut.
+    Reach(ReachAsk),
 }

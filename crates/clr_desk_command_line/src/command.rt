@@ -2,13 +2,13 @@
 
 ghost use Rattle.std.specs.Prelude.{◌≡◌, IfOk};
 ghost use Rattle.clap.specs.Words.{app_of};
-ghost use Rattle.clr_desk_command_line.specs.Program.{drawing, importing, ordering, program};
+ghost use Rattle.clr_desk_command_line.specs.Program.{drawing, importing, mending, ordering, program};
 
 use crate::helps::{
-    ABOUT, ACCEPT_PRINTS, CERTIFICATE_PRINTS, CHECK_PRINTS, CLASHES_PRINTS, DESIGN_PRINTS,
-    ERRORS_PRINTS, FORMAT_PRINTS, GEOJSON_PRINTS, KEEP_PRINTS, LAYER_PRINTS, MAP_PRINTS,
-    MENDED_PRINTS, MERGE_PRINTS, OFFICE_PRINTS, ORDER_PRINTS, REPORT_PRINTS, STATUSES, WHY_PRINTS,
-    WORDS_PRINTS,
+    ABOUT, ACCEPT_PRINTS, CERTIFICATE_PRINTS, CHECK_PRINTS, CLASHES_PRINTS, CUT_PRINTS,
+    DESIGN_PRINTS,     EDITS_PRINTS, ERRORS_PRINTS, FORMAT_PRINTS, GEOJSON_PRINTS, KEEP_PRINTS, LAYER_PRINTS,
+    MAP_PRINTS, MENDED_PRINTS, MERGE_PRINTS, OFFICE_PRINTS, ORDER_PRINTS, PROPOSE_PRINTS,
+    REACH_PRINTS, REPORT_PRINTS, STATUSES, WHY_PRINTS, WORDS_PRINTS,
 };
 use clap::Command;
 use clr_command_line::{
@@ -43,6 +43,12 @@ const SYSTEM: Argument<'static> = Argument::ValueOption(
     "crs",
     "EPSG:N",
     "The reference system of the coordinates",
+);
+
+const ORIGIN: Argument<'static> = Argument::ValueOption(
+    "origin",
+    "X,Y",
+    "Where the place (0, 0) of the office is, in whole metres [default: 0,0]",
 );
 
 /// The arguments of a subcommand over an office text and designs of a root.
@@ -221,7 +227,7 @@ const OVER_NETWORKS: &[Subcommand<'static>] = &[
     },
 ];
 
-/// The last subcommands, which are about errors.
+/// The subcommands that come after those, which are about errors.
 const OVER_ERRORS: &[Subcommand<'static>] = &[
     Subcommand {
         name: "errors",
@@ -244,6 +250,84 @@ const OVER_ERRORS: &[Subcommand<'static>] = &[
         about: "Lists what was known to be broken and isn't any more",
         prints: MENDED_PRINTS,
         arguments: &[DATABASE],
+    },
+];
+
+/// The last subcommands, which are about cuts and the database that they are of.
+const OVER_CUTS: &[Subcommand<'static>] = &[
+    Subcommand {
+        name: "reach",
+        about: "Prints the rows of a table that a cut of the network lacks",
+        prints: REACH_PRINTS,
+        arguments: &[
+            Argument::Value(
+                "CUT",
+                "The file of an office text with the designs and some of the rows, which is JSON",
+            ),
+            Argument::Value(
+                "TABLE",
+                "The table, whose rows are read from standard input",
+            ),
+            DESIGNS,
+            Argument::Flag(
+                "groups",
+                "Print also what ties designs to one another, for groups of designs",
+            ),
+            ROUND,
+        ],
+    },
+    Subcommand {
+        name: "propose",
+        about: "Prints SQL that proposes a cut of the network around designs",
+        prints: PROPOSE_PRINTS,
+        arguments: &[
+            Argument::Value(
+                "OFFICE",
+                "The file of an office text with the tables, the rules and the designs, which is JSON",
+            ),
+            Argument::ValueOption(
+                "sql",
+                "DIALECT",
+                "The database, postgis or spatialite [default: postgis]",
+            ),
+            SYSTEM,
+            ORIGIN,
+        ],
+    },
+    Subcommand {
+        name: "cut",
+        about: "Puts the rows of layers into a cut of the network, and prints the cut",
+        prints: CUT_PRINTS,
+        arguments: &[
+            Argument::Value(
+                "OFFICE",
+                "The file of an office text with the designs, which is JSON, or of a cut",
+            ),
+            LAYERS,
+            ROUND,
+        ],
+    },
+    Subcommand {
+        name: "edits",
+        about: "Prints the edits that take one office's rows to another's, each with the row as it was",
+        prints: EDITS_PRINTS,
+        arguments: &[
+            Argument::Value(
+                "OLD",
+                "The file of the office text that was planned over, which is JSON",
+            ),
+            Argument::Value(
+                "NEW",
+                "The file of the office text that the merges left, which is JSON",
+            ),
+            Argument::ValueOption(
+                "sql",
+                "DIALECT",
+                "Print SQL for this database, postgis or spatialite",
+            ),
+            SYSTEM,
+            ORIGIN,
+        ],
     },
 ];
 
@@ -270,10 +354,18 @@ fn network_command<'a>(alloc: Global) -> Result<Command<'a>, AllocError>
     with_subcommands(alloc, command, OVER_NETWORKS)
 }
 
-/// Returns the whole command line. It is described by four tables: what a proof of one takes grows with the square of its subcommands.
-pub fn whole_command<'a>(alloc: Global) -> Result<Command<'a>, AllocError>
-    ensures { IfOk result (λ c. app_of c ≡ program) }
+/// Returns the command line with these subcommands, and those about errors.
+fn error_command<'a>(alloc: Global) -> Result<Command<'a>, AllocError>
+    ensures { IfOk result (λ c. app_of c ≡ mending) }
 {
     let command = network_command(alloc)?;
     with_subcommands(alloc, command, OVER_ERRORS)
+}
+
+/// Returns the whole command line. It is described by five tables: what a proof of one takes grows with the square of its subcommands.
+pub fn whole_command<'a>(alloc: Global) -> Result<Command<'a>, AllocError>
+    ensures { IfOk result (λ c. app_of c ≡ program) }
+{
+    let command = error_command(alloc)?;
+    with_subcommands(alloc, command, OVER_CUTS)
 }

@@ -166,3 +166,44 @@ and so does whatever else prints the office. The status is 0.
 
 Example:
   clr_desk mended office.json";
+
+pub(crate) const REACH_PRINTS: &str =
+    "It reads the rows of the table as CSV from standard input, as `clr_desk layer` prints them, and prints those that the
+cut lacks: rows that a design changes, and rows near what it brings or takes away. The cut is an office text with the
+designs and a part of the rows; rules may be broken in it. One row is read at a time, so the table may have any size.
+On standard error stand the rows that the cut has otherwise, and how many rows were read, printed, otherwise and had.
+Where a pass over each table prints nothing and all rows of the cut were had, a plan over the cut is the plan over the
+whole. Without names it takes all designs. The status is 0 where no row is printed and none is otherwise, 1 where one
+is, and 2 where a row can't be read.
+
+Example:
+  clr_desk reach cut.json main < main.csv > more.csv";
+
+pub(crate) const PROPOSE_PRINTS: &str =
+    "It prints SQL, by index conditions alone, which proposes a cut around the designs: rows that they change, rows near what
+they bring or take away, and what serves these. psql or sqlite3 runs it, and writes the rows of each table into a file
+TABLE.csv, as `clr_desk office` reads them. The proposal isn't trusted: a pass of `clr_desk reach` over each table shows
+whether it is a cut. The status is 0.
+
+Example:
+  clr_desk propose designs.json --sql postgis --crs EPSG:25832 > propose.sql";
+
+pub(crate) const CUT_PRINTS: &str =
+    "It prints the office text with the rows of the layers put into LIVE, marked as a cut, and nothing else, with status 0.
+A row stands in place of the one with its key, and no row goes; each row has a key. What a design removes it still
+removes, also where its row isn't put in yet. Rules may be broken: a cut that isn't whole may lack rows that serve.
+Where a layer can't be read it prints nothing, and on standard error the line that says so, with status 2.
+
+Example:
+  clr_desk cut designs.json main=main.csv valve=valve.csv > cut.json";
+
+pub(crate) const EDITS_PRINTS: &str =
+    "It prints the edits that take LIVE of the first office to LIVE of the second as CSV, and before each the row as it
+was. With --sql it prints one transaction, which psql or sqlite3 runs with the file OLD in the variable CUT and the
+merged designs in DESIGNS. It locks the tables, leads each through `clr_desk reach`, and looks whether each row of OLD
+is still there as it was; then it makes the edits. Where a row is stale or came meanwhile, nothing is written. How many
+rows are added, changed and removed stands on standard error. The status is 0, and 1 where the offices don't have the
+same tables.
+
+Example:
+  clr_desk edits cut.json new.json --sql postgis --crs EPSG:25832 > back.sql";

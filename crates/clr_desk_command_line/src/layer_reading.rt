@@ -5,7 +5,7 @@ ghost use Rattle.clap.specs.Words.{found_of, rows_of};
 ghost use Rattle.clr_desk_command_line.specs.Asks.{features_of, geographic_asked, layer_ask};
 
 use crate::asks::GeographicAsk;
-use crate::design_reading::{GeographicAskAndFiles, design, office};
+use crate::design_reading::{GeographicAskAndFiles, cut, design, office};
 use crate::values::{given_or, given_value, root};
 use clap::ArgMatches;
 use clr_command_line::{database, names};
@@ -52,6 +52,7 @@ pub(crate) fn geographic_ask(
         "layer" => Ok(Some(layer(alloc, matches)?)),
         "office" => office(alloc, matches),
         "design" => design(alloc, matches),
+        "cut" => cut(alloc, matches),
         _ => Ok(None),
     }
 }

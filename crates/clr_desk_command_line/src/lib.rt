@@ -2,21 +2,27 @@
 //!
 //! - `ask_of` [`asks`, `takes`]: what is asked, and the files, are what `clap`'s definition of a
 //!   simple command finds in the words. Words that the command takes, in which each layer, the first
-//!   key and the choice can be read where a subcommand has them, are refused only where there is no memory, but for
-//!   the script of a design that has none. Texts of
+//!   key, the choice, the dialect and the origin can be read where a subcommand has them, are refused only where there is
+//!   no memory, but for the script of a design that has none. Texts of
 //!   help, usage and refusals are tested only.
 #![tactic(auto)]
 
 mod asks;
 mod command;
 mod complaints;
+mod database_reading;
 mod design_reading;
 mod helps;
 mod layer_reading;
 mod named_layers;
+mod origins;
 mod reading;
 mod values;
 
-pub use asks::{DesignAsk, DeskAsk, GeographicAsk, OrderAsk, TextKind};
+pub use asks::{
+    Asked, DatabaseAsk, DesignAsk, DeskAsk, GeographicAsk, OrderAsk, ReachAsk, SqlAsk, TextKind,
+};
 pub use clr_command_line::AskFault;
+pub use clr_sql::Dialect;
+pub use origins::{MOST_ORIGIN_METRES, limit_of_origins};
 pub use reading::ask_of;

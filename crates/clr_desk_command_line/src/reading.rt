@@ -6,6 +6,8 @@ ghost use Rattle.clr_command_line.specs.Asks.{IsMemory};
 ghost use Rattle.clr_desk_command_line.specs.Asks.{
   ask_of,
   ask_by_name,
+  ask_of_texts,
+  asked_by_name,
   asked_of_office,
   certificate_ask,
   errors_of,
@@ -15,18 +17,23 @@ ghost use Rattle.clr_desk_command_line.specs.Asks.{
   keep_ask,
   members_asked,
   merge_ask,
+  of_texts,
   or_members_asked,
   order_ask,
   or_others_asked,
+  or_texts_asked,
+  reach_of,
   why_of,
 };
+ghost use Rattle.clr_desk_command_line.specs.Databases.{database_asked};
 ghost use Rattle.clr_desk_command_line.specs.Program.{program};
 
-use crate::asks::{DeskAsk, GeographicAsk, OrderAsk, TextKind};
+use crate::asks::{Asked, DeskAsk, GeographicAsk, OrderAsk, ReachAsk, TextKind};
 use crate::command::whole_command;
 use crate::complaints::complaint;
+use crate::database_reading::database_ask;
 use crate::layer_reading::geographic_ask;
-use crate::values::{given_value, has_value, root};
+use crate::values::{given_or, given_value, has_value, root};
 use clap::ArgMatches;
 use clap::error::ErrorKind;
 use clr_command_line::{AskFault, database, database_with, is_set, names};
@@ -35,6 +42,9 @@ use std::alloc::{AllocError, Global};
 
 /// What is asked, and the files, in which the office text stands first.
 type AskAndFiles = (DeskAsk, Vec<Words>);
+
+/// The same of texts or of a stream.
+type AskedAndFiles = (Asked, Vec<Words>);
 
 /// Returns what `why` asks for, and its files: where a script and a certificate are given, the script
 /// counts.
@@ -190,15 +200,15 @@ fn over_office_or_others(
     }
 }
 
-/// Returns what a subcommand asks for, and its files, or nothing where no subcommand has the name, or where its layers or its first key can't
-/// be read.
-#[tactic(auto, unfolding(crate::specs::Asks::ask_by_name))]
-fn ask_of_subcommand(
+/// Returns what a subcommand asks for of texts alone, and its files, or nothing where no such subcommand has the name, or where its layers or its
+/// first key can't be read.
+#[tactic(auto, unfolding(crate::specs::Asks::ask_of_texts))]
+fn ask_of_texts(
     alloc: Global,
     name: &str,
     matches: &ArgMatches,
 ) -> Result<Option<AskAndFiles>, AllocError>
-    ensures { IfOk result (λ r. ask_by_name name.now (rows_of (found_of matches.now)) ≡ option_map (λ p. (p.0, p.1.items)) r) }
+    ensures { IfOk result (λ r. ask_of_texts name.now (rows_of (found_of matches.now)) ≡ option_map (λ p. (p.0, p.1.items)) r) }
 {
     match name {
         "check" => Ok(Some((DeskAsk::Check, database_with(alloc, matches, "CERT")?))),
@@ -206,6 +216,67 @@ fn ask_of_subcommand(
         "errors" => Ok(Some(errors(alloc, matches)?)),
         "why" => Ok(Some(why(alloc, matches)?)),
         _ => over_office_or_others(alloc, name, matches),
+    }
+}
+
+/// Returns what a subcommand asks for, for a database or of texts alone, and its files, or nothing where no such subcommand has the name, or where one of
+/// its values can't be read.
+fn ask_of_subcommand(
+    alloc: Global,
+    name: &str,
+    matches: &ArgMatches,
+) -> Result<Option<AskAndFiles>, AllocError>
+    ensures { IfOk result (λ r. ask_by_name name.now (rows_of (found_of matches.now)) ≡ option_map (λ p. (p.0, p.1.items)) r) }
+{
+    match database_ask(alloc, name, matches)? {
+        Some((ask, files)) => Ok(Some((DeskAsk::Database(ask), files))),
+        None => ask_of_texts(alloc, name, matches),
+    }
+}
+
+/// Returns what `reach` asks for, and its file.
+fn reach(alloc: Global, matches: &ArgMatches) -> Result<AskedAndFiles, AllocError>
+    ensures { IfOk result (λ r. reach_of (rows_of (found_of matches.now)) ≡ (r.0, r.1.items)) }
+{
+    let ask = ReachAsk {
+        table: given_or(alloc, matches, "TABLE", "")?,
+        names: names(alloc, matches)?,
+        is_for_groups: is_set(matches, "groups"),
+        is_rounded: is_set(matches, "round"),
+    };
+    let mut files = Vec::new(alloc);
+    files.push(given_or(alloc, matches, "CUT", "")?)?;
+    Ok((Asked::Reach(ask), files))
+}
+
+/// Returns what a subcommand asks for of texts, and its files, or nothing where no such subcommand has the name, or where its layers or its first
+/// key can't be read.
+fn of_texts(
+    alloc: Global,
+    name: &str,
+    matches: &ArgMatches,
+) -> Result<Option<AskedAndFiles>, AllocError>
+    ensures { IfOk result (λ r. of_texts (ask_by_name name.now (rows_of (found_of matches.now))) ≡ option_map (λ p. (p.0, p.1.items)) r) }
+{
+    match ask_of_subcommand(alloc, name, matches)? {
+        Some((ask, files)) => Ok(Some((Asked::OfTexts(ask), files))),
+        None => Ok(None),
+    }
+}
+
+/// Returns what a subcommand asks for of texts or of a stream, and its files, or nothing where no subcommand has the name, or where its layers or
+/// its first key can't be read.
+#[tactic(auto, unfolding(crate::specs::Asks::asked_by_name))]
+fn asked_of_subcommand(
+    alloc: Global,
+    name: &str,
+    matches: &ArgMatches,
+) -> Result<Option<AskedAndFiles>, AllocError>
+    ensures { IfOk result (λ r. asked_by_name name.now (rows_of (found_of matches.now)) ≡ option_map (λ p. (p.0, p.1.items)) r) }
+{
+    match name {
+        "reach" => Ok(Some(reach(alloc, matches)?)),
+        _ => of_texts(alloc, name, matches),
     }
 }
 
@@ -222,13 +293,16 @@ fn refusal(alloc: Global, matches: &ArgMatches) -> Result<AskFault, AllocError> 
 /// CERT`, `merge DB CERT NAME..`, `format DB`, `accept DB`, `mended DB`, `errors DB [--geojson] [--crs SYSTEM]`, `why DB [--script FILE] [--certificate
 /// FILE]`, `certificate`, `keep`, `clashes`, `order`, `words`, `map` and `report`, each with `DB [--under ROOT] NAME..`, of which `certificate` and `keep`
 /// take `--in-order` and `order` takes `--certificate`, `geojson DB [--under ROOT] [--crs SYSTEM] NAME..`, `layer DB TABLE [--in WORKSPACE]`, `office SCHEMA
-/// TABLE=FILE.. [--round] [--accept]` and `design DB NAME TABLE=FILE.. [--base COPIED] [--removes CHOICE] [--script] [--keys N] [--round]`. There are none or
-/// more names, and one or more layers. The root, and the workspace of a layer, is LIVE where none is given; N is 1, and CHOICE is `yes`.
+/// TABLE=FILE.. [--round] [--accept]` and `design DB NAME TABLE=FILE.. [--base COPIED] [--removes CHOICE] [--script] [--keys N] [--round]`, and
+/// `reach CUT TABLE NAME.. [--groups] [--round]`, which reads the table from a stream, `cut OFFICE TABLE=FILE.. [--round]`, `propose OFFICE` and `edits OLD NEW`, the last two with
+/// `[--sql DIALECT] [--crs SYSTEM] [--origin X,Y]`. There are none or more names, and one or more layers. The root, and the workspace of a layer, is LIVE
+/// where none is given; N is 1, CHOICE is `yes`, the origin is (0, 0), and `propose` is for `postgis`.
 ///
 /// Fails with `Refused` where the words name no subcommand or another count of values than it has, where a layer has no `=`, N is no key, CHOICE is neither
-/// `yes` nor `no`, or both COPIED and a script are asked for, or where they ask for help, as `help`, `--help` and `-h`, or for the version, as `--version`
+/// `yes` nor `no`, or both COPIED and a script are asked for, where DIALECT is neither `postgis` nor `spatialite`, or X or Y is no whole number of metres
+/// of at most `MOST_ORIGIN_METRES`, or where they ask for help, as `help`, `--help` and `-h`, or for the version, as `--version`
 /// and `-V`; and with `OutOfMemory` for want of memory, which may come in place of any other answer.
-pub fn ask_of<'a>(alloc: Global, words: &'a [&'a str]) -> Result<(DeskAsk, Vec<Words>), AskFault>
+pub fn ask_of<'a>(alloc: Global, words: &'a [&'a str]) -> Result<(Asked, Vec<Words>), AskFault>
     ensures asks { IfOk result (λ r. ask_of (subcommand_of program (map (λ s. s.now) words.entry.now)) ≡ Some (r.0, r.1.items)) }
     ensures takes { takes program (map (λ s. s.now) words.entry.now) ≡ true
         → is_readable (subcommand_of program (map (λ s. s.now) words.entry.now)) ≡ true → IfErr result IsMemory }
@@ -241,7 +315,7 @@ pub fn ask_of<'a>(alloc: Global, words: &'a [&'a str]) -> Result<(DeskAsk, Vec<W
     let Some((name, values)) = matches.subcommand() else {
         unreachable!();
     };
-    match ask_of_subcommand(alloc, name, values)? {
+    match asked_of_subcommand(alloc, name, values)? {
         Some(asked) => Ok(asked),
         None => Err(refusal(alloc, values)?),
     }

@@ -26,7 +26,7 @@ use clr_steps::Reply;
 use std::alloc::{AllocError, Global};
 
 /// Returns the line of the first layer with a fault as the only note, without a text.
-pub(crate) fn print_of_fault(
+pub fn print_of_fault(
     alloc: Global,
     layers: &[GivenLayer],
     faulty: &FaultyLayer,

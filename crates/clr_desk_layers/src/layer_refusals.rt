@@ -41,8 +41,8 @@ pub(crate) fn wkt_column(alloc: Global, name: &str) -> Result<Print, AllocError>
     unfit_print(alloc, b"9 WktColumn", name.as_bytes())
 }
 
-/// Returns what is printed where the table of this name isn't the same in the office that layers were copied from.
-pub(crate) fn other_schema(alloc: Global, table: &str) -> Result<Print, AllocError>
+/// Returns what is printed where the table of this name isn't the same in another office: no text, and a note, which counts as a refusal.
+pub fn other_schema(alloc: Global, table: &str) -> Result<Print, AllocError>
     ensures { IfOk result (λ p. printed p ≡ unfit_print other_schema_word table.now) }
 {
     unfit_print(alloc, b"10 OtherSchema", table.as_bytes())

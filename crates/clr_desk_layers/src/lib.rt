@@ -7,6 +7,8 @@
 //!   (`IsOfficePrint`), and `answer_accepted_office` the same with its errors accepted (`IsAcceptedOfficePrint`).
 //! - `printed_layers_change_nothing`: the law that layers which `answer_layer` gives of LIVE, each of another table, change nothing when they are
 //!   given back to these three. `a_base_may_be_the_office_itself`: the law that layers which were copied from the office itself are those of LIVE.
+//! - `first_other`: the first table that isn't the same in two schemas; `other_schema`: what is printed of it. `print_of_fault`: what is printed
+//!   of the first layer with a fault.
 #![tactic(auto)]
 
 mod design_counts;
@@ -22,8 +24,11 @@ mod since_drafts;
 mod since_prints;
 
 pub use clr_layer_changes::{GivenLayer, LayerOptions};
+pub use design_prints::print_of_fault;
 pub use designs::{
     answer_accepted_office, answer_design, answer_design_script, answer_design_since, answer_office,
 };
 pub use laws::{a_base_may_be_the_office_itself, printed_layers_change_nothing};
+pub use layer_refusals::other_schema;
 pub use layers::answer_layer;
+pub use schemas::first_other;
