@@ -5,7 +5,8 @@
 //!   at which they meet.
 //! - `cause_of_need`: the same of a need that nothing covers.
 //! - `leaders_of`: exactly the members that a cause names.
-//! - Each call is safe and ends, and no call fails while there is memory. How near such a place is to the point where rows meet is tested by pictures.
+//! - Each call is safe and ends, and no call fails while there is memory. Where rows cross at no whole millimetre, the place is the one that
+//!   `clr_whereabouts` tells, which sentences have too. How near the place of an overlap is to what both share is tested by pictures.
 #![tactic(auto)]
 
 mod badges;

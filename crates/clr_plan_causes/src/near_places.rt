@@ -7,38 +7,7 @@ ghost use Rattle.clr_plan_causes.specs.CauseMarks.{IsInBothBoxes};
 use clr_phrases::Meeting;
 use clr_rows::Place;
 use clr_segments::box_of;
-
-/// Returns the way from one coordinate to another.
-fn way(from: i64, to: i64) -> Option<i128> {
-    i128::from(to).checked_sub(i128::from(from))
-}
-
-/// Returns the cross product of the way from a to b and the way from c to d.
-fn cross_product(a: Place, b: Place, c: Place, d: Place) -> Option<i128> {
-    let rising = way(a.x, b.x)?.checked_mul(way(c.y, d.y)?)?;
-    let falling = way(a.y, b.y)?.checked_mul(way(c.x, d.x)?)?;
-    rising.checked_sub(falling)
-}
-
-/// Returns the whole number near the share of the way from one coordinate to another.
-fn coordinate_near(from: i64, to: i64, numerator: i128, denominator: i128) -> Option<i64> {
-    let shift = way(from, to)?
-        .checked_mul(numerator)?
-        .checked_div(denominator)?;
-    i64::try_from(i128::from(from).checked_add(shift)?).ok()
-}
-
-/// Returns a place near where the lines through two parts cross.
-fn crossing_near(first: (Place, Place), second: (Place, Place)) -> Option<Place> {
-    let (a, b) = first;
-    let (c, d) = second;
-    let numerator = cross_product(a, c, c, d)?;
-    let denominator = cross_product(a, b, c, d)?;
-    Some(Place {
-        x: coordinate_near(a.x, b.x, numerator, denominator)?,
-        y: coordinate_near(a.y, b.y, numerator, denominator)?,
-    })
-}
+use clr_whereabouts::crossing_near;
 
 /// Returns the number between two others that is nearer to the middle, where ranges overlap.
 fn middle_of_common(a: i64, b: i64, c: i64, d: i64) -> i64 {

@@ -1,7 +1,8 @@
--- A need that nothing serves in words: its rule, its rows, where they meet, and what stands there, goes and comes.
+-- A need that nothing serves in words: its rule, its rows, where they meet or how far apart they are, and what stands there, goes and comes.
 use Rattle.std.specs.Prelude.{◌≡◌, ℕ, ◌==◌, Bool, true, false, List, [], ◌∷◌, ◌++◌, codes, flat_map, length, Option, Some, None, if◌then◌else◌}
 use Rattle.std.specs.Fmt.{decimal}
 use Rattle.std.specs.Option.{option_and_then}
+use Rattle.clr_rows.specs.declared.places.Place.{Place}
 use Rattle.clr_rows.specs.declared.rows.Row.{Row}
 use Rattle.clr_rows.specs.declared.tables.TableDef.{TableDef}
 use Rattle.clr_rows.specs.Contents.{Changes}
@@ -25,8 +26,10 @@ use Rattle.clr_plan_sentences.specs.declared.told_rows.CauseWords.{CauseWords}
 use Rattle.clr_serving_rows.specs.declared.servers.ServerChange.{ServerChange}
 use Rattle.clr_plan_sentences.specs.Labels.{cell_label}
 use Rattle.clr_plan_sentences.specs.OldErrors.{old_text}
-use Rattle.clr_serving_rows.specs.NeedPlaces.{IsPlaceIn}
 use Rattle.clr_serving_rows.specs.Servers.{server_changes}
+use Rattle.clr_whereabouts.specs.declared.needs.Whereabouts.{Whereabouts}
+use Rattle.clr_whereabouts.specs.Whereabouts.{IsWhereabouts}
+use Rattle.clr_whereabouts.specs.Words.{gap_text, near_text}
 use Rattle.clr_plan_sentences.specs.ToldRows.{row_of_second, row_of_version}
 use Rattle.clr_merge_sets.specs.MemberChanges.{row_in}
 
@@ -46,14 +49,18 @@ abbrev pub place_front : Rule → List ℕ
 place_front (EndNode subject tip server) = codes "  That end is at "
 place_front _ = codes "  They meet at "
 
+-- rows meet between whole millimetres
+abbrev pub between_text : Option Place → List ℕ
+between_text near =
+    codes "  They meet " ++ near_text near ++ codes "at no whole millimetre, where no row can stand: give both a vertex or an end at one place.\n"
+
 -- where the rows of a need meet, or where the end of its row is
-abbrev pub meeting_text : Rule → Meeting → List ℕ
-meeting_text rule (meeting.Whole p) = place_front rule ++ place_text p ++ codes ".\n"
-meeting_text rule meeting.Between =
-    codes "  They meet at no whole millimetre, where no row can stand: give both a vertex or an end at one place.\n"
-meeting_text rule meeting.Overlap = codes "  They overlap, and no row can serve parts that do.\n"
-meeting_text rule meeting.Apart = []
-meeting_text rule meeting.NoParts = []
+abbrev pub meeting_text : Rule → Meeting → Option Place → List ℕ
+meeting_text rule (meeting.Whole p) near = place_front rule ++ place_text p ++ codes ".\n"
+meeting_text rule meeting.Between near = between_text near
+meeting_text rule meeting.Overlap near = codes "  They overlap, and no row can serve parts that do.\n"
+meeting_text rule meeting.Apart near = []
+meeting_text rule meeting.NoParts near = []
 
 -- no row can stand where the need asks for one
 abbrev pub is_hopeless : Meeting → Bool
@@ -125,20 +132,26 @@ serving_text o s need place first changes rule = servers_text o s need place cha
 abbrev pub no_cause : CauseWords
 no_cause = record { reason = []; rows = []; place = [] }
 
--- a need that nothing serves under a rule: of rows that meet so, and changes of rows that would serve
-abbrev pub told_cause : Office → MergeSet → List Changes → Need → Rule → Meeting → Option Row → Option Row → List ServerChange → CauseWords
-told_cause o s sets need rule place first second changes = record {
+-- where the rows of a need meet or how far apart they are, and what stands there, goes and comes
+abbrev pub whereabouts_text : Office → MergeSet → Need → Rule → Whereabouts → Option Row → List ServerChange → List ℕ
+whereabouts_text o s need rule places first changes =
+    meeting_text rule places.meeting places.near ++ gap_text places.gap ++ serving_text o s need places.meeting first changes rule
+
+-- a need that nothing serves under a rule: of rows that are there, and changes of rows that would serve
+abbrev pub told_cause : Office → MergeSet → List Changes → Need → Rule → Whereabouts → Option Row → Option Row → List ServerChange → CauseWords
+told_cause o s sets need rule places first second changes = record {
   reason = rule_reason o.schema need.rule rule ++ old_text o s sets need;
   rows = row_of_version o s sets need.first first ∷ row_of_second o s sets need.second second;
-  place = meeting_text rule place ++ serving_text o s need place first changes rule;
+  place = whereabouts_text o s need rule places first changes;
 }
 
--- a need that nothing serves under a rule, whose rows meet so
-abbrev pub need_cause : Office → MergeSet → List Changes → Need → Rule → Meeting → CauseWords
-need_cause o s sets need rule place =
-    told_cause o s sets need rule place (row_in o s need.first) (option_and_then (row_in o s) need.second) (server_changes o s need)
+-- a need that nothing serves under a rule, whose rows are there
+abbrev pub need_cause : Office → MergeSet → List Changes → Need → Rule → Whereabouts → CauseWords
+need_cause o s sets need rule places =
+    told_cause o s sets need rule places (row_in o s need.first) (option_and_then (row_in o s) need.second) (server_changes o s need)
 
 -- a need that nothing serves; nothing is told where the book doesn't have its rule
 abbrev pub IsNeedCause : Office → MergeSet → List Changes → Need → Option Rule → CauseWords → Type 0
 IsNeedCause o s sets need None cause = cause ≡ no_cause
-IsNeedCause o s sets need (Some rule) cause = (place : Meeting) × IsPlaceIn o s need place × (cause ≡ need_cause o s sets need rule place)
+IsNeedCause o s sets need (Some rule) cause =
+    (places : Whereabouts) × IsWhereabouts o s need places × (cause ≡ need_cause o s sets need rule places)

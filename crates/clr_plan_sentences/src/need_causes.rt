@@ -1,9 +1,10 @@
-//! A need that nothing serves in words: its rule, its rows, and where they meet.
+//! A need that nothing serves in words: its rule, its rows, and where they meet or how far apart they are.
 
 ghost use Rattle.std.specs.Prelude.{◌≡◌, ◌++◌, ◌∷◌, IfOk, OnOk, string_bytes};
 ghost use Rattle.std.specs.Option.{option_and_then, option_copied};
 ghost use Rattle.clr_steps.specs.Quiet.{MergeSet};
-ghost use Rattle.clr_plan_sentences.specs.NeedCauses.{IsNeedCause, meeting_text, numbered_text, place_front, rule_reason, serving_text, told_cause};
+ghost use Rattle.clr_plan_sentences.specs.NeedCauses.{IsNeedCause, between_text, meeting_text, numbered_text, place_front, rule_reason};
+ghost use Rattle.clr_plan_sentences.specs.NeedCauses.{told_cause, whereabouts_text};
 ghost use Rattle.clr_plan_sentences.specs.OldErrors.{old_text};
 ghost use Rattle.clr_serving_rows.specs.NeedPlaces.{rule_in};
 ghost use Rattle.clr_plan_sentences.specs.ToldRows.{row_of_second, row_of_version};
@@ -15,9 +16,10 @@ use crate::told_rows::{CauseWords, RowWords};
 use clr_merge_sets::row_of_version;
 use clr_needs::Need;
 use clr_phrases::{At, Meeting, rule_sentence, rule_title};
-use clr_rows::{List, Row, Schema, Words};
+use clr_rows::{List, Place, Row, Schema, Words};
 use clr_rules::Rule;
-use clr_serving_rows::{ServerChange, need_place, rule_of, server_changes};
+use clr_serving_rows::{ServerChange, rule_of, server_changes};
+use clr_whereabouts::{Whereabouts, add_gap, add_near, need_whereabouts};
 use std::alloc::{AllocError, Global};
 
 /// Adds the number of a rule, and what it is about.
@@ -59,9 +61,23 @@ fn place_front(rule: &Rule) -> &'static str
     }
 }
 
+/// Adds that rows meet between whole millimetres, and near which place.
+fn add_between(text: &mut String, near: Option<Place>) -> Result<(), AllocError>
+    ensures { OnOk result (string_bytes text.new ≡ string_bytes text.old ++ between_text near) }
+{
+    text.push_str("  They meet ")?;
+    add_near(text, near)?;
+    text.push_str("at no whole millimetre, where no row can stand: give both a vertex or an end at one place.\n")
+}
+
 /// Adds where the rows of a need meet, or where the end of its row is.
-fn add_meeting(text: &mut String, rule: &Rule, place: Meeting) -> Result<(), AllocError>
-    ensures { OnOk result (string_bytes text.new ≡ string_bytes text.old ++ meeting_text rule.now place) }
+fn add_meeting(
+    text: &mut String,
+    rule: &Rule,
+    place: Meeting,
+    near: Option<Place>,
+) -> Result<(), AllocError>
+    ensures { OnOk result (string_bytes text.new ≡ string_bytes text.old ++ meeting_text rule.now place near) }
 {
     match place {
         Meeting::Whole(place) => {
@@ -70,9 +86,7 @@ fn add_meeting(text: &mut String, rule: &Rule, place: Meeting) -> Result<(), All
             write!(text, "{place}")?;
             text.push_str(".\n")
         }
-        Meeting::Between => text.push_str(
-            "  They meet at no whole millimetre, where no row can stand: give both a vertex or an end at one place.\n",
-        ),
+        Meeting::Between => add_between(text, near),
         Meeting::Overlap => {
             text.push_str("  They overlap, and no row can serve parts that do.\n")
         }
@@ -112,21 +126,22 @@ impl Setting<'_> {
         Ok(rows)
     }
 
-    /// Returns where the rows of a need meet, and what stands there, goes and comes.
+    /// Returns where the rows of a need meet or how far apart they are, and what stands there, goes and comes.
     fn place_words(
         &self,
         need: &Need,
         rule: &Rule,
-        place: Meeting,
+        places: &Whereabouts,
         first: Option<&Row>,
         changes: &[ServerChange],
     ) -> Result<String, AllocError>
-        ensures { IfOk result (λ text. string_bytes text ≡ meeting_text rule.now place
-            ++ serving_text self.now.office.now (set_of self.now.members.now) need.now place (option_copied first.entry) changes.now rule.now) }
+        ensures { IfOk result (λ text. string_bytes text
+            ≡ whereabouts_text self.now.office.now (set_of self.now.members.now) need.now rule.now places.now (option_copied first.entry) changes.now) }
     {
         let mut text = String::new(self.alloc);
-        add_meeting(&mut text, rule, place)?;
-        self.add_serving(&mut text, need, place, first, changes, rule)?;
+        add_meeting(&mut text, rule, places.meeting, places.near)?;
+        add_gap(&mut text, places.gap)?;
+        self.add_serving(&mut text, need, places.meeting, first, changes, rule)?;
         Ok(text)
     }
 
@@ -141,22 +156,22 @@ impl Setting<'_> {
         Ok(reason)
     }
 
-    /// Returns a need that nothing serves under a rule, of these rows, which meet so, and these changes of rows that would serve.
+    /// Returns a need that nothing serves under a rule, of these rows, which are there, and these changes of rows that would serve.
     fn told_cause(
         &self,
         need: &Need,
         rule: &Rule,
-        place: Meeting,
+        places: &Whereabouts,
         first: Option<&Row>,
         second: Option<&Row>,
         changes: &[ServerChange],
     ) -> Result<CauseWords, AllocError>
         ensures { IfOk result (λ cause. cause ≡ told_cause self.now.office.now (set_of self.now.members.now)
-            self.now.members.now.changes.items need.now rule.now place (option_copied first.entry) (option_copied second.entry) changes.now) }
+            self.now.members.now.changes.items need.now rule.now places.now (option_copied first.entry) (option_copied second.entry) changes.now) }
     {
         let reason = self.reason_words(need, rule)?;
         let rows = self.need_rows(need, first, second)?;
-        let words = self.place_words(need, rule, place, first, changes)?;
+        let words = self.place_words(need, rule, places, first, changes)?;
         Ok(CauseWords {
             reason: Words::new(reason),
             rows: List::new(rows),
@@ -164,7 +179,7 @@ impl Setting<'_> {
         })
     }
 
-    /// Returns a need that nothing serves: the rule, the rows that ask, where they meet, and what becomes of the rows that
+    /// Returns a need that nothing serves: the rule, the rows that ask, where they meet or how far apart they are, and what becomes of the rows that
     /// serve. Nothing is told of a need whose rule the book doesn't have.
     pub(crate) fn need_cause(&self, need: &Need) -> Result<CauseWords, AllocError>
         ensures { IfOk result (λ cause. AreMembers self.now.office.now (set_of self.now.members.now) self.now.members.now
@@ -174,11 +189,11 @@ impl Setting<'_> {
         let Some(rule) = rule_of(self.office, need) else {
             return Ok(no_cause(self.alloc));
         };
-        let place = need_place(self.office, self.members, need);
+        let places = need_whereabouts(self.office, self.members, need);
         let first = row_of_version(self.office, self.members, need.first);
         let second = self.second_row(need);
         let changes = server_changes(self.alloc, self.office, self.members, need)?;
-        let cause = self.told_cause(need, rule, place, first, second, changes.as_slice())?;
+        let cause = self.told_cause(need, rule, &places, first, second, changes.as_slice())?;
         Ok(cause)
     }
 }

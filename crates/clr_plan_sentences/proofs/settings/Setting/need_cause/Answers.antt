@@ -15,17 +15,17 @@ returns c = λ are.
     let sets = c.args.self.now.members.now.changes.items in
     let need = c.args.need.now in
     let rule = c.in-Some.rule.now in
-    let place = c.need_place-place.result in
+    let places = c.need_whereabouts-places.result in
     let first = row_in o s need.first in
     let second = option_and_then (row_in o s) need.second in
     let told : rule_in o need ≡ Some rule = search rules in
     subst (λ (r : Option Rule). IsNeedCause o s sets need r c.in_ok-cause.cause) (sym told) (
-      place,
-      c.need_place-place.ensures s are,
+      places,
+      c.need_whereabouts-places.ensures s are,
       c.in_ok-cause.ensures
-          ∙ ap (λ (row : Option Row). told_cause o s sets need rule place row (option_copied c.second_row-second.result) c.as_slice.result.now)
+          ∙ ap (λ (row : Option Row). told_cause o s sets need rule places row (option_copied c.second_row-second.result) c.as_slice.result.now)
           (c.row_of_version-first.ensures s are)
-          ∙ ap (λ (row : Option Row). told_cause o s sets need rule place first row c.as_slice.result.now) (c.second_row-second.ensures s are)
-          ∙ ap (λ (changes : List ServerChange). told_cause o s sets need rule place first second changes)
+          ∙ ap (λ (row : Option Row). told_cause o s sets need rule places first row c.as_slice.result.now) (c.second_row-second.ensures s are)
+          ∙ ap (λ (changes : List ServerChange). told_cause o s sets need rule places first second changes)
           (c.as_slice.ensures.value ∙ c.in_ok-changes.ensures s are),
     )

@@ -1,0 +1,4 @@
+pub mod BetweenLemmas
+pub mod GapLemmas
+pub mod NearLemmas
+pub mod ReachLemmas

@@ -1,0 +1,4 @@
+pub mod Crossings
+pub mod Gaps
+pub mod Whereabouts
+pub mod Words
