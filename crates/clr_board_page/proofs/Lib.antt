@@ -1,0 +1,5 @@
+mod Causes
+mod Each
+mod Lent
+mod Numbers
+mod Sections

@@ -1,0 +1,2 @@
+mod CutsPlain
+mod CutsRead

@@ -1,0 +1,5 @@
+pub mod Cells
+pub mod RunLemmas
+pub mod SameShapes
+pub mod TextLemmas
+pub mod Triples
