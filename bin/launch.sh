@@ -115,9 +115,8 @@ count_left() { echo $(($1 - $(grep -cE '^rt: [a-z_]+ (proved$|is kept: )' "$2"))
 
 # Proves the crates by three runs of the toolchain, each of which takes what the others have proved and waits for what they are proving. The first
 # proves the crate on which all stand, with the processors that are free. The second begins at the same time, since it first reads all texts, and
-# proves many crates side by side. The third, of all crates, begins once the second has at most three times as many crates left as are proved at once,
-# since it reads all texts too, for minutes: then it proves what stands on these, and shares out the processors. Programs are run from its temporary
-# folder, as they may not be from one in memory.
+# proves many crates side by side. The third, of all crates, begins once the second has no more crates left than are proved at once: it proves what
+# stands on these, and shares out the processors. Programs are run from its temporary folder, as they may not be from one in memory.
 # Of a toolchain that keeps no proofs there is one run alone, since no run could take what another has proved.
 prove_in_runs() {
     local at_once temporary=${scratch:-${TMPDIR:-/tmp}} many first second
@@ -132,7 +131,7 @@ prove_in_runs() {
     prove_crates "$room/many" "$at_once" "$temporary" "${many[@]}" > >(tee "$room/said") &
     second=$!
     if [ ${#many[@]} = 0 ]; then wait $first || return 1; fi
-    while kill -0 $second 2>/dev/null && [ "$(count_left ${#many[@]} "$room/said")" -gt $((3 * ${at_once:-2})) ]; do sleep 1; done
+    while kill -0 $second 2>/dev/null && [ "$(count_left ${#many[@]} "$room/said")" -gt "${at_once:-2}" ]; do sleep 1; done
     # (where all crates are proved, so are those of the others; bash may have forgotten by now how these ended)
     prove_crates "$room/whole" '' "${TMPDIR:-/tmp}" "${crates[@]}"
 }

@@ -1,9 +1,12 @@
+mod KeyedReportLemmas
 mod LayerReportLemmas
 mod LineEnds
 mod LinedTexts
+mod OneAgain
 mod OneAnswer
 mod OneChoice
 mod OneDeskAnswer
+mod OneIds
 mod OnePrint
 mod PlaceLemmas
 mod Trying

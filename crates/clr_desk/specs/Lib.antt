@@ -8,10 +8,12 @@ pub mod Geographic
 pub mod GivenLayers
 pub mod InOrder
 pub mod LayerFaults
+pub mod LayerWhys
 pub mod LineEnds
 pub mod LinedTexts
 pub mod Merges
 pub mod OneAnswer
 pub mod Orders
+pub mod SkippedLayers
 pub mod Whys
 pub mod Waiting

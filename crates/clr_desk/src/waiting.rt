@@ -3,10 +3,11 @@ ghost use Rattle.std.specs.Prelude.{◌≡◌, ◌&&◌, ◌++◌, ◌∷◌, []
 ghost use Rattle.std.specs.List.{list_any, range_with_len};
 ghost use Rattle.clr_merge_sets.specs.Certificates.{ordered_merge_set_of};
 ghost use Rattle.clr_ordered_clearance.specs.MergeSets.{goes_before};
-ghost use Rattle.clr_steps.specs.Names.{has, same_name};
+ghost use Rattle.clr_steps.specs.Names.{same_name};
 ghost use Rattle.clr_desk.specs.Waiting.{done_names, first_awaited, is_awaited, is_done_at, waiting_line, waiting_text};
 
 use clr_cert::{Certificate, Precedence};
+use clr_check::is_one_of;
 use clr_merge_sets::{names_at, texts_of_names};
 use clr_office::Words;
 use clr_steps::Reply;
@@ -53,18 +54,6 @@ fn done_names<'a>(
 {
     let positions = done_positions(alloc, replies)?;
     names_at(alloc, names, positions.as_slice())
-}
-
-/// Returns whether a name is one of these.
-fn is_one_of(these: &[&str], name: &str) -> bool
-    ensures { result ≡ has (map (λ other. other.now) these.now) name.now }
-{
-    for other in these {
-        if *other == name {
-            return true;
-        }
-    }
-    false
 }
 
 /// Returns whether a precedence names these two.

@@ -1,3 +1,4 @@
 mod GivenLemmas
+mod IdsLemmas
 mod Known
 mod LayerLemmas

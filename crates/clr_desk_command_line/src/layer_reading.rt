@@ -2,11 +2,12 @@
 
 ghost use Rattle.std.specs.Prelude.{◌≡◌, IfOk, option_map};
 ghost use Rattle.clap.specs.Words.{found_of, rows_of};
-ghost use Rattle.clr_desk_command_line.specs.Asks.{features_of, geographic_asked, layer_ask};
+ghost use Rattle.clr_desk_command_line.specs.Asks.{features_of, geographic_asked, imports_asked, layer_as, layer_ask};
 
 use crate::asks::GeographicAsk;
-use crate::design_reading::{GeographicAskAndFiles, design, office};
-use crate::values::{given_or, given_value, root};
+use crate::design_reading::{GeographicAskAndFiles, design, designs, office};
+use crate::ids_reading::ids;
+use crate::values::{given_or, given_value, has_value, root};
 use clap::ArgMatches;
 use clr_command_line::{database, names};
 use clr_rows::{LIVE, Words};
@@ -25,16 +26,47 @@ fn features(alloc: Global, matches: &ArgMatches) -> Result<GeographicAskAndFiles
     ))
 }
 
-/// Returns what `layer` asks for, and its file.
+/// Returns the layer of a table in a workspace, with ids in place of keys or with its keys.
+fn layer_as(has_ids: bool, table: Words, workspace: Words) -> GeographicAsk
+    ensures { result ≡ layer_as has_ids table workspace }
+{
+    if has_ids {
+        GeographicAsk::LayerWithIds(table, workspace)
+    } else {
+        GeographicAsk::Layer(table, workspace)
+    }
+}
+
+/// Returns what `layer` asks for, and its file, and that of the book of ids behind it, if one is given.
 fn layer(alloc: Global, matches: &ArgMatches) -> Result<GeographicAskAndFiles, AllocError>
     ensures { IfOk result (λ r. layer_ask (rows_of (found_of matches.now)) ≡ (r.0, r.1.items)) }
 {
     let table = given_or(alloc, matches, "TABLE", "")?;
     let workspace = given_or(alloc, matches, "in", LIVE)?;
-    Ok((
-        GeographicAsk::Layer(table, workspace),
-        database(alloc, matches)?,
-    ))
+    let mut files = database(alloc, matches)?;
+    if let Some(ids) = given_value(alloc, matches, "ids")? {
+        files.push(ids)?;
+    }
+    Ok((layer_as(has_value(matches, "ids"), table, workspace), files))
+}
+
+/// Returns what a subcommand that reads layers asks for, and its files, or nothing where no such subcommand has the name, or where its layers or its
+/// first key can't be read.
+#[tactic(auto, unfolding(crate::specs::Asks::imports_asked))]
+fn imports_ask(
+    alloc: Global,
+    name: &str,
+    matches: &ArgMatches,
+) -> Result<Option<GeographicAskAndFiles>, AllocError>
+    ensures { IfOk result (λ r. imports_asked name.now (rows_of (found_of matches.now)) ≡ option_map (λ p. (p.0, p.1.items)) r) }
+{
+    match name {
+        "office" => office(alloc, matches),
+        "design" => design(alloc, matches),
+        "designs" => designs(alloc, matches),
+        "ids" => ids(alloc, matches),
+        _ => Ok(None),
+    }
 }
 
 /// Returns what a subcommand over layers or features asks for, and its files, or nothing where no such subcommand has the name, or where its layers
@@ -50,8 +82,6 @@ pub(crate) fn geographic_ask(
     match name {
         "geojson" => Ok(Some(features(alloc, matches)?)),
         "layer" => Ok(Some(layer(alloc, matches)?)),
-        "office" => office(alloc, matches),
-        "design" => design(alloc, matches),
-        _ => Ok(None),
+        _ => imports_ask(alloc, name, matches),
     }
 }

@@ -1,0 +1,4 @@
+mod AgainLemmas
+mod MadeLemmas
+mod MovedLemmas
+mod TurnLemmas

@@ -1,0 +1,4 @@
+pub mod GrownIds
+pub mod KeyedLayers
+pub mod NamedLayers
+pub mod Places

@@ -1,0 +1,4 @@
+pub mod FieldLemmas
+pub mod KeyedLemmas
+pub mod KnownLemmas
+pub mod ReadLemmas
