@@ -21,7 +21,9 @@
  *       or, of a merge, the same as of a script, names being its steps;
  *     - of words of clr_desk, which a session's file `program` names: text, notes and status of the session; or with status 3 no text,
  *       and notes that have a line which says so; or, where the session is refused with status 2, its first note without what stands behind it, which is
- *       where the fault is or what a misspelt name may have meant.
+ *       where the fault is or what a misspelt name may have meant;
+ *     - of words that read a stream, the session's `input`: with status 3 the first lines of its text, and on standard error the first of its notes and then
+ *       `out of memory`, since a stream is answered as it is read.
  *
  * Without a refusal the program has to print what the session says. In the ways `once` and `again` some step of each script has to
  * be lost while the run goes on: a program that ends at each refusal would never show what it does next. The last line is
@@ -67,6 +69,8 @@ struct session {
     char *words[MOST_WORDS];         /* the words, but for the names of a merge */
     int word_count;
     bool is_script, is_merge, is_doubled;
+    struct bytes stream;             /* what words read from standard input, if they do */
+    bool is_stream;
     bool is_desk;                    /* of clr_desk, which prints a text and notes */
     struct bytes lines, error;       /* what is printed where nothing is refused, and the line on standard error */
     int status;
@@ -262,11 +266,13 @@ static struct session *read_session(const char *name, bool is_doubled) {
     session->is_desk = begins(file_of(name, "program", &is_there), text("clr_desk"));
     struct bytes words = file_of(name, "words", &is_there);
     session->is_script = !is_there;
-    if (is_there) {
+    struct bytes input = file_of(name, "input", &is_there);
+    if (!session->is_script) {
         read_words(session, words);
+        session->stream = input;
+        session->is_stream = is_there;
         return session;
     }
-    struct bytes input = file_of(name, "input", &is_there);
     if (!is_there) {
         fprintf(stderr, "growth: no session %s\n", name);
         exit(2);
@@ -348,6 +354,8 @@ static struct end run(const struct session *session, steps_set given, uint64_t f
     list_words(session, given, words);
     if (session->is_script) {
         write_input(session, given);
+    } else {
+        fill(in_file, session->stream);
     }
     fill(out_file, text(""));
     fill(err_file, text(""));
@@ -484,6 +492,21 @@ static bool is_lost_text(const struct session *session, const struct end *end) {
     return end->status == 2 && session->status == 2 && same(end->err, line_of(session->error));
 }
 
+/* Whether these are lines at the beginning of a text. */
+static bool are_first_lines(struct bytes whole, struct bytes part) {
+    return begins(whole, part) && (part.length == 0 || part.start[part.length - 1] == '\n');
+}
+
+/* Whether words find no memory for the rest of a stream. */
+static bool is_lost_stream(const struct session *session, const struct end *end) {
+    size_t length = strlen(NO_MEMORY);
+    if (!session->is_stream || end->status != 3 || end->err.length < length) {
+        return false;
+    }
+    struct bytes notes = {end->err.start, end->err.length - length};
+    return same(behind(end->err, notes.length), text(NO_MEMORY)) && are_first_lines(session->error, notes) && are_first_lines(session->lines, end->out);
+}
+
 static bool is_right(const struct session *session, const struct end *end) {
     if (end->refused > 0 && is_no_memory(end)) {
         return true;
@@ -495,7 +518,7 @@ static bool is_right(const struct session *session, const struct end *end) {
         return true;
     }
     if (session->is_desk) {
-        return end->refused > 0 && is_lost_text(session, end);
+        return end->refused > 0 && (is_lost_text(session, end) || is_lost_stream(session, end));
     }
     return end->refused > 0 && (is_lost_answer(session, end) || (session->is_merge && is_right_merge(session, end)));
 }

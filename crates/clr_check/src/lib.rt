@@ -33,6 +33,7 @@
 //!   verdict, which may be want of memory. Where it is clear, all holds that `check` promises of a
 //!   clear one. `judge_texts` [`case`, `verdict`, `fault`] gives besides the office and the
 //!   certificate, which a line names; by it the program answers `check`.
+//! - `is_one_of`: whether a name is one of some.
 #![tactic(auto)]
 
 mod cases;
@@ -53,3 +54,4 @@ pub use clr_clearance::Verdict;
 pub use clr_office_texts::TextFault;
 pub use runs::{ClearedRun, perform_cleared};
 pub use text_checks::{TextCheck, check_texts, judge_texts};
+pub use turns::is_one_of;

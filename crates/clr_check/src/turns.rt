@@ -13,7 +13,7 @@ use clr_cert::{Certificate, Precedence};
 use clr_engine::Command;
 
 /// Returns whether a name is one of these.
-fn is_one_of(these: &[&str], name: &str) -> bool
+pub fn is_one_of(these: &[&str], name: &str) -> bool
     ensures { result ≡ has (map (λ other. other.now) these.now) name.now }
 {
     for other in these {

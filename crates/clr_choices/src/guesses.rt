@@ -67,17 +67,31 @@ fn note_cells(
     note_changed(changes.as_slice(), cells)
 }
 
-/// Notes the cells of change sets, where none of them was noted before. Returns whether it does so.
-fn note_changed(changes: &[ChangeSet], cells: &mut BTreeSet<CellId>) -> Result<bool, AllocError> {
+/// Returns whether a cell that one of some change sets changes is among others.
+fn is_one_among(changes: &[ChangeSet], cells: &BTreeSet<CellId>) -> bool {
     for set in changes {
         if set.iter().any(|(cell, _)| cells.contains(cell)) {
-            return Ok(false);
+            return true;
         }
     }
+    false
+}
+
+/// Notes the cells that a change set changes.
+fn note_set(set: &ChangeSet, cells: &mut BTreeSet<CellId>) -> Result<(), AllocError> {
+    for (cell, _) in set.iter() {
+        cells.insert(*cell)?;
+    }
+    Ok(())
+}
+
+/// Notes the cells of change sets, where none of them was noted before. Returns whether it does so.
+fn note_changed(changes: &[ChangeSet], cells: &mut BTreeSet<CellId>) -> Result<bool, AllocError> {
+    if is_one_among(changes, cells) {
+        return Ok(false);
+    }
     for set in changes {
-        for (cell, _) in set.iter() {
-            cells.insert(*cell)?;
-        }
+        note_set(set, cells)?;
     }
     Ok(true)
 }

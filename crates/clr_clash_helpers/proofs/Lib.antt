@@ -1,3 +1,4 @@
 mod HelperLemmas
 mod ListLemmas
 mod Possible
+mod Unhelped

@@ -7,13 +7,17 @@
 //!   or brings a row that serves it. Where the cause is a conflict or a shared cell, none helps: no order changes these. Want
 //!   of memory is the only refusal.
 //! - `helpers_of` says the same of one need and some members that touch it.
+//! - `unhelped_sets_are_never_cleared`: where no member helps a set that breaks a need by itself, no plan of members with all of
+//!   the set in it is cleared in the order of these members.
 #![tactic(auto)]
 
 mod helped;
 mod helping;
+mod laws;
 mod listing;
 mod refusals;
 mod touching;
 
 pub use helped::{HelpedClash, helped_clashes};
+pub use laws::unhelped_sets_are_never_cleared;
 pub use listing::helpers_of;

@@ -18,18 +18,18 @@ const NETWORK: &str =
 {"name":"main","columns":[["code","TEXT"]],"shape":"SEGMENT"}],
 "rules":[{"kind":"UNIQUE","subject":{"table":"main","where":[["code","A"]]},"columns":["code"]}],"live":[]}"#;
 
-const DESIGN: &str = "Design";
+pub(crate) const DESIGN: &str = "Design";
 
 const TABLES: [&str; 2] = ["node", "main"];
 
 /// Returns the office of a text, in which each broken need is known.
-fn opened(alloc: Global, text: &[u8]) -> Option<Office> {
+pub(crate) fn opened(alloc: Global, text: &[u8]) -> Option<Office> {
     let read = read_office(alloc, text).ok()?;
     read.draft.admit(read.known.as_slice()).ok()
 }
 
 /// Performs a script, whatever its steps are answered.
-fn perform(alloc: Global, office: &mut Office, script: &str) -> Option<()> {
+pub(crate) fn perform(alloc: Global, office: &mut Office, script: &str) -> Option<()> {
     perform_script(alloc, office, script)?;
     Some(())
 }
@@ -91,22 +91,26 @@ pub(crate) fn texts_of(alloc: Global, seed: u64) -> Option<Times> {
     })
 }
 
+/// Returns how layers are read.
+pub(crate) fn layer_options() -> LayerOptions {
+    LayerOptions {
+        first_key: 1,
+        rounded: false,
+    }
+}
+
 /// Returns what is printed of the design, brought as layers over the office from which LIVE moved on.
 pub(crate) fn brought(
     alloc: Global,
     times: &Times,
     layers: &[GivenLayer],
 ) -> Result<Print, RunFault> {
-    let options = LayerOptions {
-        first_key: 1,
-        rounded: false,
-    };
     answer_design_since(
         alloc,
         times.without.as_slice(),
         times.copied.as_slice(),
         DESIGN,
-        options,
+        layer_options(),
         true,
         layers,
     )

@@ -1,3 +1,5 @@
+mod AgainLemmas
+mod ContentLemmas
 mod CountLemmas
 pub mod DesignLemmas
 mod EditAgain

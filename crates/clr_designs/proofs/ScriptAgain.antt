@@ -1,4 +1,4 @@
--- The text of the script that makes a design is read as the steps that make it.
+-- The text of the script that makes a design, or brings one again, is read as the steps that do.
 use Rattle.std.proofs.Common.{◌≡◌, ℕ, ◌+◌, ◌<◌, ◌^◌, true, List, [], ◌∷◌, ◌++◌, length, map, codes, Ok, Some, None, pos, refl, arith}
 use Rattle.std.specs.Prelude.{IsUtf8, slice_get}
 use Rattle.std.specs.List.{All, AllByRecursion, flat_map, list_all}
@@ -27,10 +27,11 @@ use Rattle.clr_records.proofs.Utf8.{name_utf8, number_utf8}
 use Rattle.clr_lines.specs.Rows.{cell_fields, place_fields, row_fields, rows_writer, shape_fields}
 use Rattle.clr_scripts.specs.Edits.{edits_from}
 use Rattle.clr_scripts.specs.Scripts.{apply_of, command_of, plain_step_of, script_in_text, script_of, step_of, steps_from}
-use Rattle.clr_designs.specs.Scripts.{apply_fields, create_fields, design_records, design_script, design_steps, edit_fields, script_text}
+use Rattle.clr_designs.specs.Scripts.{again_records, again_script, again_steps, apply_fields, create_fields, design_records, design_script, design_steps}
+use Rattle.clr_designs.specs.Scripts.{edit_fields, roll_fields, script_text}
 use Rattle.clr_records.specs.Values.{IsText, value_field}
 use Rattle.clr_records.proofs.ValuesAgain.{values_utf8}
-use Rattle.clr_designs.specs.ReadBack.{Fits, HasTexts, ReadBackLaw}
+use Rattle.clr_designs.specs.ReadBack.{AgainReadBackLaw, Fits, HasTexts, ReadBackLaw}
 use Rattle.clr_designs.proofs.EditAgain.{edit_again}
 
 -- the records are read -----------------------------------------------------------------------------
@@ -173,3 +174,51 @@ pub written_again : (tables : List TableDef) (name root : List ℕ) (edits : Lis
     → script_in_text tables text ≡ Ok (design_steps name root edits)
 written_again tables name root edits text is sound named rooted few texts fit =
     rw is (script_again tables name root edits (record { sound = sound; named = named; rooted = rooted; fit = fit; texts = texts; few = few }))
+
+-- the script that brings a design again ------------------------------------------------------------
+
+roll_plain : (name : List ℕ) → IsUtf8 name → IsPlain IsUtf8 (roll_fields name)
+unfolding is_good_name
+roll_plain name n = record { some = refl; each = (name_utf8 (codes "rollall") refl, (n, tt)) }
+
+both_again : (tables : List TableDef) (name : List ℕ) (edits : List Edit) → schema_fault tables ≡ None → AllByRecursion (Fits tables) edits
+    → length edits < 2 ^ 63
+    → script_of tables (again_records tables name edits) ≡ Ok (again_steps name edits)
+unfolding steps_from step_of apply_of plain_step_of command_of field_at
+both_again tables name edits sound fit few =
+    let rows = map (edit_fields tables) edits in
+    let long : length rows ≡ length edits = length-map edits (edit_fields tables) in
+    let none = rw long at (passed_over tables (2 + 1) rows) in
+    rw (
+      number_again (pos (length edits)) (lt-ltb (length edits) (2 ^ 63) few),
+      take_all (length edits) rows (omega (arith, long)),
+      edits_again tables (2 + 1) edits sound fit,
+      le-leb (length edits) (length rows) (omega (arith, long)),
+      none,
+    ) refl
+
+-- a text that begins with `rollall` begins with no byte order mark
+no_mark_again : (name : List ℕ) (rows : List (List (List ℕ)))
+    → strip_bom (flat_map (row_text default_writer) (roll_fields name ∷ rows)) ≡ flat_map (row_text default_writer) (roll_fields name ∷ rows)
+unfolding strip_bom
+no_mark_again name rows = refl
+
+pub again_read : AgainReadBackLaw
+again_read tables name edits is =
+    let fit = recursion_from_All (Fits tables) edits is.fit in
+    let texts = recursion_from_All HasTexts edits is.texts in
+    let records = again_records tables name edits in
+    let plain : AllByRecursion (IsPlain IsUtf8) records =
+    (roll_plain name is.named, (apply_plain name (length edits) is.named is.few, edits_plain tables edits is.sound fit texts)) in
+    rw (
+      records_same records,
+      records_again records plain (no_mark_again name (apply_fields name (length edits) ∷ map (edit_fields tables) edits)),
+      both_again tables name edits is.sound fit is.few,
+    ) refl
+
+-- such a script is read as it was written, by what is known where it is written
+pub again_written : (tables : List TableDef) (name : List ℕ) (edits : List Edit) (text : List ℕ) → text ≡ again_script tables name edits
+    → schema_fault tables ≡ None → IsUtf8 name → length edits < 2 ^ 63 → All HasTexts edits → All (Fits tables) edits
+    → script_in_text tables text ≡ Ok (again_steps name edits)
+again_written tables name edits text is sound named few texts fit =
+    rw is (again_read tables name edits (record { sound = sound; named = named; rooted = named; fit = fit; texts = texts; few = few }))

@@ -44,7 +44,7 @@ same_back a b = by (same a b) (same b a) refl refl
     by false true e f = absurd (true≢false (sym (ap (same a) (same_is b a f) ∙ same_itself a) ∙ e))
 
 -- a cell is in conflict where both contents differ from the copied one
-both_changed : (live copied content : Content) (q : CellId)
+pub both_changed : (live copied content : Content) (q : CellId)
     → list_any (eq_by_cmp cell_cmp q) (conflicts live (changes copied content)) ≡ (is_changed copied content q && is_changed copied live q)
 both_changed live copied content q =
     any-conflicts live (changes copied content) q ∙ ap (has_conflict live q) (get-changes copied content q) ∙ by (is_changed copied content q)

@@ -1,3 +1,4 @@
+pub mod Again
 pub mod Counts
 pub mod Designs
 pub mod Laws

@@ -7,7 +7,7 @@ use Rattle.clr_change.specs.declared.edits.Edit.{Edit}
 use Rattle.clr_change.specs.declared.edits.Edit.TheVariants.{Insert, Update, Delete}
 use Rattle.clr_records.specs.Values.{IsText}
 use Rattle.clr_scripts.specs.Scripts.{script_in_text}
-use Rattle.clr_designs.specs.Scripts.{design_script, design_steps}
+use Rattle.clr_designs.specs.Scripts.{again_script, again_steps, design_script, design_steps}
 
 -- the row of an edit fits the schema, or some row could stand at the cell that it empties
 abbrev pub Fits : List TableDef → Edit → Type 0
@@ -34,3 +34,8 @@ pub record IsDesign (tables : List TableDef) (name root : List ℕ) (edits : Lis
 abbrev pub ReadBackLaw : Type 0
 ReadBackLaw = (tables : List TableDef) (name root : List ℕ) (edits : List Edit)
     → IsDesign tables name root edits → script_in_text tables (design_script tables name root edits) ≡ Ok (design_steps name root edits)
+
+-- the script that brings a design again is read as the steps that do
+abbrev pub AgainReadBackLaw : Type 0
+AgainReadBackLaw = (tables : List TableDef) (name : List ℕ) (edits : List Edit)
+    → IsDesign tables name name edits → script_in_text tables (again_script tables name edits) ≡ Ok (again_steps name edits)

@@ -1,4 +1,4 @@
--- The script that makes a design: its two steps, their records, and its text.
+-- The script that makes a design, or brings one again: its two steps, their records, and its text.
 use Rattle.std.specs.Prelude.{ℕ, List, [], ◌∷◌, length, map, codes}
 use Rattle.std.specs.Fmt.{decimal}
 use Rattle.std.specs.List.{flat_map}
@@ -6,7 +6,7 @@ use Rattle.csv.specs.Writing.{row_text}
 use Rattle.clr_rows.specs.declared.tables.TableDef.{TableDef}
 use Rattle.clr_change.specs.declared.edits.Edit.{Edit}
 use Rattle.clr_change.specs.declared.edits.Edit.TheVariants.{Insert, Update, Delete}
-use Rattle.clr_steps.specs.declared.commands.Command.TheVariants.{Create, Apply}
+use Rattle.clr_steps.specs.declared.commands.Command.TheVariants.{Create, Apply, RollAll}
 use Rattle.clr_scripts.specs.declared.steps.Step.{Step}
 use Rattle.clr_scripts.specs.declared.steps.Step.TheVariants.{Act}
 use Rattle.clr_lines.specs.Rows.{cell_fields, row_fields, rows_writer}
@@ -38,3 +38,18 @@ script_text records = flat_map (row_text rows_writer) records
 -- the text of the script that makes a design
 abbrev pub design_script : List TableDef → List ℕ → List ℕ → List Edit → List ℕ
 design_script tables name root edits = script_text (design_records tables name root edits)
+
+-- the steps that bring a design again: its workspace is rolled back to its base, and then the edits are made in it, all or none
+abbrev pub again_steps : List ℕ → List Edit → List Step
+again_steps name edits = Act (RollAll name) ∷ Act (Apply name edits) ∷ []
+
+abbrev pub roll_fields : List ℕ → List (List ℕ)
+roll_fields name = codes "rollall" ∷ name ∷ []
+
+-- the records of these two steps
+abbrev pub again_records : List TableDef → List ℕ → List Edit → List (List (List ℕ))
+again_records tables name edits = roll_fields name ∷ apply_fields name (length edits) ∷ map (edit_fields tables) edits
+
+-- the text of the script that brings a design again
+abbrev pub again_script : List TableDef → List ℕ → List Edit → List ℕ
+again_script tables name edits = script_text (again_records tables name edits)

@@ -13,7 +13,7 @@ use clr_steps::{Command, Edits, Reply};
 use std::alloc::{AllocError, Global};
 
 /// Performs a command, and returns why it is refused, if it is; then nothing changes. If memory runs out, nothing changes.
-fn perform(office: &mut Office, command: &Command) -> Result<Option<Reply>, AllocError>
+pub(crate) fn perform(office: &mut Office, command: &Command) -> Result<Option<Reply>, AllocError>
     ensures performed { IfOk result (λ refused. IsCommandAnswer office.old command.now refused office.new) }
     ensures err { OnErr result (office.new ≡ office.old) }
 {
@@ -41,7 +41,7 @@ fn create_workspace(
 }
 
 /// Makes edits in LIVE or in a workspace, or returns why they can't be made. If memory runs out, nothing changes.
-fn apply_edits(
+pub(crate) fn apply_edits(
     alloc: Global,
     office: &mut Office,
     ws: &str,

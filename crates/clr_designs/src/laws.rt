@@ -1,7 +1,7 @@
 //! The laws of designs and of the scripts that make them, proved by functions that do nothing.
 
-ghost use Rattle.clr_designs.specs.Laws.{DesignLaw, EditsFitLaw, SinceLaw};
-ghost use Rattle.clr_designs.specs.ReadBack.{ReadBackLaw};
+ghost use Rattle.clr_designs.specs.Laws.{AgainLaw, DesignLaw, EditsFitLaw, SinceLaw};
+ghost use Rattle.clr_designs.specs.ReadBack.{AgainReadBackLaw, ReadBackLaw};
 
 /// Where a workspace may be created under LIVE, the command that creates it and the one that makes in it the edits between LIVE's content and
 /// another are both done. They leave the office with this one more workspace, whose base is LIVE's content and whose current content is the
@@ -18,8 +18,21 @@ pub fn designs_were_made_since()
     ensures { SinceLaw }
 {}
 
+/// Where a workspace under LIVE may be rolled back, and may then have a content, the command that rolls it back and the one that makes in it the
+/// edits between its base and this content are both done. They leave the office in which it has the base that it had, and changes just what the
+/// content changes of the base; it is in conflict just at the cells that LIVE has changed of the base too.
+pub fn designs_are_brought_again()
+    ensures { AgainLaw }
+{}
+
 /// The text of the script that makes a design is read as the two steps that make it: one that
 /// creates the workspace, and one that applies the edits.
 pub fn design_script_is_read_back()
     ensures { ReadBackLaw }
+{}
+
+/// The text of the script that brings a design again is read as the two steps that do: one that rolls the workspace back to its base, and one that
+/// applies the edits.
+pub fn again_script_is_read_back()
+    ensures { AgainReadBackLaw }
 {}

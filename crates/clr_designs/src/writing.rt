@@ -1,4 +1,4 @@
-//! The script that makes a design, written as CSV.
+//! The scripts that make a design and bring one again, written as CSV.
 
 ghost use Rattle.std.specs.Prelude.{◌≡◌, ◌++◌, ◌∷◌, [], Ok, IfOk, OnOk, map};
 ghost use Rattle.std.specs.List.{All};
@@ -7,7 +7,7 @@ ghost use Rattle.csv.specs.Writing.{row_text};
 ghost use Rattle.clr_lines.specs.Rows.{IsBetweenRows, cell_fields, row_fields, rows_writer};
 ghost use Rattle.clr_scripts.specs.Scripts.{script_in_text};
 ghost use Rattle.clr_records.specs.Writing.{written_by};
-ghost use Rattle.clr_designs.specs.Scripts.{design_script, design_steps, edit_fields, script_text};
+ghost use Rattle.clr_designs.specs.Scripts.{again_script, again_steps, design_script, design_steps, edit_fields, script_text};
 ghost use Rattle.clr_records.specs.Values.{IsText};
 ghost use Rattle.clr_designs.specs.ReadBack.{Fits, HasTexts};
 
@@ -94,6 +94,23 @@ fn add_command(
     add_record(writer, &fields)
 }
 
+/// Writes the record of a command with one word behind its own.
+fn add_short_command(
+    alloc: Global,
+    writer: &mut Writer<Vec<u8>>,
+    command: &str,
+    word: &str,
+) -> Result<(), AllocError>
+    requires { IsBetweenRows writer.old }
+    ensures between { OnOk result (IsBetweenRows writer.new) }
+    ensures written { OnOk result (written_by writer.new ≡ written_by writer.old ++ row_text rows_writer (command.now ∷ word.now ∷ [])) }
+{
+    let mut fields = ByteRecord::new(alloc);
+    add_field(&mut fields, command.as_bytes())?;
+    add_field(&mut fields, word.as_bytes())?;
+    add_record(writer, &fields)
+}
+
 fn add_edits(
     alloc: Global,
     writer: &mut Writer<Vec<u8>>,
@@ -156,5 +173,47 @@ pub fn write_design_script(
 {
     let _sound = schema.tables();
     let text = design_text(alloc, schema, name, root, edits)?;
+    Ok(text)
+}
+
+/// Returns the text of the script that brings a design again.
+fn again_text(
+    alloc: Global,
+    schema: &Schema,
+    name: &str,
+    edits: &[Edit],
+) -> Result<Vec<u8>, AllocError>
+    ensures written { IfOk result (λ text. text.items ≡ again_script schema.now name.now edits.now) }
+    ensures texts { OnOk result (All HasTexts edits.now) }
+{
+    let mut writer = WriterBuilder::new()
+        .flexible(true)
+        .from_writer(Vec::new(alloc));
+    add_short_command(alloc, &mut writer, "rollall", name)?;
+    let mut digits = Buffer::new();
+    let count = digits.format(edits.len());
+    add_command(alloc, &mut writer, "apply", name, count)?;
+    add_edits(alloc, &mut writer, schema, edits)?;
+    match writer.into_inner() {
+        Ok(text) => Ok(text),
+        Err(_) => Err(AllocError),
+    }
+}
+
+/// Returns the text of the script that brings a design again: `rollall,NAME`, then `apply,NAME,N` and the N edits in their order, as
+/// `write_design_script` writes them. Where each edit fits the schema, the text is read as a step that rolls the workspace back to its base and one
+/// that applies these edits.
+#[tactic(auto, using(crate::proofs::ScriptAgain::again_written))]
+pub fn write_again_script(
+    alloc: Global,
+    schema: &Schema,
+    name: &str,
+    edits: &[Edit],
+) -> Result<Vec<u8>, AllocError>
+    ensures written { IfOk result (λ text. text.items ≡ again_script schema.now name.now edits.now) }
+    ensures read_back { IfOk result (λ text. All (Fits schema.now) edits.now → script_in_text schema.now text.items ≡ Ok (again_steps name.now edits.now)) }
+{
+    let _sound = schema.tables();
+    let text = again_text(alloc, schema, name, edits)?;
     Ok(text)
 }

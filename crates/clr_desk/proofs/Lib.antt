@@ -1,11 +1,8 @@
 mod LayerReportLemmas
-mod LineEnds
-mod LinedTexts
+mod OneAgain
 mod OneAnswer
 mod OneChoice
 mod OneDeskAnswer
 mod OnePrint
 mod PlaceLemmas
-mod Trying
 mod Untorn
-mod WaitingLemmas

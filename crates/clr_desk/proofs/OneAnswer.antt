@@ -53,13 +53,13 @@ use Rattle.clr_desk_errors.specs.Mended.{AreMended, IsMendedPrint, mended_text}
 use Rattle.clr_desk_prints.specs.Members.{members_or_children}
 use Rattle.clr_desk_prints.specs.NameHints.{with_lines}
 use Rattle.clr_desk_prints.specs.Printing.{PrintoutOrFault, printout_of}
-use Rattle.clr_desk.specs.Certificates.{IsPlanPrint}
+use Rattle.clr_desk_plans.specs.Certificates.{IsPlanPrint}
 use Rattle.clr_desk_orders.specs.PlanPrints.{plan_print}
-use Rattle.clr_desk.specs.Checks.{IsCheckPrint, check_print}
-use Rattle.clr_desk.specs.Choices as choices
-use Rattle.clr_desk.specs.Formats.{IsFormatPrint, IsInLines, in_lines, in_one_line}
-use Rattle.clr_desk.specs.Merges as merging
-use Rattle.clr_desk.specs.Merges.{IsMergePrintout, merge_print, verdict_print}
+use Rattle.clr_desk_merges.specs.Checks.{IsCheckPrint, check_print}
+use Rattle.clr_desk_plans.specs.Choices as choices
+use Rattle.clr_desk_formats.specs.Formats.{IsFormatPrint, IsInLines, in_lines, in_one_line}
+use Rattle.clr_desk_merges.specs.Merges as merging
+use Rattle.clr_desk_merges.specs.Merges.{IsMergePrintout, merge_print, verdict_print}
 use Rattle.clr_desk.specs.OneAnswer.{FoundMemory, IsOnePrint}
 
 -- plans --------------------------------------------------------------------------------------

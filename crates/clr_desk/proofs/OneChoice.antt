@@ -19,7 +19,7 @@ use Rattle.clr_desk_orders.specs.PlanPrints.{plan_print}
 use Rattle.clr_choices.specs.ChoiceLines.{left_text, refusal_if_any}
 use Rattle.clr_choices.specs.Clearable.{IsPlanOf}
 use Rattle.clr_choices.specs.Trials.{AreTrials, IsTold, IsTrialAt, Trial, is_taken, members_tried, taken_in}
-use Rattle.clr_desk.specs.Choices.{IsChoicePrint, of_nobody, of_trials}
+use Rattle.clr_desk_plans.specs.Choices.{IsChoicePrint, of_nobody, of_trials}
 use Rattle.clr_desk_orders.specs.ChoicePrints.{choice_print, names_line}
 use Rattle.clr_desk.specs.OneAnswer.{FoundMemory, IsOnePrint}
 use Rattle.clr_desk.proofs.OneAnswer.{found_plan, same_plan_print, same_text}

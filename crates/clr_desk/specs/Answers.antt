@@ -11,59 +11,64 @@ use Rattle.clr_process_io.specs.declared.faults.RunFault.{RunFault}
 use Rattle.clr_process_io.specs.declared.faults.RunFault.TheVariants as run_fault
 use Rattle.clr_desk_command_line.specs.declared.asks.DeskAsk.{DeskAsk}
 use Rattle.clr_desk_command_line.specs.declared.asks.DeskAsk.TheVariants as ask
-use Rattle.clr_desk.specs.Certificates.{IsCertificatePrint}
-use Rattle.clr_desk.specs.Checks.{IsCheckPrint}
-use Rattle.clr_desk.specs.Choices.{IsChoicePrint}
+use Rattle.clr_desk_designs.specs.declared.layered_designs.LayeredDesign.{LayeredDesign}
+use Rattle.clr_desk_plans.specs.Certificates.{IsCertificatePrint}
+use Rattle.clr_desk_merges.specs.Checks.{IsCheckPrint}
+use Rattle.clr_desk_plans.specs.Choices.{IsChoicePrint}
 use Rattle.clr_desk_clashes.specs.Clashes.{IsClashesPrint}
-use Rattle.clr_desk.specs.Formats.{IsFormatPrint}
+use Rattle.clr_desk_formats.specs.Formats.{IsFormatPrint}
 use Rattle.clr_desk.specs.Geographic.{IsGeographicAnswer}
-use Rattle.clr_desk.specs.InOrder.{IsInOrderPrint}
-use Rattle.clr_desk.specs.Merges.{IsHintedMerge}
+use Rattle.clr_desk_plans.specs.InOrder.{IsInOrderPrint}
+use Rattle.clr_desk.specs.LayerWhys.{IsLayersWhy}
+use Rattle.clr_desk_merges.specs.Merges.{IsHintedMerge}
 use Rattle.clr_desk_prints.specs.NameHints.{IsHinted}
-use Rattle.clr_desk.specs.Orders.{IsOrderPrint}
+use Rattle.clr_desk_plans.specs.Orders.{IsOrderPrint}
 use Rattle.clr_desk_prints.specs.Printing.{IsPrintoutFault, IsPrintoutIn, IsPrintoutOfCase, Printout, PrintoutOrFault}
 use Rattle.clr_desk.specs.Whys.{IsWhyPrint}
 use Rattle.clr_desk_errors.specs.Accepting.{IsAcceptPrint, IsPrintoutOfDraft}
-use Rattle.clr_desk_errors.specs.ErrorLines.{IsErrorsPrint}
+use Rattle.clr_desk_error_lists.specs.ErrorLines.{IsErrorsPrint}
 use Rattle.clr_desk_errors.specs.Mended.{IsMendedPrint}
 use Rattle.clr_desk_pages.specs.Maps.{IsMapPrint}
 use Rattle.clr_desk_pages.specs.Reports.{IsReportPrint}
 
--- what is to be printed for what is asked of an office text, a second text and layers
-abbrev pub IsDeskAnswerWithin : DeskAsk → List ℕ → List ℕ → List GivenLayer → PrintoutOrFault → Type 0
-IsDeskAnswerWithin (ask.Certificate root names) office second layers print =
+-- what is to be printed for what is asked of an office text, a second text, layers and designs
+abbrev pub IsDeskAnswerWithin : DeskAsk → List ℕ → List ℕ → List GivenLayer → List LayeredDesign → PrintoutOrFault → Type 0
+IsDeskAnswerWithin (ask.Certificate root names) office second layers designs print =
     IsPrintoutIn (IsHinted (IsCertificatePrint root names) (root ∷ names)) (opened_in office) print
-IsDeskAnswerWithin ask.Check office certificate layers print = IsPrintoutOfCase IsCheckPrint (case_of office certificate) print
-IsDeskAnswerWithin (ask.Merge names) office certificate layers print = IsPrintoutOfCase (IsHintedMerge names) (case_of office certificate) print
-IsDeskAnswerWithin ask.Format office second layers print = IsPrintoutIn IsFormatPrint (opened_in office) print
-IsDeskAnswerWithin ask.Accept office second layers print = IsPrintoutOfDraft IsAcceptPrint (draft_in office) print
-IsDeskAnswerWithin ask.Mended office second layers print = IsPrintoutOfDraft (IsMendedPrint (known_in office)) (draft_in office) print
-IsDeskAnswerWithin ask.Errors office second layers print = IsPrintoutOfDraft (IsErrorsPrint (known_in office)) (draft_in office) print
-IsDeskAnswerWithin (ask.Keep root names) office second layers print = IsPrintoutIn (IsHinted (IsChoicePrint root names) (root ∷ names)) (opened_in office) print
-IsDeskAnswerWithin (ask.Clashes root names) office second layers print =
+IsDeskAnswerWithin ask.Check office certificate layers designs print = IsPrintoutOfCase IsCheckPrint (case_of office certificate) print
+IsDeskAnswerWithin (ask.Merge names) office certificate layers designs print = IsPrintoutOfCase (IsHintedMerge names) (case_of office certificate) print
+IsDeskAnswerWithin ask.Format office second layers designs print = IsPrintoutIn IsFormatPrint (opened_in office) print
+IsDeskAnswerWithin ask.Accept office second layers designs print = IsPrintoutOfDraft IsAcceptPrint (draft_in office) print
+IsDeskAnswerWithin ask.Mended office second layers designs print = IsPrintoutOfDraft (IsMendedPrint (known_in office)) (draft_in office) print
+IsDeskAnswerWithin ask.Errors office second layers designs print = IsPrintoutOfDraft (IsErrorsPrint (known_in office)) (draft_in office) print
+IsDeskAnswerWithin (ask.Keep root names) office second layers designs print =
+    IsPrintoutIn (IsHinted (IsChoicePrint root names) (root ∷ names)) (opened_in office) print
+IsDeskAnswerWithin (ask.Clashes root names) office second layers designs print =
     IsPrintoutIn (IsHinted (IsClashesPrint root names) (root ∷ names)) (opened_in office) print
-IsDeskAnswerWithin (ask.InOrder asked root names) office second layers print =
+IsDeskAnswerWithin (ask.InOrder asked root names) office second layers designs print =
     IsPrintoutIn (IsHinted (IsInOrderPrint asked root names) (root ∷ names)) (opened_in office) print
-IsDeskAnswerWithin (ask.Why kind) office second layers print = IsWhyPrint kind office second print
-IsDeskAnswerWithin (ask.Map root names) office second layers print =
+IsDeskAnswerWithin (ask.Why kind) office second layers designs print = IsWhyPrint kind office second print
+IsDeskAnswerWithin (ask.Map root names) office second layers designs print =
     IsPrintoutIn (IsHinted (IsMapPrint root names) (root ∷ names)) (opened_in office) print
-IsDeskAnswerWithin (ask.Report root names) office second layers print =
+IsDeskAnswerWithin (ask.Report root names) office second layers designs print =
     IsPrintoutIn (IsHinted (IsReportPrint root names) (root ∷ names)) (opened_in office) print
-IsDeskAnswerWithin (ask.WorkOrder root names) office second layers print =
+IsDeskAnswerWithin (ask.WorkOrder root names) office second layers designs print =
     IsPrintoutIn (IsHinted (IsOrderPrint root names) (root ∷ names)) (opened_in office) print
-IsDeskAnswerWithin (ask.Geographic asked) office second layers print = IsGeographicAnswer asked office second layers print
+IsDeskAnswerWithin (ask.WhyLayers asked) office second layers designs print = IsLayersWhy asked office layers print
+IsDeskAnswerWithin (ask.Geographic asked) office second layers designs print = IsGeographicAnswer asked office second layers designs print
+IsDeskAnswerWithin (ask.Skipping asked file) office second layers designs print = IsGeographicAnswer asked office second layers designs print
 
 -- what is answered, where it is given whether a text is too long
-abbrev pub IsDeskAnswerIf : Bool → DeskAsk → List ℕ → List ℕ → List GivenLayer → PrintoutOrFault → Type 0
-IsDeskAnswerIf true asked office second layers print = print ≡ Err run_fault.TooLong
-IsDeskAnswerIf false asked office second layers print = IsDeskAnswerWithin asked office second layers print
+abbrev pub IsDeskAnswerIf : Bool → DeskAsk → List ℕ → List ℕ → List GivenLayer → List LayeredDesign → PrintoutOrFault → Type 0
+IsDeskAnswerIf true asked office second layers designs print = print ≡ Err run_fault.TooLong
+IsDeskAnswerIf false asked office second layers designs print = IsDeskAnswerWithin asked office second layers designs print
 
 abbrev pub is_too_long_layer : GivenLayer → Bool
 is_too_long_layer layer = is_too_long layer.text.items
 
-abbrev pub IsDeskAnswerTo : DeskAsk → List ℕ → List ℕ → List GivenLayer → PrintoutOrFault → Type 0
-IsDeskAnswerTo asked office second layers print =
-    IsDeskAnswerIf (is_too_long office || is_too_long second || list_any is_too_long_layer layers) asked office second layers print
+abbrev pub IsDeskAnswerTo : DeskAsk → List ℕ → List ℕ → List GivenLayer → List LayeredDesign → PrintoutOrFault → Type 0
+IsDeskAnswerTo asked office second layers designs print =
+    IsDeskAnswerIf (is_too_long office || is_too_long second || list_any is_too_long_layer layers) asked office second layers designs print
 
 -- the sink of the text and that of the notes: what each held before and holds now, where it tells, and whether it failed
 pub record Sinks : Type 0 where

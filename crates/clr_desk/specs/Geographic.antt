@@ -1,5 +1,5 @@
 -- What is printed in the texts of geographic information systems, and of such texts.
-use Rattle.std.specs.Prelude.{ℕ, Bool, List, [], ◌∷◌}
+use Rattle.std.specs.Prelude.{ℕ, Bool, true, false, List, [], ◌∷◌}
 use Rattle.clr_office_reading.specs.Offices.{known_in}
 use Rattle.clr_office_texts.specs.Drafts.{draft_in, opened_in}
 use Rattle.clr_desk_command_line.specs.declared.asks.GeographicAsk.{GeographicAsk}
@@ -7,10 +7,14 @@ use Rattle.clr_desk_command_line.specs.declared.asks.GeographicAsk.TheVariants a
 use Rattle.clr_layer_changes.specs.declared.options.GivenLayer.{GivenLayer}
 use Rattle.clr_layer_changes.specs.declared.options.LayerOptions.{LayerOptions}
 use Rattle.clr_desk_errors.specs.Accepting.{IsPrintoutOfDraft}
-use Rattle.clr_desk_errors.specs.ErrorFeatures.{IsErrorFeaturesAnswer}
+use Rattle.clr_desk_error_lists.specs.ErrorFeatures.{IsErrorFeaturesAnswer}
 use Rattle.clr_desk_layers.specs.Designs.{IsAcceptedOfficePrint, IsDesignPrint, IsDesignScriptPrint, IsOfficePrint}
 use Rattle.clr_desk_layers.specs.Since.{IsDesignSincePrint}
+use Rattle.clr_desk_designs.specs.Again.{IsAgainPrint, IsDesignAnewPrint}
+use Rattle.clr_desk_designs.specs.InTurn.{IsDesignsPrint, IsDesignsSincePrint}
+use Rattle.clr_desk_designs.specs.declared.layered_designs.LayeredDesign.{LayeredDesign}
 use Rattle.clr_desk_command_line.specs.declared.asks.DesignAsk.{DesignAsk}
+use Rattle.clr_desk_command_line.specs.declared.asks.DesignsAsk.{DesignsAsk}
 use Rattle.clr_desk_pages.specs.Features.{IsFeaturesAnswer}
 use Rattle.clr_desk_layers.specs.Layers.{IsLayerPrint}
 use Rattle.clr_desk_prints.specs.NameHints.{IsHinted}
@@ -24,19 +28,33 @@ options_of first_key rounded = record { first_key = first_key; rounded = rounded
 abbrev pub design_options : DesignAsk → LayerOptions
 design_options design = options_of design.first_key design.is_rounded
 
--- what is to be printed for what is asked of an office text, a second one, which is that of the office from which layers were copied, and layers
-abbrev pub IsGeographicAnswer : GeographicAsk → List ℕ → List ℕ → List GivenLayer → PrintoutOrFault → Type 0
-IsGeographicAnswer (ask.Features root names system) office second layers print = IsFeaturesAnswer root names system (opened_in office) print
-IsGeographicAnswer (ask.Layer table workspace) office second layers print =
+-- the layers of the designs of a folder are read so
+abbrev pub folder_options : DesignsAsk → LayerOptions
+folder_options designs = options_of designs.first_key designs.is_rounded
+
+-- what is to be printed for what is asked of an office text, a second one, which is that of the office from which layers were copied, layers, and designs
+abbrev pub IsGeographicAnswer : GeographicAsk → List ℕ → List ℕ → List GivenLayer → List LayeredDesign → PrintoutOrFault → Type 0
+IsGeographicAnswer (ask.Features root names system) office second layers designs print = IsFeaturesAnswer root names system (opened_in office) print
+IsGeographicAnswer (ask.Layer table workspace) office second layers designs print =
     IsPrintoutIn (IsHinted (IsLayerPrint table workspace) (workspace ∷ [])) (opened_in office) print
-IsGeographicAnswer (ask.Office tables rounded) office second layers print =
+IsGeographicAnswer (ask.Office tables rounded) office second layers designs print =
     IsPrintoutIn (IsOfficePrint (options_of 1 rounded) layers) (opened_in office) print
-IsGeographicAnswer (ask.AcceptedOffice tables rounded) office second layers print =
+IsGeographicAnswer (ask.AcceptedOffice tables rounded) office second layers designs print =
     IsPrintoutOfDraft (IsAcceptedOfficePrint (options_of 1 rounded) layers) (draft_in office) print
-IsGeographicAnswer (ask.ErrorFeatures system) office second layers print = IsErrorFeaturesAnswer (known_in office) system (draft_in office) print
-IsGeographicAnswer (ask.Design design) office second layers print =
+IsGeographicAnswer (ask.ErrorFeatures system) office second layers designs print = IsErrorFeaturesAnswer (known_in office) system (draft_in office) print
+IsGeographicAnswer (ask.Design design) office second layers designs print =
     IsPrintoutIn (IsDesignPrint design.name (design_options design) design.may_remove layers) (opened_in office) print
-IsGeographicAnswer (ask.DesignSince design) office copied layers print =
+IsGeographicAnswer (ask.DesignSince design) office copied layers designs print =
     IsPrintoutIn (IsDesignSincePrint copied design.name (design_options design) design.may_remove layers) (opened_in office) print
-IsGeographicAnswer (ask.DesignScript design) office second layers print =
+IsGeographicAnswer (ask.DesignScript design) office second layers designs print =
     IsPrintoutIn (IsDesignScriptPrint design.name (design_options design) design.may_remove layers) (opened_in office) print
+IsGeographicAnswer (ask.DesignAgain design) office second layers designs print =
+    IsPrintoutIn (IsHinted (IsAgainPrint false design.name (design_options design) design.may_remove layers) (design.name ∷ [])) (opened_in office) print
+IsGeographicAnswer (ask.DesignAnew design) office copied layers designs print =
+    IsPrintoutIn (IsHinted (IsDesignAnewPrint copied design.name (design_options design) design.may_remove layers) (design.name ∷ [])) (opened_in office) print
+IsGeographicAnswer (ask.DesignAgainScript design) office second layers designs print =
+    IsPrintoutIn (IsHinted (IsAgainPrint true design.name (design_options design) design.may_remove layers) (design.name ∷ [])) (opened_in office) print
+IsGeographicAnswer (ask.Designs asked) office second layers designs print =
+    IsPrintoutIn (IsDesignsPrint (folder_options asked) asked.may_remove designs) (opened_in office) print
+IsGeographicAnswer (ask.DesignsSince asked) office copied layers designs print =
+    IsPrintoutIn (IsDesignsSincePrint copied (folder_options asked) asked.may_remove designs) (opened_in office) print

@@ -6,6 +6,7 @@ use Rattle.clr_steps.specs.Offices.{Office}
 use Rattle.clr_rule_text.specs.declared.faults.TextFault.{TextFault}
 use Rattle.clr_desk_command_line.specs.declared.asks.DeskAsk.{DeskAsk}
 use Rattle.clr_desk_command_line.specs.declared.asks.DeskAsk.TheVariants as ask
+use Rattle.clr_desk_command_line.specs.declared.asks.GeographicAsk.{GeographicAsk}
 use Rattle.clr_desk_command_line.specs.declared.asks.GeographicAsk.TheVariants as geographic
 use Rattle.clr_layer_changes.specs.declared.options.GivenLayer.{GivenLayer}
 use Rattle.clr_layer_reports.specs.Degrees.{degrees_text}
@@ -13,13 +14,25 @@ use Rattle.clr_layer_reports.specs.Reports.{IsLayerReport}
 use Rattle.clr_desk.specs.FaultPlaces.{file_name}
 use Rattle.clr_desk.specs.GivenLayers.{office_count}
 
+-- coordinates of the layers that are asked for in the texts of geographic information systems are rounded
+abbrev pub are_rounded : GeographicAsk → Bool
+are_rounded (geographic.Office tables rounded) = rounded
+are_rounded (geographic.AcceptedOffice tables rounded) = rounded
+are_rounded (geographic.Design design) = design.is_rounded
+are_rounded (geographic.DesignSince design) = design.is_rounded
+are_rounded (geographic.DesignScript design) = design.is_rounded
+are_rounded (geographic.DesignAgain design) = design.is_rounded
+are_rounded (geographic.DesignAnew design) = design.is_rounded
+are_rounded (geographic.DesignAgainScript design) = design.is_rounded
+are_rounded (geographic.Designs designs) = designs.is_rounded
+are_rounded (geographic.DesignsSince designs) = designs.is_rounded
+are_rounded _ = false
+
 -- coordinates of the layers that are asked for are rounded
 abbrev pub is_rounded : DeskAsk → Bool
-is_rounded (ask.Geographic (geographic.Office tables rounded)) = rounded
-is_rounded (ask.Geographic (geographic.AcceptedOffice tables rounded)) = rounded
-is_rounded (ask.Geographic (geographic.Design design)) = design.is_rounded
-is_rounded (ask.Geographic (geographic.DesignSince design)) = design.is_rounded
-is_rounded (ask.Geographic (geographic.DesignScript design)) = design.is_rounded
+is_rounded (ask.Geographic asked) = are_rounded asked
+is_rounded (ask.Skipping asked file) = are_rounded asked
+is_rounded (ask.WhyLayers asked) = asked.is_rounded
 is_rounded _ = false
 
 -- what is said of the layers from a position on, one behind another, by the names of their files, of which the first layer's has a position too

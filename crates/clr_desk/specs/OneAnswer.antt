@@ -5,26 +5,31 @@ use Rattle.clr_desk_command_line.specs.declared.asks.DeskAsk.TheVariants as ask
 use Rattle.clr_desk_command_line.specs.declared.asks.GeographicAsk.{GeographicAsk}
 use Rattle.clr_desk_command_line.specs.declared.asks.GeographicAsk.TheVariants as geographic
 use Rattle.clr_layer_changes.specs.declared.options.GivenLayer.{GivenLayer}
+use Rattle.clr_desk_designs.specs.declared.layered_designs.LayeredDesign.{LayeredDesign}
 use Rattle.clr_desk_prints.specs.Printing.{PrintoutOrFault}
 use Rattle.clr_desk.specs.Answers.{IsDeskAnswerTo}
 
 -- what is asked has an answer that its definition tells whole; of clashes, orders, errors, faults, sentences, pictures, pages, features and layers it
--- leaves something open
+-- leaves something open, and of the designs of a folder nothing is said here
 abbrev pub is_whole_layer : GeographicAsk → Bool
 is_whole_layer (geographic.Features root names system) = false
 is_whole_layer (geographic.Layer table workspace) = false
 is_whole_layer (geographic.ErrorFeatures system) = false
+is_whole_layer (geographic.Designs asked) = false
+is_whole_layer (geographic.DesignsSince asked) = false
 is_whole_layer _ = true
 
 abbrev pub is_whole : DeskAsk → Bool
 is_whole (ask.Clashes root names) = false
 is_whole (ask.InOrder asked root names) = false
 is_whole (ask.Why kind) = false
+is_whole (ask.WhyLayers asked) = false
 is_whole ask.Errors = false
 is_whole (ask.WorkOrder root names) = false
 is_whole (ask.Map root names) = false
 is_whole (ask.Report root names) = false
 is_whole (ask.Geographic asked) = is_whole_layer asked
+is_whole (ask.Skipping asked file) = is_whole_layer asked
 is_whole _ = true
 
 -- no plan, verdict or merge found no memory: the status isn't the one that says so
@@ -38,5 +43,5 @@ IsOnePrint IsPrint = (print other : PrintoutOrFault) → IsPrint print → IsPri
 
 -- two answers to what is asked of the same texts have one text, the same notes and one status, or one fault
 abbrev pub OneDeskAnswerLaw : Type 0
-OneDeskAnswerLaw = (asked : DeskAsk) (office second : List ℕ) (layers : List GivenLayer) → is_whole asked ≡ true
-    → IsOnePrint (IsDeskAnswerTo asked office second layers)
+OneDeskAnswerLaw = (asked : DeskAsk) (office second : List ℕ) (layers : List GivenLayer) (designs : List LayeredDesign) → is_whole asked ≡ true
+    → IsOnePrint (IsDeskAnswerTo asked office second layers designs)

@@ -7,33 +7,33 @@ ghost use Rattle.clr_process_io.specs.declared.faults.RunFault.TheVariants as ru
 ghost use Rattle.clr_desk.specs.Answers.{IsDeskAnswer, IsDeskAnswerTo, IsDeskAnswerWithin, is_too_long_layer};
 ghost use Rattle.clr_desk_prints.specs.Printing.{IsMadePrintout};
 
-use crate::certificates::answer_certificate;
-use crate::checks::answer_check;
-use crate::choices::answer_keep;
-use crate::formats::answer_format;
 use crate::geographic::answer_geographic;
-use crate::in_order::answer_in_order;
-use crate::merges::answer_merge;
-use crate::orders::answer_work_order;
+use crate::layer_whys::answer_layers_why;
 use crate::whys::answer_why;
 use clr_desk_clashes::answer_clashes;
 use clr_desk_command_line::DeskAsk;
-use clr_desk_errors::{answer_accept, answer_errors, answer_mended};
+use clr_desk_designs::LayeredDesign;
+use clr_desk_error_lists::answer_errors;
+use clr_desk_errors::{answer_accept, answer_mended};
+use clr_desk_formats::answer_format;
 use clr_desk_layers::GivenLayer;
+use clr_desk_merges::{answer_check, answer_merge};
 use clr_desk_pages::{answer_map, answer_report};
+use clr_desk_plans::{answer_certificate, answer_in_order, answer_keep, answer_work_order};
 use clr_desk_prints::Print;
 use clr_office::{MOST_INPUT_BYTES, RunFault, Sink};
 use std::alloc::Global;
 
-/// Returns what is printed for what is asked of two texts and of layers.
+/// Returns what is printed for what is asked of two texts, of layers and of designs.
 fn answer_texts(
     alloc: Global,
     ask: &DeskAsk,
     office: &[u8],
     second: &[u8],
     layers: &[GivenLayer],
+    designs: &[LayeredDesign],
 ) -> Result<Print, RunFault>
-    ensures { IsMadePrintout (IsDeskAnswerWithin ask.now office.now second.now layers.now) result }
+    ensures { IsMadePrintout (IsDeskAnswerWithin ask.now office.now second.now layers.now designs.now) result }
 {
     match ask {
         DeskAsk::Certificate(root, names) => {
@@ -60,7 +60,9 @@ fn answer_texts(
             names.as_slice(),
         ),
         DeskAsk::Why(kind) => answer_why(alloc, kind, office, second),
-        DeskAsk::Geographic(ask) => answer_geographic(alloc, ask, office, second, layers),
+        DeskAsk::WhyLayers(asked) => answer_layers_why(alloc, asked, office, layers),
+        DeskAsk::Geographic(ask) => answer_geographic(alloc, ask, office, second, layers, designs),
+        DeskAsk::Skipping(ask, _) => answer_geographic(alloc, ask, office, second, layers, designs),
         DeskAsk::Map(root, names) => answer_map(alloc, office, root.as_str(), names.as_slice()),
         DeskAsk::Report(root, names) => answer_report(
             alloc,
@@ -84,11 +86,12 @@ fn is_any_too_long(layers: &[GivenLayer]) -> bool
 }
 
 /// Writes what is to be printed for what is asked of an office text, of a second text, which is the
-/// script, the certificate or the office that was copied where there is one, and of layers, where they are asked for, each with its
-/// table: the notes by one put, and then the text by another.
-/// Returns the exit status: 0 all done or cleared, or no fault; 1 something refused, members that can't be
-/// merged in every order, or a rule that doesn't hold; 2 a fault, where `why` asks for it, or the fault of
-/// a layer; 3 a plan, a verdict or a merge found no memory, and then there is no text. Where a rule doesn't hold the line that
+/// script, the certificate or the office that was copied where there is one, of layers, each with its table, and of the designs of a folder,
+/// each with its name and its layers, where they are asked for: the notes by one put, and then the text by another. Where records with faults
+/// are to be skipped, the layer is given without them.
+/// Returns the exit status: 0 all done or cleared, or no fault; 1 something refused, or members that can't be
+/// merged in every order; 2 a fault, where `why` asks for it, or the fault of a layer; 3 a plan, a verdict or a merge found no memory, and then there
+/// is no text; 4 a need is broken that isn't known; 5 something refused, and a name that nothing has. Where a rule doesn't hold the line that
 /// says so is the only note, and there is no text, unless `why` asks for it. The first fault that applies
 /// answers, and nothing is written then, unless a sink failed. Fails with `TooLong` where a text or a layer has more
 /// than `MOST_INPUT_BYTES`, with `BadOffice` where the first text is no office, or the second where it is asked for as one, with `BadCertificate` where
@@ -101,12 +104,13 @@ pub fn answer<W: Sink, N: Sink>(
     office: &[u8],
     second: &[u8],
     layers: &[GivenLayer],
+    designs: &[LayeredDesign],
     writer: &mut W,
     notes: &mut N,
 ) -> Result<u8, RunFault>
     requires writer { W.failed writer.old ≡ false }
     requires notes { N.failed notes.old ≡ false }
-    ensures answers { IsDeskAnswer (IsDeskAnswerTo ask.now office.now second.now layers.now) (record {
+    ensures answers { IsDeskAnswer (IsDeskAnswerTo ask.now office.now second.now layers.now designs.now) (record {
       text_held = W.contents writer.old;
       text_holds = W.contents writer.new;
       text_failed = W.failed writer.new;
@@ -123,7 +127,7 @@ pub fn answer<W: Sink, N: Sink>(
     {
         return Err(RunFault::TooLong);
     }
-    let print = match answer_texts(alloc, ask, office, second, layers) {
+    let print = match answer_texts(alloc, ask, office, second, layers, designs) {
         Ok(print) => print,
         Err(fault) => return Err(fault),
     };

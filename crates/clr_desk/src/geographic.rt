@@ -1,11 +1,14 @@
 //! What is printed in the texts of geographic information systems, and of such texts.
 
 ghost use Rattle.std.specs.Prelude.{◌≡◌};
-ghost use Rattle.clr_desk.specs.Geographic.{IsGeographicAnswer, design_options, options_of};
+ghost use Rattle.clr_desk.specs.Geographic.{IsGeographicAnswer, design_options, folder_options, options_of};
 ghost use Rattle.clr_desk_prints.specs.Printing.{IsMadePrintout};
 
-use clr_desk_command_line::{DesignAsk, GeographicAsk};
-use clr_desk_errors::answer_error_features;
+use clr_desk_command_line::{DesignAsk, DesignsAsk, GeographicAsk};
+use clr_desk_designs::{
+    LayeredDesign, answer_design_again, answer_design_anew, answer_designs, answer_designs_since,
+};
+use clr_desk_error_lists::answer_error_features;
 use clr_desk_layers::{
     GivenLayer, LayerOptions, answer_accepted_office, answer_design, answer_design_script,
     answer_design_since, answer_layer, answer_office,
@@ -35,16 +38,27 @@ fn design_options(design: &DesignAsk) -> LayerOptions
     }
 }
 
-/// Returns what is printed for what is asked of an office text, of a second one and of layers in the texts of geographic information systems. The second
-/// is the text of the office from which layers were copied where one is given.
+/// Returns how the layers of the designs of a folder are read.
+fn folder_options(designs: &DesignsAsk) -> LayerOptions
+    ensures { result ≡ folder_options designs.now }
+{
+    LayerOptions {
+        first_key: designs.first_key,
+        rounded: designs.is_rounded,
+    }
+}
+
+/// Returns what is printed for what is asked of an office text, of a second one, of layers and of designs in the texts of geographic information
+/// systems. The second is the text of the office from which layers were copied where one is given.
 pub(crate) fn answer_geographic(
     alloc: Global,
     ask: &GeographicAsk,
     office: &[u8],
     second: &[u8],
     layers: &[GivenLayer],
+    designs: &[LayeredDesign],
 ) -> Result<Print, RunFault>
-    ensures { IsMadePrintout (IsGeographicAnswer ask.now office.now second.now layers.now) result }
+    ensures { IsMadePrintout (IsGeographicAnswer ask.now office.now second.now layers.now designs.now) result }
 {
     match ask {
         GeographicAsk::Features(root, names, system) => answer_geojson(
@@ -78,6 +92,43 @@ pub(crate) fn answer_geographic(
         GeographicAsk::DesignScript(design) => {
             let (name, options) = (design.name.as_str(), design_options(design));
             answer_design_script(alloc, office, name, options, design.may_remove, layers)
+        }
+        GeographicAsk::DesignAgain(design) => {
+            let (name, options) = (design.name.as_str(), design_options(design));
+            answer_design_again(
+                alloc,
+                office,
+                name,
+                false,
+                options,
+                design.may_remove,
+                layers,
+            )
+        }
+        GeographicAsk::DesignAnew(design) => {
+            let (name, options) = (design.name.as_str(), design_options(design));
+            let may_remove = design.may_remove;
+            answer_design_anew(alloc, office, second, name, options, may_remove, layers)
+        }
+        GeographicAsk::DesignAgainScript(design) => {
+            let (name, options) = (design.name.as_str(), design_options(design));
+            answer_design_again(
+                alloc,
+                office,
+                name,
+                true,
+                options,
+                design.may_remove,
+                layers,
+            )
+        }
+        GeographicAsk::Designs(asked) => {
+            let options = folder_options(asked);
+            answer_designs(alloc, office, options, asked.may_remove, designs)
+        }
+        GeographicAsk::DesignsSince(asked) => {
+            let options = folder_options(asked);
+            answer_designs_since(alloc, office, second, options, asked.may_remove, designs)
         }
     }
 }

@@ -1,26 +1,38 @@
 //! The layers that are asked for, each with its text.
 ghost use Rattle.std.specs.Prelude.{◌≡◌, ◌≤◌, [], drop, map, take, IfOk};
 ghost use Rattle.std.specs.List.{zip};
-ghost use Rattle.clr_desk.specs.GivenLayers.{office_count, pair_of, pairs_in, tables_of};
+ghost use Rattle.clr_desk.specs.GivenLayers.{layered_tables, office_count, pair_of, pairs_in, tables_of};
 
 use clr_desk_command_line::{DeskAsk, GeographicAsk};
 use clr_desk_layers::GivenLayer;
 use clr_office::Words;
 use std::alloc::{AllocError, Global};
 
+/// Returns the tables of the layers that are asked for in the texts of geographic information systems, in the order of their files.
+fn layered_tables(ask: &GeographicAsk) -> &[Words]
+    ensures { result.now ≡ layered_tables ask.now }
+{
+    match ask {
+        GeographicAsk::Office(tables, _) | GeographicAsk::AcceptedOffice(tables, _) => {
+            tables.as_slice()
+        }
+        GeographicAsk::Design(design)
+        | GeographicAsk::DesignSince(design)
+        | GeographicAsk::DesignScript(design)
+        | GeographicAsk::DesignAgain(design)
+        | GeographicAsk::DesignAnew(design)
+        | GeographicAsk::DesignAgainScript(design) => design.tables.as_slice(),
+        _ => &[],
+    }
+}
+
 /// Returns the tables of the layers that are asked for, in the order of their files.
 fn tables_of(ask: &DeskAsk) -> &[Words]
     ensures { result.now ≡ tables_of ask.now }
 {
     match ask {
-        DeskAsk::Geographic(
-            GeographicAsk::Office(tables, _) | GeographicAsk::AcceptedOffice(tables, _),
-        ) => tables.as_slice(),
-        DeskAsk::Geographic(
-            GeographicAsk::Design(design)
-            | GeographicAsk::DesignSince(design)
-            | GeographicAsk::DesignScript(design),
-        ) => design.tables.as_slice(),
+        DeskAsk::Geographic(asked) | DeskAsk::Skipping(asked, _) => layered_tables(asked),
+        DeskAsk::WhyLayers(asked) => asked.tables.as_slice(),
         _ => &[],
     }
 }
@@ -31,7 +43,11 @@ pub(crate) fn office_count(ask: &DeskAsk) -> usize
     ensures small { result ≤ 2 }
 {
     match ask {
-        DeskAsk::Geographic(GeographicAsk::DesignSince(_)) => 2,
+        DeskAsk::Geographic(
+            GeographicAsk::DesignSince(_)
+            | GeographicAsk::DesignAnew(_)
+            | GeographicAsk::DesignsSince(_),
+        ) => 2,
         _ => 1,
     }
 }

@@ -2,7 +2,7 @@
 ghost use Rattle.std.specs.Prelude.{◌≡◌, ◌+◌, ◌<◌, ◌^◌, IfOk, length};
 ghost use Rattle.clr_office_texts.specs.Drafts.{draft_in};
 ghost use Rattle.clr_desk.specs.GivenLayers.{office_count};
-ghost use Rattle.clr_desk.specs.LayerFaults.{AreLayerFaults, AreReports, degrees_lines, is_rounded};
+ghost use Rattle.clr_desk.specs.LayerFaults.{AreLayerFaults, AreReports, are_rounded, degrees_lines, is_rounded};
 
 use crate::given_layers::office_count;
 use clr_desk_command_line::{DeskAsk, GeographicAsk};
@@ -14,25 +14,38 @@ use clr_process_io::file_name;
 use clr_rows::Schema;
 use std::alloc::{AllocError, Global};
 
+/// Returns whether coordinates of the layers that are asked for in the texts of geographic information systems are rounded.
+fn are_rounded(ask: &GeographicAsk) -> bool
+    ensures { result ≡ are_rounded ask.now }
+{
+    match ask {
+        GeographicAsk::Office(_, rounded) | GeographicAsk::AcceptedOffice(_, rounded) => *rounded,
+        GeographicAsk::Design(design)
+        | GeographicAsk::DesignSince(design)
+        | GeographicAsk::DesignScript(design)
+        | GeographicAsk::DesignAgain(design)
+        | GeographicAsk::DesignAnew(design)
+        | GeographicAsk::DesignAgainScript(design) => design.is_rounded,
+        GeographicAsk::Designs(designs) | GeographicAsk::DesignsSince(designs) => {
+            designs.is_rounded
+        }
+        _ => false,
+    }
+}
+
 /// Returns whether coordinates of the layers that are asked for are rounded.
-fn is_rounded(ask: &DeskAsk) -> bool
+pub(crate) fn is_rounded(ask: &DeskAsk) -> bool
     ensures { result ≡ is_rounded ask.now }
 {
     match ask {
-        DeskAsk::Geographic(
-            GeographicAsk::Office(_, rounded) | GeographicAsk::AcceptedOffice(_, rounded),
-        ) => *rounded,
-        DeskAsk::Geographic(
-            GeographicAsk::Design(design)
-            | GeographicAsk::DesignSince(design)
-            | GeographicAsk::DesignScript(design),
-        ) => design.is_rounded,
+        DeskAsk::Geographic(asked) | DeskAsk::Skipping(asked, _) => are_rounded(asked),
+        DeskAsk::WhyLayers(asked) => asked.is_rounded,
         _ => false,
     }
 }
 
 /// Returns what is said of layers, one behind another, by the names of their files, of which that of the first has a position.
-fn layer_reports(
+pub(crate) fn layer_reports(
     alloc: Global,
     schema: &Schema,
     rounded: bool,
@@ -79,7 +92,7 @@ pub fn faults_of_layers(
 }
 
 /// Returns which layers look like degrees, a line each, by the names of their files, of which that of the first has a position.
-fn degrees_lines(
+pub(crate) fn degrees_lines(
     alloc: Global,
     files: &[Words],
     first: usize,

@@ -18,54 +18,59 @@
 //!   `certificate` and `keep` in an order what these print of the members in the order of their names (`IsInOrderPrint`); of `why` status 2 exactly where
 //!   the text has a fault, and then lines that begin with it and have the line, the column and the path of
 //!   the item that has it, 1 exactly where an office can be read and a need is broken in it that isn't known, and else how many old errors it has,
-//!   by rule (`IsWhyPrint`);
+//!   by rule (`IsWhyPrint`), and of layers status 2 exactly where something is said of one, and then the lines that are said where they are refused
+//!   (`IsLayersWhy`);
 //!   of `words` a work order that ends with the lines of the plan, with the plan's status
 //!   (`IsOrderPrint`); of `map` a page of vector graphics whose title begins with the word for what the plan says, which it shows, and whose
 //!   description ends with the lines of the plan, with the plan's status (`IsMapPrint`); of `report` a page of hypertext that
 //!   begins with that word and that picture, and ends with the command of `clr_office` and the lines of the plan (`IsReportPrint`); of
 //!   `geojson` the features of a plan, with the plan's status, and of `layer` the layer of a table; of `office` the text of the office whose LIVE
-//!   has the rows of layers, and of `design` that of the office with one more design that has them, or the script that makes it, or why there is
-//!   none (`IsGeographicAnswer`); of `accept` the text of the same office with just its broken needs as known, of `mended` the known needs that
-//!   aren't broken any more, and of `errors` the broken needs of LIVE, whether known or not, with status 0 only where all are known.
+//!   has the rows of layers, of `design` that of the office with one more design that has them, or with one that is brought again, or the script
+//!   that does so, and of `designs` that of the office with several, or why there is none (`IsGeographicAnswer`); of `accept` the text of the same
+//!   office with just its broken needs as known, of `mended` the known needs that aren't broken any more, and of `errors` the broken needs of LIVE,
+//!   whether known or not, with status 0 only where all are known.
 //! - `fault_place` [`place`]: the file, the line and the column of the fault of the office text or the certificate, and nothing of any other.
 //! - `take_layers` [`layers`, `offices`]: each table that is asked for with the text in its place.
 //! - `faults_of_layers` [`faults`]: all that is wrong with layers, each fault with its file, line and column (`AreLayerFaults`). `degrees_of_layers`
 //!   [`degrees`]: the layers whose coordinates look like degrees.
+//! - `split_given` [`split`]: the layer whose records with faults are skipped, as a layer of just the others, and the text of just the skipped ones
+//!   (`IsSplitOver`). That the first is given to `answer`, and the text goes into the file, no contract says.
 //! - `texts_have_one_answer` [`answer`]: memory aside, what is asked has one answer alone, but for what the definitions of clashes, of orders, of faults,
 //!   and of sentences, pictures, pages, features, layers and errors leave open.
+//! - `answer_reach`, of `reach`: what goes to both sinks is what `IsReachAnswer` of `clr_desk_cuts` says. It is written as the table is read, so the
+//!   two points below don't speak of it.
 //! - [`silent`]: with status 3 nothing went to the sink of the text.
 //! - [`keeps`]: with any fault but WriteFailed nothing was written. After a failed write it isn't known
 //!   how much was; where the sink of the notes failed, nothing went to that of the text (`IsTorn`).
 #![tactic(auto)]
 
 mod answers;
-mod certificates;
-mod checks;
-mod choices;
 mod fault_places;
-mod formats;
 mod geographic;
 mod given_layers;
-mod in_order;
 mod laws;
 mod layer_faults;
-mod line_ends;
-mod merges;
-mod orders;
-mod waiting;
+mod layer_whys;
+mod skipped_files;
+mod skipped_layers;
 mod whys;
 
 use crate::answers::answer;
 use crate::fault_places::fault_place;
 use crate::given_layers::take_layers;
 use crate::layer_faults::{degrees_of_layers, faults_of_layers};
-use clr_desk_command_line::{AskFault, DeskAsk, ask_of};
+use crate::skipped_files::{begin_file, drop_file, end_file};
+use crate::skipped_layers::split_given;
+use clr_design_folders::{FolderDesigns, FolderFault, read_designs, unfit_remark};
+use clr_desk_command_line::{AskFault, Asked, DeskAsk, GeographicAsk, ReachAsk, ask_of};
+use clr_desk_cuts::{Aim, ReachOptions, answer_reach};
 use clr_desk_layers::GivenLayer;
 use clr_office::{Port, RunFault, Sink, Words};
 use clr_process_io::{
     BAD_WORDS, end_run, file_name, print_fault, print_parser_message, put_input_remark, read_files,
     text_at, texts_of_words, words,
 };
+use clr_skipped_records::SplitLayer;
 use clr_streams::Screen;
 use std::alloc::AllocError;
 use std::io::ErrorKind;
@@ -119,13 +124,191 @@ fn print_layer_remarks(
     layers: &[GivenLayer],
     status: u8,
 ) {
-    if layers.is_empty() {
+    if layers.is_empty() || matches!(ask, DeskAsk::WhyLayers(_)) {
         return;
     }
     if status == UNREADABLE {
         print_remarks(rt, faults_of_layers(rt.alloc(), ask, files, office, layers));
     }
     print_remarks(rt, degrees_of_layers(rt.alloc(), ask, files, layers));
+}
+
+/// What the words name: the names of files, the texts of the first two, and the layers and the designs of others.
+#[derive(Drop)]
+struct Given<'a> {
+    files: &'a [Words],
+    office: &'a [u8],
+    second: &'a [u8],
+    layers: &'a [GivenLayer],
+    folder: &'a FolderDesigns,
+}
+
+/// Returns the designs of the folder that is asked for, or none where no folder is.
+fn designs_asked(
+    rt: &HostRuntime,
+    ask: &DeskAsk,
+    offices: &[Words],
+) -> Result<FolderDesigns, FolderFault> {
+    match ask {
+        DeskAsk::Geographic(GeographicAsk::Designs(asked) | GeographicAsk::DesignsSince(asked)) =>
+            read_designs(rt, asked.folder.as_str(), offices),
+        _ => Ok(FolderDesigns {
+            designs: Vec::new(rt.alloc()),
+            files: Vec::new(rt.alloc()),
+        }),
+    }
+}
+
+/// Prints why a folder gives no designs on standard error, and gives the exit status.
+fn refuse_folder(rt: &HostRuntime, fault: FolderFault) -> u8 {
+    match fault {
+        FolderFault::Unread(name, fault) => refuse_file(rt, name.as_str(), fault),
+        FolderFault::Unfit(name, sentence) => {
+            print_remarks(rt, unfit_remark(rt.alloc(), name.as_str(), sentence));
+            UNREADABLE
+        }
+        FolderFault::OutOfMemory => print_fault(rt, RunFault::OutOfMemory),
+    }
+}
+
+/// Prints remarks on the layers that are given, and on those of each design.
+fn print_all_remarks(rt: &HostRuntime, ask: &DeskAsk, given: &Given<'_>, status: u8) {
+    print_layer_remarks(rt, ask, given.files, given.office, given.layers, status);
+    let folder = given.folder;
+    for (design, names) in folder.designs.iter().zip(folder.files.iter()) {
+        let layers = design.layers.as_slice();
+        print_layer_remarks(rt, ask, names.as_slice(), given.office, layers, status);
+    }
+}
+
+/// Gives the exit status of an answer whose text and notes went to these, with the line of its fault and its place.
+fn end_answer(
+    rt: &HostRuntime,
+    ended: Result<u8, RunFault>,
+    is_closed: bool,
+    files: &[Words],
+    office: &[u8],
+    second: &[u8],
+) -> u8 {
+    match ended {
+        Ok(_) | Err(RunFault::WriteFailed) => end_run(rt, ended, is_closed),
+        Err(fault) => refuse_texts(rt, fault, files, office, second),
+    }
+}
+
+/// Holds a table, read from standard input, against the cut of a file, and gives the exit status.
+fn answer_stream(rt: &HostRuntime, ask: &ReachAsk, files: &[Words]) -> Result<u8, RunFault> {
+    let texts = match read_files(rt, files) {
+        Ok(texts) => texts,
+        Err(refused) => return Ok(refuse_file(rt, file_name(files, refused.file), refused.fault)),
+    };
+    let aim = if ask.is_for_groups {
+        Aim::Groups
+    } else {
+        Aim::Plans
+    };
+    let options = ReachOptions {
+        aim,
+        rounded: ask.is_rounded,
+    };
+    let office = text_at(&texts, 0);
+    let mut writer = Port::new(rt.stdout());
+    let mut notes = Screen::new(rt.alloc(), Port::new(rt.stderr()), true);
+    let ended = answer_reach(
+        rt.alloc(),
+        options,
+        office,
+        ask.table.as_str(),
+        ask.names.as_slice(),
+        rt.stdin(),
+        &mut writer,
+        &mut notes,
+    );
+    let is_closed = writer.is_closed() || notes.below().is_closed();
+    Ok(end_answer(rt, ended, is_closed, files, office, &[]))
+}
+
+/// Answers what is asked of texts, layers and designs, and gives the exit status. What is said of layers as texts is said of those that were given.
+fn answer_texts(rt: &HostRuntime, ask: &DeskAsk, given: &Given<'_>, layers: &[GivenLayer]) -> u8 {
+    let is_read = matches!(
+        ask,
+        DeskAsk::WorkOrder(..) | DeskAsk::Why(_) | DeskAsk::WhyLayers(_)
+    );
+    let mut writer = Screen::new(rt.alloc(), Port::new(rt.stdout()), is_read);
+    let mut notes = Screen::new(rt.alloc(), Port::new(rt.stderr()), true);
+    let ended = answer(
+        rt.alloc(),
+        ask,
+        given.office,
+        given.second,
+        layers,
+        given.folder.designs.as_slice(),
+        &mut writer,
+        &mut notes,
+    );
+    if let Ok(status) = ended {
+        print_all_remarks(rt, ask, given, status);
+    }
+    let is_closed = writer.below().is_closed() || notes.below().is_closed();
+    end_answer(
+        rt,
+        ended,
+        is_closed,
+        given.files,
+        given.office,
+        given.second,
+    )
+}
+
+/// Prints how many records are skipped on standard error.
+fn print_skipped(rt: &HostRuntime, count: usize) {
+    let _ = eprintln!(rt; "skipped {count}");
+}
+
+/// Answers what is asked of the records of a layer that have no fault, and gives the exit status. The others go into a new file of this name, which is
+/// written whole beside it before anything is printed, and gets its name where all is done.
+fn answer_skipping(
+    rt: &HostRuntime,
+    ask: &DeskAsk,
+    given: &Given<'_>,
+    name: &str,
+    table: &Words,
+    split: SplitLayer,
+) -> Result<u8, RunFault> {
+    let SplitLayer {
+        taken,
+        skipped,
+        count,
+    } = split;
+    let beside = format!(in rt.alloc(); "{name}.part")?;
+    let mut layers = Vec::new(rt.alloc());
+    layers.push(GivenLayer {
+        table: table.copy()?,
+        text: taken,
+    })?;
+    if let Err(status) = begin_file(rt, name, beside.as_str(), skipped.as_slice()) {
+        return Ok(status);
+    }
+    let status = answer_texts(rt, ask, given, layers.as_slice());
+    if status != 0 {
+        drop_file(rt, beside.as_str());
+        return Ok(status);
+    }
+    if let Err(status) = end_file(rt, name, beside.as_str()) {
+        return Ok(status);
+    }
+    print_skipped(rt, count);
+    Ok(0)
+}
+
+/// Answers what is asked of what the words name, of which records may have to be skipped, and gives the exit status.
+fn answer_given(rt: &HostRuntime, ask: &DeskAsk, given: &Given<'_>) -> Result<u8, RunFault> {
+    if let (DeskAsk::Skipping(_, name), [layer]) = (ask, given.layers) {
+        if let Some(split) = split_given(rt.alloc(), ask, given.office, layer)? {
+            return answer_skipping(rt, ask, given, name.as_str(), &layer.table, split);
+        }
+    }
+    Ok(answer_texts(rt, ask, given, given.layers))
 }
 
 /// Answers what the words ask of files, and gives the exit status.
@@ -135,30 +318,18 @@ fn answer_files(rt: &HostRuntime, ask: &DeskAsk, files: &[Words]) -> Result<u8, 
         Err(refused) => return Ok(refuse_file(rt, file_name(files, refused.file), refused.fault)),
     };
     let layers = take_layers(rt.alloc(), ask, &mut texts)?;
-    let (office, second) = (text_at(&texts, 0), text_at(&texts, 1));
-    let is_read = matches!(ask, DeskAsk::WorkOrder(..) | DeskAsk::Why(_));
-    let mut writer = Screen::new(rt.alloc(), Port::new(rt.stdout()), is_read);
-    let mut notes = Screen::new(rt.alloc(), Port::new(rt.stderr()), true);
-    let layers = layers.as_slice();
-    let ended = answer(
-        rt.alloc(),
-        ask,
-        office,
-        second,
-        layers,
-        &mut writer,
-        &mut notes,
-    );
-    if let Ok(status) = ended {
-        print_layer_remarks(rt, ask, files, office, layers, status);
-    }
-    match ended {
-        Ok(_) | Err(RunFault::WriteFailed) => {
-            let is_closed = writer.below().is_closed() || notes.below().is_closed();
-            Ok(end_run(rt, ended, is_closed))
-        }
-        Err(fault) => Ok(refuse_texts(rt, fault, files, office, second)),
-    }
+    let folder = match designs_asked(rt, ask, files) {
+        Ok(folder) => folder,
+        Err(fault) => return Ok(refuse_folder(rt, fault)),
+    };
+    let given = Given {
+        files,
+        office: text_at(&texts, 0),
+        second: text_at(&texts, 1),
+        layers: layers.as_slice(),
+        folder: &folder,
+    };
+    answer_given(rt, ask, &given)
 }
 
 /// Prints what the parser of the command line says, and behind a version from what the program was built; and gives the exit status.
@@ -173,10 +344,14 @@ fn print_message(rt: &HostRuntime, error: &clap::Error) -> u8 {
 /// Does what the words ask for, and gives the exit status.
 fn run_words(rt: &HostRuntime, words: &[String]) -> Result<u8, RunFault> {
     let texts = texts_of_words(rt, words)?;
-    match ask_of(rt.alloc(), texts.as_slice()) {
-        Ok((ask, files)) => answer_files(rt, &ask, files.as_slice()),
-        Err(AskFault::Refused(error)) => Ok(print_message(rt, &error)),
-        Err(AskFault::OutOfMemory) => Err(RunFault::OutOfMemory),
+    let (asked, files) = match ask_of(rt.alloc(), texts.as_slice()) {
+        Ok(found) => found,
+        Err(AskFault::Refused(error)) => return Ok(print_message(rt, &error)),
+        Err(AskFault::OutOfMemory) => return Err(RunFault::OutOfMemory),
+    };
+    match asked {
+        Asked::OfTexts(ask) => answer_files(rt, &ask, files.as_slice()),
+        Asked::Reach(ask) => answer_stream(rt, &ask, files.as_slice()),
     }
 }
 

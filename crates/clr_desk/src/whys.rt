@@ -10,7 +10,7 @@ use clr_text_diagnosis::{Why, why_certificate, why_office, why_script};
 use std::alloc::{AllocError, Global};
 
 /// Returns that there is no fault, and more lines.
-fn no_fault_and(alloc: Global, lines: &[u8]) -> Result<Vec<u8>, AllocError>
+pub(crate) fn no_fault_and(alloc: Global, lines: &[u8]) -> Result<Vec<u8>, AllocError>
     ensures { IfOk result (λ text. text.items ≡ codes "no fault\n" ++ lines.now) }
 {
     let mut text = Vec::from_slice(alloc, b"no fault\n")?;
@@ -19,7 +19,7 @@ fn no_fault_and(alloc: Global, lines: &[u8]) -> Result<Vec<u8>, AllocError>
 }
 
 /// Returns what is printed of what is found in a text.
-fn print_of_why(alloc: Global, why: Why) -> Result<Print, AllocError>
+pub(crate) fn print_of_why(alloc: Global, why: Why) -> Result<Print, AllocError>
     ensures { IfOk result (λ p. printed p ≡ why_print why) }
 {
     let (text, ending) = match why {

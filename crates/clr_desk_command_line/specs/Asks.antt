@@ -1,6 +1,6 @@
 -- What a subcommand and its values ask for.
 use Rattle.std.specs.Prelude.{ℕ, ◌==◌, ◌||◌, not, Bool, true, false, List, [], ◌∷◌, ◌++◌, map, codes, Option, Some, None, if◌then◌else◌, is_some}
-use Rattle.std.specs.Prelude.{option_and_then, option_map, unwrap_or, unsigned_abs}
+use Rattle.std.specs.Prelude.{length, option_and_then, option_map, unwrap_or, unsigned_abs}
 use Rattle.std.specs.List.{after_first, before_first, list_all, list_any}
 use Rattle.std.specs.Option.{option_map_or}
 use Rattle.std.specs.Str.{bytes_eq}
@@ -9,13 +9,17 @@ use Rattle.clr_rows.specs.Names.{live_name}
 use Rattle.clr_rows.specs.Schemas.{is_key}
 use Rattle.clr_records.specs.Decimals.{number_of}
 use Rattle.clr_command_line.specs.Asks.{database_and, database_of, given_names, given_value, is_set}
+use Rattle.clr_desk_command_line.specs.declared.asks.Asked.{Asked}
+use Rattle.clr_desk_command_line.specs.declared.asks.Asked.TheVariants.{OfTexts, Reach}
 use Rattle.clr_desk_command_line.specs.declared.asks.DeskAsk.{DeskAsk}
 use Rattle.clr_desk_command_line.specs.declared.asks.DeskAsk.TheVariants.{Certificate, Check, Merge, Format, Accept, Mended, Errors, Keep, Clashes, Why}
-use Rattle.clr_desk_command_line.specs.declared.asks.DeskAsk.TheVariants.{Geographic, InOrder, Map, Report, WorkOrder}
+use Rattle.clr_desk_command_line.specs.declared.asks.DeskAsk.TheVariants.{Geographic, InOrder, Map, Report, Skipping, WhyLayers, WorkOrder}
 use Rattle.clr_desk_command_line.specs.declared.asks.DesignAsk.{DesignAsk}
+use Rattle.clr_desk_command_line.specs.declared.asks.DesignsAsk.{DesignsAsk}
 use Rattle.clr_desk_command_line.specs.declared.asks.GeographicAsk.{GeographicAsk}
 use Rattle.clr_desk_command_line.specs.declared.asks.GeographicAsk.TheVariants.{Features, Layer, Office, AcceptedOffice, ErrorFeatures}
 use Rattle.clr_desk_command_line.specs.declared.asks.GeographicAsk.TheVariants.{Design, DesignSince, DesignScript}
+use Rattle.clr_desk_command_line.specs.declared.asks.GeographicAsk.TheVariants.{DesignAgain, DesignAnew, DesignAgainScript, Designs, DesignsSince}
 use Rattle.clr_desk_command_line.specs.declared.asks.OrderAsk.{OrderAsk}
 use Rattle.clr_desk_command_line.specs.declared.asks.OrderAsk.TheVariants as order
 use Rattle.clr_desk_command_line.specs.declared.asks.TextKind.TheVariants as kind
@@ -28,12 +32,16 @@ given_or otherwise id rows = unwrap_or (first_of id rows) otherwise
 abbrev pub given_root : List Row → Text
 given_root rows = given_or live_name (codes "under") rows
 
--- what `why` asks for, and its files: of the script if one is given, else of the certificate if one is given, else of the office
+-- what `why` asks of a certificate if one is given, else of the office, and its files
+abbrev pub why_of_certificate : List Row → DeskAsk × List Text
+why_of_certificate rows =
+    if is_some (first_of (codes "certificate") rows) then (Why kind.Certificate, database_and (codes "certificate") rows)
+    else (Why kind.Office, database_of rows)
+
+-- what `why` asks of a text, and its files: of the script if one is given, else of the certificate or the office
 abbrev pub why_of : List Row → DeskAsk × List Text
 why_of rows =
-    if is_some (first_of (codes "script") rows) then (Why kind.Script, database_and (codes "script") rows)
-    else (if is_some (first_of (codes "certificate") rows) then (Why kind.Certificate, database_and (codes "certificate") rows)
-    else (Why kind.Office, database_of rows))
+    if is_some (first_of (codes "script") rows) then (Why kind.Script, database_and (codes "script") rows) else why_of_certificate rows
 
 -- what `errors` asks for, and its file: features where they are asked for, and else lines
 abbrev pub errors_of : List Row → DeskAsk × List Text
@@ -55,6 +63,14 @@ abbrev pub order_ask : (is_certificate : Bool) → OrderAsk
 order_ask true = order.OrderCertificate
 order_ask false = order.Order
 
+-- the plan of members of a root in words, as a picture or as a page
+unfoldable pub pictures_ask : Text → Text → List Text → Option DeskAsk
+pictures_ask name root names =
+    if bytes_eq name (codes "words") then Some (WorkOrder root names)
+    else (if bytes_eq name (codes "map") then Some (Map root names)
+    else (if bytes_eq name (codes "report") then Some (Report root names)
+    else None))
+
 -- what is asked of members of a root
 unfoldable pub members_ask : Text → List Row → Text → List Text → Option DeskAsk
 members_ask name rows root names =
@@ -62,10 +78,7 @@ members_ask name rows root names =
     else (if bytes_eq name (codes "keep") then Some (keep_ask (is_set (codes "in-order") rows) root names)
     else (if bytes_eq name (codes "clashes") then Some (Clashes root names)
     else (if bytes_eq name (codes "order") then Some (InOrder (order_ask (is_set (codes "certificate") rows)) root names)
-    else (if bytes_eq name (codes "words") then Some (WorkOrder root names)
-    else (if bytes_eq name (codes "map") then Some (Map root names)
-    else (if bytes_eq name (codes "report") then Some (Report root names)
-    else None))))))
+    else pictures_ask name root names)))
 
 abbrev pub members_asked : Text → List Row → Option (DeskAsk × List Text)
 members_asked name rows = option_map (λ asked. (asked, database_of rows)) (members_ask name rows (given_root rows) (given_names rows))
@@ -104,6 +117,19 @@ tables_and_files words = if list_all is_layer words then Some (map table_in word
 abbrev pub layers_ask : List Row → Option (List Text × List Text)
 layers_ask rows = tables_and_files (unwrap_or (all_of (codes "TABLE=FILE") rows) [])
 
+-- what `why` asks of layers of these tables in these files, and its files
+abbrev pub layers_why : List Row → List Text → List Text → DeskAsk × List Text
+layers_why rows tables files =
+    (WhyLayers (record { tables = tables; files = files; is_rounded = is_set (codes "round") rows }), database_of rows ++ files)
+
+-- of these layers if there are some, else of a text
+abbrev pub why_of_given : List Row → List Text × List Text → DeskAsk × List Text
+why_of_given rows layers = if length layers.0 == 0 then why_of rows else layers_why rows layers.0 layers.1
+
+-- what `why` asks for, and its files, if each layer that is given can be read
+abbrev pub why_ask : List Row → Option (DeskAsk × List Text)
+why_ask rows = option_map (why_of_given rows) (layers_ask rows)
+
 -- the key that a text is, if it is one
 abbrev pub key_in : Text → Option ℕ
 key_in text = option_and_then (λ key. if is_key key then Some (unsigned_abs key) else None) (number_of text)
@@ -117,11 +143,20 @@ abbrev pub office_of : Bool → List Text → Bool → GeographicAsk
 office_of true tables rounded = AcceptedOffice tables rounded
 office_of false tables rounded = Office tables rounded
 
+abbrev pub office_with : List Row → List Text × List Text → GeographicAsk × List Text
+office_with rows layers = (office_of (is_set (codes "accept") rows) layers.0 (is_set (codes "round") rows), given_value (codes "SCHEMA") rows ∷ layers.1)
+
+-- records may be skipped where there is one layer alone
+abbrev pub can_skip : (is_skipping : Bool) → ℕ → Bool
+can_skip is_skipping count = not is_skipping || count == 1
+
+abbrev pub office_of_layers : List Row → List Text × List Text → Option (GeographicAsk × List Text)
+office_of_layers rows layers =
+    if can_skip (is_some (first_of (codes "skip") rows)) (length layers.0) then Some (office_with rows layers) else None
+
+-- what `office` asks for, and its files, if each layer can be read, and records are to be skipped of one alone
 abbrev pub office_ask : List Row → Option (GeographicAsk × List Text)
-office_ask rows =
-    option_map
-    (λ layers. (office_of (is_set (codes "accept") rows) layers.0 (is_set (codes "round") rows), given_value (codes "SCHEMA") rows ∷ layers.1))
-    (layers_ask rows)
+office_ask rows = option_and_then (office_of_layers rows) (layers_ask rows)
 
 -- yes or no, as a text says it
 abbrev pub choice_in : Text → Option Bool
@@ -141,19 +176,25 @@ design_in rows first_key may_remove tables = record {
   may_remove = may_remove;
 }
 
--- the script of a design, the office with it, or the office with a design of layers that were copied from another office; such a design has no script
-abbrev pub design_as : (is_script has_base : Bool) → DesignAsk → Option GeographicAsk
-design_as true true design = None
-design_as true false design = Some (DesignScript design)
-design_as false true design = Some (DesignSince design)
-design_as false false design = Some (Design design)
+-- the script of a new design, the office with it, or the office with a design of layers that were copied from another office; and the same of a design that
+-- stands already. There is no script of a design of copied layers
+abbrev pub design_as : (is_old is_script has_base : Bool) → DesignAsk → Option GeographicAsk
+design_as false true true design = None
+design_as false true false design = Some (DesignScript design)
+design_as false false true design = Some (DesignSince design)
+design_as false false false design = Some (Design design)
+design_as true true true design = None
+design_as true true false design = Some (DesignAgainScript design)
+design_as true false true design = Some (DesignAnew design)
+design_as true false false design = Some (DesignAgain design)
 
 -- the file of the office, and then that of the office from which the layers were copied, if one is given
 abbrev pub offices_of_design : List Row → List Text
 offices_of_design rows = database_of rows ++ option_map_or (λ copied. copied ∷ []) (first_of (codes "base") rows) []
 
 abbrev pub design_of_tables : List Row → DesignAsk → Option GeographicAsk
-design_of_tables rows design = design_as (is_set (codes "script") rows) (is_some (first_of (codes "base") rows)) design
+design_of_tables rows design =
+    design_as (is_set (codes "again") rows) (is_set (codes "script") rows) (is_some (first_of (codes "base") rows)) design
 
 -- what is asked of a design whose rows get keys from this one on, and its files, those of its layers last
 abbrev pub design_ask_with : List Row → ℕ → Bool → Option (GeographicAsk × List Text)
@@ -166,20 +207,54 @@ abbrev pub design_ask : List Row → Option (GeographicAsk × List Text)
 design_ask rows =
     option_and_then (λ first_key. option_and_then (λ may_remove. design_ask_with rows first_key may_remove) (may_remove_of rows)) (first_key_of rows)
 
--- what is asked in the texts of geographic information systems, and the files; or nothing where a layer, a key or a choice can't be read, or where the
--- script of a design is asked for that has none
+-- the designs of a folder, whose rows get keys from this one on, and which may remove rows or not
+abbrev pub designs_in : List Row → ℕ → Bool → DesignsAsk
+designs_in rows first_key may_remove = record {
+  folder = given_value (codes "FOLDER") rows;
+  first_key = first_key;
+  is_rounded = is_set (codes "round") rows;
+  may_remove = may_remove;
+}
+
+-- the office with designs, or with designs of layers that were copied from another office
+abbrev pub designs_as : (has_base : Bool) → DesignsAsk → GeographicAsk
+designs_as true designs = DesignsSince designs
+designs_as false designs = Designs designs
+
+abbrev pub designs_ask_with : List Row → ℕ → Bool → GeographicAsk × List Text
+designs_ask_with rows first_key may_remove =
+    (designs_as (is_some (first_of (codes "base") rows)) (designs_in rows first_key may_remove), offices_of_design rows)
+
+-- what is asked of the designs of a folder, and the files of the offices
+abbrev pub designs_ask : List Row → Option (GeographicAsk × List Text)
+designs_ask rows =
+    option_and_then (λ first_key. option_map (λ may_remove. designs_ask_with rows first_key may_remove) (may_remove_of rows)) (first_key_of rows)
+
+-- what is asked of layers, and the files; or nothing where a layer, a key or a choice can't be read, where the script of a design is asked for that has
+-- none, or where records of several layers are to be skipped
+unfoldable pub imports_asked : Text → List Row → Option (GeographicAsk × List Text)
+imports_asked name rows =
+    if bytes_eq name (codes "office") then office_ask rows
+    else (if bytes_eq name (codes "design") then design_ask rows
+    else (if bytes_eq name (codes "designs") then designs_ask rows
+    else None))
+
+-- what is asked in the texts of geographic information systems, and the files; or nothing, as with layers
 unfoldable pub geographic_asked : Text → List Row → Option (GeographicAsk × List Text)
 geographic_asked name rows =
     if bytes_eq name (codes "geojson") then Some (features_of rows)
     else (if bytes_eq name (codes "layer") then Some (layer_ask rows)
-    else (if bytes_eq name (codes "office") then office_ask rows
-    else (if bytes_eq name (codes "design") then design_ask rows
-    else None)))
+    else imports_asked name rows)
 
 -- what a subcommand asks for ------------------------------------------------------------------
 
+-- what is asked of whole layers, or where a file is given for records that have faults, of the others
+abbrev pub of_layers : Option Text → GeographicAsk → DeskAsk
+of_layers None asked = Geographic asked
+of_layers (Some file) asked = Skipping asked file
+
 abbrev pub or_members_asked : Option (GeographicAsk × List Text) → Text → List Row → Option (DeskAsk × List Text)
-or_members_asked (Some asked) name rows = Some (Geographic asked.0, asked.1)
+or_members_asked (Some asked) name rows = Some (of_layers (first_of (codes "skip") rows) asked.0, asked.1)
 or_members_asked None name rows = members_asked name rows
 
 -- what is asked of an office text alone, without an option
@@ -200,17 +275,38 @@ ask_by_name name rows =
     if bytes_eq name (codes "check") then Some (Check, database_and (codes "CERT") rows)
     else (if bytes_eq name (codes "merge") then Some (merge_ask rows)
     else (if bytes_eq name (codes "errors") then Some (errors_of rows)
-    else (if bytes_eq name (codes "why") then Some (why_of rows)
+    else (if bytes_eq name (codes "why") then why_ask rows
     else or_others_asked (asked_of_office name) name rows)))
 
+-- what `reach` asks for, and its file
+abbrev pub reach_of : List Row → Asked × List Text
+reach_of rows = (
+  Reach (record {
+    table = given_value (codes "TABLE") rows;
+    names = given_names rows;
+    is_for_groups = is_set (codes "groups") rows;
+    is_rounded = is_set (codes "round") rows;
+  }),
+  given_value (codes "CUT") rows ∷ [],
+)
+
+abbrev pub of_texts : Option (DeskAsk × List Text) → Option (Asked × List Text)
+of_texts asked = option_map (λ p. (OfTexts p.0, p.1)) asked
+
+-- what a subcommand asks for, of texts or of a stream, and its files
+unfoldable pub asked_by_name : Text → List Row → Option (Asked × List Text)
+asked_by_name name rows = if bytes_eq name (codes "reach") then Some (reach_of rows) else of_texts (ask_by_name name rows)
+
 -- what the subcommand that words name asks for, if they name one
-abbrev pub ask_of : Option (Text × List Row) → Option (DeskAsk × List Text)
-ask_of found = option_and_then (λ p. ask_by_name p.0 p.1) found
+abbrev pub ask_of : Option (Text × List Row) → Option (Asked × List Text)
+ask_of found = option_and_then (λ p. asked_by_name p.0 p.1) found
 
 -- a subcommand reads layers
 abbrev pub reads_layers : Text → Bool
-reads_layers name = bytes_eq name (codes "office") || bytes_eq name (codes "design")
+reads_layers name =
+    bytes_eq name (codes "office") || bytes_eq name (codes "design") || bytes_eq name (codes "designs") || bytes_eq name (codes "why")
 
--- where a subcommand reads layers, each layer, the first key and the choice can be read, and no script is asked for where there is none
+-- where a subcommand reads layers, each layer, the first key and the choice can be read, no script is asked for where there is none, and records are to
+-- be skipped of one layer alone
 abbrev pub is_readable : Option (Text × List Row) → Bool
-is_readable found = option_map_or (λ p. not (reads_layers p.0) || is_some (ask_by_name p.0 p.1)) found true
+is_readable found = option_map_or (λ p. not (reads_layers p.0) || is_some (asked_by_name p.0 p.1)) found true

@@ -1,12 +1,16 @@
 -- The command line: subcommands, each with its values.
-use Rattle.std.specs.Prelude.{codes}
-use Rattle.clap.specs.Words.{App, Rule, Text, new_app, with_rule, with_subcommand}
+use Rattle.std.specs.Prelude.{List, [], ◌∷◌, codes, fold}
+use Rattle.clap.specs.Words.{App, Rule, Shape, Text, new_app, with_rule, with_subcommand}
 use Rattle.clr_command_line.specs.Program.{check, database_command, merge, name_arguments}
-use Rattle.clr_command_line.specs.Tables.{demanding, flag, option, required_values, value}
+use Rattle.clr_command_line.specs.Tables.{demanding, flag, option, required_values, value, values}
 
 -- the option by which coordinates are rounded
 abbrev pub round : Rule
 round = flag (codes "round")
+
+-- layers at the end, none or more
+abbrev pub given_layers : Rule
+given_layers = values (codes "TABLE=FILE")
 
 -- layers at the end, one or more
 abbrev pub layers : Rule
@@ -39,8 +43,12 @@ clashes = over_members (codes "clashes")
 abbrev pub order : App
 order = with_rule (over_members (codes "order")) (flag (codes "certificate"))
 
+-- the texts over an office of which one may be asked about
+abbrev pub why_of_texts : App
+why_of_texts = with_rule (with_rule (with_rule (database_command (codes "why")) given_layers) (option (codes "script"))) (option (codes "certificate"))
+
 abbrev pub why : App
-why = with_rule (with_rule (database_command (codes "why")) (option (codes "script"))) (option (codes "certificate"))
+why = with_rule why_of_texts round
 
 abbrev pub words : App
 words = over_members (codes "words")
@@ -61,19 +69,30 @@ geojson = with_rule (over_members (codes "geojson")) system
 abbrev pub layer : App
 layer = with_rule (with_rule (database_command (codes "layer")) (value (codes "TABLE"))) (option (codes "in"))
 
+-- an office text, and its layers
+abbrev pub office_of_layers : App
+office_of_layers = with_rule (with_rule (new_app (codes "office")) (value (codes "SCHEMA"))) layers
+
 abbrev pub office : App
-office = with_rule (with_rule (with_rule (with_rule (new_app (codes "office")) (value (codes "SCHEMA"))) layers) round) (flag (codes "accept"))
+office = with_rule (with_rule (with_rule office_of_layers round) (flag (codes "accept"))) (option (codes "skip"))
 
 -- the design's name, and its layers
 abbrev pub design_of_layers : App
 design_of_layers = with_rule (with_rule (database_command (codes "design")) (value (codes "NAME"))) layers
 
--- what it is a difference to, and whether it may remove rows
+-- what it is a difference to, whether it may remove rows, and whether it stands already
 abbrev pub design_from : App
-design_from = with_rule (with_rule design_of_layers (option (codes "base"))) (option (codes "removes"))
+design_from = with_rule (with_rule (with_rule design_of_layers (option (codes "base"))) (option (codes "removes"))) (flag (codes "again"))
 
 abbrev pub design : App
 design = with_rule (with_rule (with_rule design_from (flag (codes "script"))) (option (codes "keys"))) round
+
+-- the folder of the designs, and what they are differences to
+abbrev pub designs_from : App
+designs_from = with_rule (with_rule (database_command (codes "designs")) (value (codes "FOLDER"))) (option (codes "base"))
+
+abbrev pub designs : App
+designs = with_rule (with_rule (with_rule designs_from (option (codes "removes"))) (option (codes "keys"))) round
 
 abbrev pub errors : App
 errors = with_rule (with_rule (database_command (codes "errors")) (flag (codes "geojson"))) system
@@ -84,38 +103,58 @@ accept = database_command (codes "accept")
 abbrev pub mended : App
 mended = database_command (codes "mended")
 
--- the program with the commands that print a certificate or judge one
-abbrev pub certifying : App
-certifying = with_subcommand (with_subcommand (demanding (codes "clr_desk")) certificate.top) check.top
+-- what `reach` reads: a cut, a table and the designs
+abbrev pub reach_of_table : App
+reach_of_table = with_rule (with_rule (with_rule (new_app (codes "reach")) (value (codes "CUT"))) (value (codes "TABLE"))) name_arguments
 
--- with the commands that print an office
-abbrev pub printing : App
-printing = with_subcommand (with_subcommand certifying merge.top) format.top
+abbrev pub reach : App
+reach = with_rule (with_rule reach_of_table (flag (codes "groups"))) round
 
--- with the commands that say which members go together
-abbrev pub choosing : App
-choosing = with_subcommand (with_subcommand printing keep.top) clashes.top
+-- the program without its subcommands
+abbrev pub bare : App
+bare = demanding (codes "clr_desk")
 
--- with the command that finds an order
-abbrev pub ordering : App
-ordering = with_subcommand choosing order.top
+-- groups of subcommands, in the order of help: each has four at most --------------------------------
 
--- with the commands that explain
-abbrev pub explaining : App
-explaining = with_subcommand (with_subcommand ordering why.top) words.top
+-- certificates, and offices that are printed
+unfoldable pub certificates : List Shape
+certificates = certificate.top ∷ check.top ∷ merge.top ∷ format.top ∷ []
 
--- with the commands that draw
-abbrev pub drawing : App
-drawing = with_subcommand (with_subcommand explaining map.top) report.top
+-- which members go together
+unfoldable pub choices : List Shape
+choices = keep.top ∷ clashes.top ∷ order.top ∷ []
 
--- with the commands that print texts for geographic information systems
-abbrev pub exporting : App
-exporting = with_subcommand (with_subcommand drawing geojson.top) layer.top
+-- what is told in words
+unfoldable pub tellings : List Shape
+tellings = why.top ∷ words.top ∷ []
 
--- with the commands that read layers
-abbrev pub importing : App
-importing = with_subcommand (with_subcommand exporting office.top) design.top
+-- plans as pictures and pages
+unfoldable pub pictures : List Shape
+pictures = map.top ∷ report.top ∷ []
 
--- the whole program, with the commands about old errors
+-- plans and tables for other systems
+unfoldable pub exports : List Shape
+exports = geojson.top ∷ layer.top ∷ []
+
+-- networks and designs from layers
+unfoldable pub imports : List Shape
+imports = office.top ∷ design.top ∷ designs.top ∷ []
+
+-- old errors
+unfoldable pub old_errors : List Shape
+old_errors = errors.top ∷ accept.top ∷ mended.top ∷ []
+
+-- cuts of networks
+unfoldable pub cuts : List Shape
+cuts = reach.top ∷ []
+
+abbrev pub groups : List (List Shape)
+groups = certificates ∷ choices ∷ tellings ∷ pictures ∷ exports ∷ imports ∷ old_errors ∷ cuts ∷ []
+
+-- a command with a group of subcommands at its end
+abbrev pub with_group : App → List Shape → App
+with_group command group = fold with_subcommand command group
+
+-- the whole program
 abbrev pub program : App
-program = with_subcommand (with_subcommand (with_subcommand importing errors.top) accept.top) mended.top
+program = fold with_group bare groups

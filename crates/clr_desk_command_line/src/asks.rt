@@ -10,6 +10,17 @@ pub enum TextKind {
     Certificate,
 }
 
+/// Layers that are asked about.
+#[derive(Debug, Drop)]
+pub struct LayersAsk {
+    /// The tables of the layers, in the order of their files.
+    pub tables: Names,
+    /// The names of these files.
+    pub files: Names,
+    /// Whether coordinates finer than a millimetre are rounded.
+    pub is_rounded: bool,
+}
+
 /// A design that has the rows of layers.
 #[derive(Debug, Drop)]
 pub struct DesignAsk {
@@ -21,6 +32,19 @@ pub struct DesignAsk {
     /// Whether coordinates finer than a millimetre are rounded.
     pub is_rounded: bool,
     /// Whether it may remove rows.
+    pub may_remove: bool,
+}
+
+/// The designs of a folder, each of which has the rows of its layers.
+#[derive(Debug, Drop)]
+pub struct DesignsAsk {
+    /// The name of the folder.
+    pub folder: Words,
+    /// The least key that a row without one gets.
+    pub first_key: u64,
+    /// Whether coordinates finer than a millimetre are rounded.
+    pub is_rounded: bool,
+    /// Whether they may remove rows.
     pub may_remove: bool,
 }
 
@@ -45,6 +69,16 @@ pub enum GeographicAsk {
     DesignSince(DesignAsk),
     /// The script that makes this design.
     DesignScript(DesignAsk),
+    /// The office in which a design that stands is brought again.
+    DesignAgain(DesignAsk),
+    /// The office in which a design whose layers were copied from LIVE of a second office text is made in place of one that stands.
+    DesignAnew(DesignAsk),
+    /// The script that brings a design again.
+    DesignAgainScript(DesignAsk),
+    /// The office with the designs of a folder.
+    Designs(DesignsAsk),
+    /// The office with the designs of a folder, whose layers were copied from LIVE of a second office text.
+    DesignsSince(DesignsAsk),
 }
 
 /// What is asked of orders in which members can be merged.
@@ -88,6 +122,8 @@ pub enum DeskAsk {
     InOrder(OrderAsk, Words, Names),
     /// Where the fault of a text of this kind is; the second text is the script or the certificate.
     Why(TextKind),
+    /// What is wrong with these layers over the office text.
+    WhyLayers(LayersAsk),
     /// The plan of these children of a root as a work order: the root, and the children, or none for all.
     WorkOrder(Words, Names),
     /// The plan of these children of a root as a picture: the root, and the children, or none for all.
@@ -96,4 +132,26 @@ pub enum DeskAsk {
     Report(Words, Names),
     /// What is asked in the texts of geographic information systems.
     Geographic(GeographicAsk),
+    /// The same of the records of a layer that have no fault; the others go into the file of this name.
+    Skipping(GeographicAsk, Words),
+}
+
+/// A table that is held against a cut, as it is read from a stream.
+#[derive(Debug, Drop)]
+pub struct ReachAsk {
+    pub table: Words,
+    /// The designs of the cut, or none for all.
+    pub names: Names,
+    /// Whether the cut is to have what ties designs to one another, too.
+    pub is_for_groups: bool,
+    /// Whether coordinates finer than a millimetre are rounded.
+    pub is_rounded: bool,
+}
+
+/// What is asked: of texts alone, or of an office text and a stream.
+#[derive(Debug, Drop)]
+pub enum Asked {
+    OfTexts(DeskAsk),
+    /// Which rows of a table, that is read from a stream, a cut lacks; the office text is the cut.
+    Reach(ReachAsk),
 }

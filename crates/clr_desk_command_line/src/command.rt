@@ -1,14 +1,30 @@
-//! The command line, as it is described to `clap`.
+//! The command line, as it is described to `clap`: groups of subcommands in the order of help, each a table of at most four, since what a proof of a
+//! table takes grows with the square of its subcommands.
+//!
+//! A new subcommand is an entry of its group's table, and of the group of that name in `specs/Program.antt`, which says its words. No other line of
+//! this file changes, and no proof. A new group is a table, a function that adds it, and a line of `whole_command`; and a list in `groups` of the specs.
 
 ghost use Rattle.std.specs.Prelude.{◌≡◌, IfOk};
 ghost use Rattle.clap.specs.Words.{app_of};
-ghost use Rattle.clr_desk_command_line.specs.Program.{drawing, importing, ordering, program};
+ghost use Rattle.clr_desk_command_line.specs.Program.{
+  bare,
+  certificates,
+  choices,
+  cuts,
+  exports,
+  imports,
+  old_errors,
+  pictures,
+  program,
+  tellings,
+  with_group,
+};
 
 use crate::helps::{
     ABOUT, ACCEPT_PRINTS, CERTIFICATE_PRINTS, CHECK_PRINTS, CLASHES_PRINTS, DESIGN_PRINTS,
-    ERRORS_PRINTS, FORMAT_PRINTS, GEOJSON_PRINTS, KEEP_PRINTS, LAYER_PRINTS, MAP_PRINTS,
-    MENDED_PRINTS, MERGE_PRINTS, OFFICE_PRINTS, ORDER_PRINTS, REPORT_PRINTS, STATUSES, WHY_PRINTS,
-    WORDS_PRINTS,
+    DESIGNS_PRINTS, ERRORS_PRINTS, FORMAT_PRINTS, GEOJSON_PRINTS, KEEP_PRINTS, LAYER_PRINTS,
+    MAP_PRINTS, MENDED_PRINTS, MERGE_PRINTS, OFFICE_PRINTS, ORDER_PRINTS, REACH_PRINTS,
+    REPORT_PRINTS, STATUSES, WHY_PRINTS, WORDS_PRINTS,
 };
 use clap::Command;
 use clr_command_line::{
@@ -34,9 +50,32 @@ const LAYERS: Argument<'static> = Argument::RequiredValues(
     "A table, and the file of its layer, which is CSV",
 );
 
+const GIVEN_LAYERS: Argument<'static> = Argument::Values(
+    "TABLE=FILE",
+    "A table, and the file of its layer, which is CSV",
+);
+
 const ROUND: Argument<'static> = Argument::Flag(
     "round",
     "Round coordinates that are finer than a millimetre",
+);
+
+const COPIED: Argument<'static> = Argument::ValueOption(
+    "base",
+    "COPIED",
+    "The file of the office text from which the layers were copied [default: DB]",
+);
+
+const REMOVES: Argument<'static> = Argument::ValueOption(
+    "removes",
+    "CHOICE",
+    "Whether a design may remove rows, yes or no [default: yes]",
+);
+
+const LEAST_KEY: Argument<'static> = Argument::ValueOption(
+    "keys",
+    "N",
+    "The least key for a row without one [default: 1]",
 );
 
 const SYSTEM: Argument<'static> = Argument::ValueOption(
@@ -56,81 +95,90 @@ const IN_ORDER: Argument<'static> = Argument::Flag(
 /// The arguments of a subcommand over designs that may be asked to be merged in the order of their names.
 const OVER_MEMBERS_IN_ORDER: &[Argument<'static>] = &[DATABASE, ROOT, DESIGNS, IN_ORDER];
 
-/// The program with its subcommands about certificates and choices, in the order of its help.
+/// The program without its subcommands.
 const DESK: ProgramTable<'static> = ProgramTable {
     name: "clr_desk",
     version: VERSION,
     about: ABOUT,
     statuses: STATUSES,
-    subcommands: &[
-        Subcommand {
-            name: "certificate",
-            about: "Prints the certificate of designs that can be merged in every order",
-            prints: CERTIFICATE_PRINTS,
-            arguments: OVER_MEMBERS_IN_ORDER,
-        },
-        Subcommand {
-            name: "check",
-            about: "Says whether a certificate shows that its designs can be merged in every order",
-            prints: CHECK_PRINTS,
-            arguments: &[DATABASE, CERTIFICATE],
-        },
-        Subcommand {
-            name: "merge",
-            about: "Merges designs if a certificate holds, and prints the office that they leave",
-            prints: MERGE_PRINTS,
-            arguments: &[
-                DATABASE,
-                CERTIFICATE,
-                Argument::Values("NAME", "The designs to merge, in this order"),
-            ],
-        },
-        Subcommand {
-            name: "format",
-            about: "Prints the same office, a row a line",
-            prints: FORMAT_PRINTS,
-            arguments: &[DATABASE],
-        },
-        Subcommand {
-            name: "keep",
-            about: "Takes each design that can be merged with those taken before it, and prints their certificate",
-            prints: KEEP_PRINTS,
-            arguments: OVER_MEMBERS_IN_ORDER,
-        },
-        Subcommand {
-            name: "clashes",
-            about: "Lists the smallest sets of designs that can't be merged in every order, each with its cause",
-            prints: CLASHES_PRINTS,
-            arguments: OVER_MEMBERS,
-        },
-        Subcommand {
-            name: "order",
-            about: "Finds an order in which designs can be merged, and says which go before which",
-            prints: ORDER_PRINTS,
-            arguments: &[
-                DATABASE,
-                ROOT,
-                DESIGNS,
-                Argument::Flag("certificate", "Print the certificate of the order"),
-            ],
-        },
-    ],
+    subcommands: &[],
 };
 
-/// The subcommands that come after those, which explain and draw plans.
-const OVER_PLANS: &[Subcommand<'static>] = &[
+/// The subcommands about certificates, and those that print an office.
+const CERTIFICATES: &[Subcommand<'static>] = &[
+    Subcommand {
+        name: "certificate",
+        about: "Prints the certificate of designs that can be merged in every order",
+        prints: CERTIFICATE_PRINTS,
+        arguments: OVER_MEMBERS_IN_ORDER,
+    },
+    Subcommand {
+        name: "check",
+        about: "Says whether a certificate shows that its designs can be merged in every order",
+        prints: CHECK_PRINTS,
+        arguments: &[DATABASE, CERTIFICATE],
+    },
+    Subcommand {
+        name: "merge",
+        about: "Merges designs if a certificate holds, and prints the office that they leave",
+        prints: MERGE_PRINTS,
+        arguments: &[
+            DATABASE,
+            CERTIFICATE,
+            Argument::Values("NAME", "The designs to merge, in this order"),
+        ],
+    },
+    Subcommand {
+        name: "format",
+        about: "Prints the same office, a row a line",
+        prints: FORMAT_PRINTS,
+        arguments: &[DATABASE],
+    },
+];
+
+/// The subcommands that say which designs go together.
+const CHOICES: &[Subcommand<'static>] = &[
+    Subcommand {
+        name: "keep",
+        about: "Takes each design that can be merged with those taken before it, and prints their certificate",
+        prints: KEEP_PRINTS,
+        arguments: OVER_MEMBERS_IN_ORDER,
+    },
+    Subcommand {
+        name: "clashes",
+        about: "Lists the smallest sets of designs that can't be merged in every order, each with its cause",
+        prints: CLASHES_PRINTS,
+        arguments: OVER_MEMBERS,
+    },
+    Subcommand {
+        name: "order",
+        about: "Finds an order in which designs can be merged, and says which go before which",
+        prints: ORDER_PRINTS,
+        arguments: &[
+            DATABASE,
+            ROOT,
+            DESIGNS,
+            Argument::Flag("certificate", "Print the certificate of the order"),
+        ],
+    },
+];
+
+/// The subcommands that tell in words what is wrong.
+const TELLINGS: &[Subcommand<'static>] = &[
     Subcommand {
         name: "why",
-        about: "Says where an office text, a script or a certificate has its fault, and which",
+        about: "Says where an office text, a script, a certificate or a layer has its fault, and which",
         prints: WHY_PRINTS,
         arguments: &[
             DATABASE,
+            GIVEN_LAYERS,
             Argument::ValueOption("script", "FILE", "The file of a script for this office"),
             Argument::ValueOption(
                 "certificate",
                 "FILE",
                 "The file of a certificate over this office",
             ),
+            ROUND,
         ],
     },
     Subcommand {
@@ -139,6 +187,10 @@ const OVER_PLANS: &[Subcommand<'static>] = &[
         prints: WORDS_PRINTS,
         arguments: OVER_MEMBERS,
     },
+];
+
+/// The subcommands that draw plans.
+const PICTURES: &[Subcommand<'static>] = &[
     Subcommand {
         name: "map",
         about: "Draws the plan of designs as a picture, an SVG",
@@ -153,8 +205,8 @@ const OVER_PLANS: &[Subcommand<'static>] = &[
     },
 ];
 
-/// The subcommands that come after those, which bring networks and designs in and out.
-const OVER_NETWORKS: &[Subcommand<'static>] = &[
+/// The subcommands that show plans and tables to other systems.
+const EXPORTS: &[Subcommand<'static>] = &[
     Subcommand {
         name: "geojson",
         about: "Prints what the plan of designs is about as GeoJSON",
@@ -175,6 +227,10 @@ const OVER_NETWORKS: &[Subcommand<'static>] = &[
             ),
         ],
     },
+];
+
+/// The subcommands that bring networks and designs in.
+const IMPORTS: &[Subcommand<'static>] = &[
     Subcommand {
         name: "office",
         about: "Puts the rows of layers into LIVE, and prints the office",
@@ -190,6 +246,11 @@ const OVER_NETWORKS: &[Subcommand<'static>] = &[
                 "accept",
                 "Accept what is broken then, so that it is known in the office",
             ),
+            Argument::ValueOption(
+                "skip",
+                "BAD",
+                "Take the records without a fault, and write the others to this new file",
+            ),
         ],
     },
     Subcommand {
@@ -200,29 +261,34 @@ const OVER_NETWORKS: &[Subcommand<'static>] = &[
             DATABASE,
             Argument::Value("NAME", "The name of the new design"),
             LAYERS,
-            Argument::ValueOption(
-                "base",
-                "COPIED",
-                "The file of the office text from which the layers were copied [default: DB]",
-            ),
-            Argument::ValueOption(
-                "removes",
-                "CHOICE",
-                "Whether the design may remove rows, yes or no [default: yes]",
-            ),
+            COPIED,
+            REMOVES,
+            Argument::Flag("again", "Bring a design again that stands already"),
             Argument::Flag("script", "Print the script that makes the design"),
-            Argument::ValueOption(
-                "keys",
-                "N",
-                "The least key for a row without one [default: 1]",
+            LEAST_KEY,
+            ROUND,
+        ],
+    },
+    Subcommand {
+        name: "designs",
+        about: "Makes the designs of a folder, each of its layers, and prints the office with them",
+        prints: DESIGNS_PRINTS,
+        arguments: &[
+            DATABASE,
+            Argument::Value(
+                "FOLDER",
+                "A folder with one folder for each design, in which each file TABLE.csv is a layer",
             ),
+            COPIED,
+            REMOVES,
+            LEAST_KEY,
             ROUND,
         ],
     },
 ];
 
-/// The last subcommands, which are about errors.
-const OVER_ERRORS: &[Subcommand<'static>] = &[
+/// The subcommands about old errors.
+const OLD_ERRORS: &[Subcommand<'static>] = &[
     Subcommand {
         name: "errors",
         about: "Lists what is broken in LIVE, with the rows, their places and the rules",
@@ -247,33 +313,103 @@ const OVER_ERRORS: &[Subcommand<'static>] = &[
     },
 ];
 
-/// Returns the command line with the subcommands about certificates and choices.
-fn choice_command<'a>(alloc: Global) -> Result<Command<'a>, AllocError>
-    ensures { IfOk result (λ c. app_of c ≡ ordering) }
+/// The subcommands about cuts.
+const CUTS: &[Subcommand<'static>] = &[Subcommand {
+    name: "reach",
+    about: "Prints the rows of a table that a cut of the network lacks",
+    prints: REACH_PRINTS,
+    arguments: &[
+        Argument::Value(
+            "CUT",
+            "The file of an office text with the designs and some of the rows, which is JSON",
+        ),
+        Argument::Value(
+            "TABLE",
+            "The table, whose rows are read from standard input",
+        ),
+        DESIGNS,
+        Argument::Flag(
+            "groups",
+            "Print also what ties designs to one another, for groups of designs",
+        ),
+        ROUND,
+    ],
+}];
+
+/// Returns the command line without its subcommands.
+fn bare_command<'a>(alloc: Global) -> Result<Command<'a>, AllocError>
+    ensures { IfOk result (λ c. app_of c ≡ bare) }
 {
     command_of(alloc, DESK)
 }
 
-/// Returns the command line with these subcommands, and those that explain and draw plans.
-fn plan_command<'a>(alloc: Global) -> Result<Command<'a>, AllocError>
-    ensures { IfOk result (λ c. app_of c ≡ drawing) }
+/// Returns the command with the subcommands about certificates, and those that print an office.
+fn with_certificates<'a>(alloc: Global, command: Command<'a>) -> Result<Command<'a>, AllocError>
+    ensures { IfOk result (λ c. app_of c ≡ with_group (app_of command.entry) certificates) }
 {
-    let command = choice_command(alloc)?;
-    with_subcommands(alloc, command, OVER_PLANS)
+    with_subcommands(alloc, command, CERTIFICATES)
 }
 
-/// Returns the command line with the subcommands about plans and about networks.
-fn network_command<'a>(alloc: Global) -> Result<Command<'a>, AllocError>
-    ensures { IfOk result (λ c. app_of c ≡ importing) }
+/// Returns the command with the subcommands that say which designs go together.
+fn with_choices<'a>(alloc: Global, command: Command<'a>) -> Result<Command<'a>, AllocError>
+    ensures { IfOk result (λ c. app_of c ≡ with_group (app_of command.entry) choices) }
 {
-    let command = plan_command(alloc)?;
-    with_subcommands(alloc, command, OVER_NETWORKS)
+    with_subcommands(alloc, command, CHOICES)
 }
 
-/// Returns the whole command line. It is described by four tables: what a proof of one takes grows with the square of its subcommands.
+/// Returns the command with the subcommands that tell in words what is wrong.
+fn with_tellings<'a>(alloc: Global, command: Command<'a>) -> Result<Command<'a>, AllocError>
+    ensures { IfOk result (λ c. app_of c ≡ with_group (app_of command.entry) tellings) }
+{
+    with_subcommands(alloc, command, TELLINGS)
+}
+
+/// Returns the command with the subcommands that draw plans.
+fn with_pictures<'a>(alloc: Global, command: Command<'a>) -> Result<Command<'a>, AllocError>
+    ensures { IfOk result (λ c. app_of c ≡ with_group (app_of command.entry) pictures) }
+{
+    with_subcommands(alloc, command, PICTURES)
+}
+
+/// Returns the command with the subcommands that show plans and tables to other systems.
+fn with_exports<'a>(alloc: Global, command: Command<'a>) -> Result<Command<'a>, AllocError>
+    ensures { IfOk result (λ c. app_of c ≡ with_group (app_of command.entry) exports) }
+{
+    with_subcommands(alloc, command, EXPORTS)
+}
+
+/// Returns the command with the subcommands that bring networks and designs in.
+fn with_imports<'a>(alloc: Global, command: Command<'a>) -> Result<Command<'a>, AllocError>
+    ensures { IfOk result (λ c. app_of c ≡ with_group (app_of command.entry) imports) }
+{
+    with_subcommands(alloc, command, IMPORTS)
+}
+
+/// Returns the command with the subcommands about old errors.
+fn with_old_errors<'a>(alloc: Global, command: Command<'a>) -> Result<Command<'a>, AllocError>
+    ensures { IfOk result (λ c. app_of c ≡ with_group (app_of command.entry) old_errors) }
+{
+    with_subcommands(alloc, command, OLD_ERRORS)
+}
+
+/// Returns the command with the subcommands about cuts.
+fn with_cuts<'a>(alloc: Global, command: Command<'a>) -> Result<Command<'a>, AllocError>
+    ensures { IfOk result (λ c. app_of c ≡ with_group (app_of command.entry) cuts) }
+{
+    with_subcommands(alloc, command, CUTS)
+}
+
+/// Returns the whole command line.
 pub fn whole_command<'a>(alloc: Global) -> Result<Command<'a>, AllocError>
     ensures { IfOk result (λ c. app_of c ≡ program) }
 {
-    let command = network_command(alloc)?;
-    with_subcommands(alloc, command, OVER_ERRORS)
+    let start = bare_command(alloc)?;
+    let certifying = with_certificates(alloc, start)?;
+    let choosing = with_choices(alloc, certifying)?;
+    let telling = with_tellings(alloc, choosing)?;
+    let drawing = with_pictures(alloc, telling)?;
+    let exporting = with_exports(alloc, drawing)?;
+    let importing = with_imports(alloc, exporting)?;
+    let mending = with_old_errors(alloc, importing)?;
+    with_cuts(alloc, mending)
 }

@@ -5,7 +5,7 @@ use clr_rows::GREATEST_KEY;
 use std::alloc::{AllocError, Global};
 
 /// Returns what is wrong with the words of a subcommand that reads layers: that a layer has no `=`, or else that a choice is neither yes nor no, that the
-/// script of a design is asked for that has none, or else that the first key is none.
+/// script of a design is asked for that has none, that records of several layers are to be skipped, or else that the first key is none.
 pub(crate) fn complaint(alloc: Global, matches: &ArgMatches) -> Result<String, AllocError> {
     for word in matches.get_strs("TABLE=FILE").unwrap_or(&[]) {
         if !word.contains('=') {
@@ -21,6 +21,11 @@ pub(crate) fn complaint(alloc: Global, matches: &ArgMatches) -> Result<String, A
     if matches.get_str("base").is_some() && matches.get_str("script") == Some("true") {
         return format!(in alloc;
             "the argument '--script' cannot be used with '--base <COPIED>': no script makes a design in an office that LIVE has left"
+        );
+    }
+    if matches.get_str("skip").is_some() {
+        return format!(in alloc;
+            "the argument '--skip <BAD>' takes one layer: put the tables into the office one after another"
         );
     }
     let key = matches.get_str("keys").unwrap_or("");

@@ -3,19 +3,24 @@
 ghost use Rattle.std.specs.Prelude.{◌≡◌, ◌++◌, IfOk, option_map};
 ghost use Rattle.clap.specs.Words.{found_of, rows_of};
 ghost use Rattle.clr_desk_command_line.specs.Asks.{
+  can_skip,
   choice_in,
   design_as,
   design_ask,
   design_ask_with,
+  designs_as,
+  designs_ask,
+  designs_ask_with,
   first_key_of,
   key_in,
   may_remove_of,
   office_ask,
   office_of,
+  office_with,
   offices_of_design,
 };
 
-use crate::asks::{DesignAsk, GeographicAsk};
+use crate::asks::{DesignAsk, DesignsAsk, GeographicAsk};
 use crate::named_layers::layers;
 use crate::values::{given_or, given_value, has_value};
 use clap::ArgMatches;
@@ -48,7 +53,10 @@ fn first_key(matches: &ArgMatches) -> Option<u64>
 }
 
 /// Returns files with others behind them.
-fn append_files(mut files: Vec<Words>, mut others: Vec<Words>) -> Result<Vec<Words>, AllocError>
+pub(crate) fn append_files(
+    mut files: Vec<Words>,
+    mut others: Vec<Words>,
+) -> Result<Vec<Words>, AllocError>
     ensures { IfOk result (λ all. all.items ≡ files.items ++ others.items) }
 {
     files.append(&mut others)?;
@@ -66,7 +74,30 @@ fn office_of(is_accepted: bool, tables: Names, is_rounded: bool) -> GeographicAs
     }
 }
 
-/// Returns what `office` asks for, and its files, or nothing where a layer can't be read.
+/// Returns whether records may be skipped of so many layers, if they are to be skipped.
+fn can_skip(is_skipping: bool, count: usize) -> bool
+    ensures { result ≡ can_skip is_skipping count }
+{
+    !is_skipping || count == 1
+}
+
+/// Returns the office that has the rows of layers of these tables in these files, and its files.
+fn office_with(
+    alloc: Global,
+    matches: &ArgMatches,
+    tables: Vec<Words>,
+    files: Vec<Words>,
+) -> Result<GeographicAskAndFiles, AllocError>
+    ensures { IfOk result (λ r. office_with (rows_of (found_of matches.now)) (tables.items, files.items) ≡ (r.0, r.1.items)) }
+{
+    let is_rounded = is_set(matches, "round");
+    let ask = office_of(is_set(matches, "accept"), Names::new(tables), is_rounded);
+    let mut all = Vec::new(alloc);
+    all.push(given_or(alloc, matches, "SCHEMA", "")?)?;
+    Ok((ask, append_files(all, files)?))
+}
+
+/// Returns what `office` asks for, and its files, or nothing where a layer can't be read, or where records of several layers are to be skipped.
 pub(crate) fn office(
     alloc: Global,
     matches: &ArgMatches,
@@ -76,11 +107,11 @@ pub(crate) fn office(
     let Some((tables, files)) = layers(alloc, matches)? else {
         return Ok(None);
     };
-    let is_rounded = is_set(matches, "round");
-    let ask = office_of(is_set(matches, "accept"), Names::new(tables), is_rounded);
-    let mut all = Vec::new(alloc);
-    all.push(given_or(alloc, matches, "SCHEMA", "")?)?;
-    Ok(Some((ask, append_files(all, files)?)))
+    if can_skip(has_value(matches, "skip"), tables.len()) {
+        Ok(Some(office_with(alloc, matches, tables, files)?))
+    } else {
+        Ok(None)
+    }
 }
 
 /// Returns the choice that a text is, if it is yes or no.
@@ -104,16 +135,24 @@ fn may_remove(matches: &ArgMatches) -> Option<bool>
     }
 }
 
-/// Returns the script of a design, the office with it, or the office with a design of layers that were copied from another office; and nothing
-/// where the script of such a design is asked for.
-fn design_as(is_script: bool, has_base: bool, design: DesignAsk) -> Option<GeographicAsk>
-    ensures { result ≡ design_as is_script has_base design }
+/// Returns the script of a new design, the office with it, or the office with a design of layers that were copied from another office; or the same of
+/// a design that stands already; and nothing where the script of a design of copied layers is asked for.
+fn design_as(
+    is_old: bool,
+    is_script: bool,
+    has_base: bool,
+    design: DesignAsk,
+) -> Option<GeographicAsk>
+    ensures { result ≡ design_as is_old is_script has_base design }
 {
-    match (is_script, has_base) {
-        (true, true) => None,
-        (true, false) => Some(GeographicAsk::DesignScript(design)),
-        (false, true) => Some(GeographicAsk::DesignSince(design)),
-        (false, false) => Some(GeographicAsk::Design(design)),
+    match (is_old, is_script, has_base) {
+        (_, true, true) => None,
+        (false, true, false) => Some(GeographicAsk::DesignScript(design)),
+        (false, false, true) => Some(GeographicAsk::DesignSince(design)),
+        (false, false, false) => Some(GeographicAsk::Design(design)),
+        (true, true, false) => Some(GeographicAsk::DesignAgainScript(design)),
+        (true, false, true) => Some(GeographicAsk::DesignAnew(design)),
+        (true, false, false) => Some(GeographicAsk::DesignAgain(design)),
     }
 }
 
@@ -149,6 +188,7 @@ fn design_with(
         may_remove,
     };
     let Some(ask) = design_as(
+        is_set(matches, "again"),
         is_set(matches, "script"),
         has_value(matches, "base"),
         design,
@@ -176,4 +216,50 @@ pub(crate) fn design(
         return Ok(None);
     };
     design_with(alloc, matches, first_key, may_remove)
+}
+
+/// Returns the office with designs, or with designs of layers that were copied from another office.
+fn designs_as(has_base: bool, designs: DesignsAsk) -> GeographicAsk
+    ensures { result ≡ designs_as has_base designs }
+{
+    if has_base {
+        GeographicAsk::DesignsSince(designs)
+    } else {
+        GeographicAsk::Designs(designs)
+    }
+}
+
+/// Returns what is asked of the designs of a folder whose rows get keys from this one on, and the files of the offices.
+fn designs_with(
+    alloc: Global,
+    matches: &ArgMatches,
+    first_key: u64,
+    may_remove: bool,
+) -> Result<GeographicAskAndFiles, AllocError>
+    ensures { IfOk result (λ r. designs_ask_with (rows_of (found_of matches.now)) first_key may_remove ≡ (r.0, r.1.items)) }
+{
+    let designs = DesignsAsk {
+        folder: given_or(alloc, matches, "FOLDER", "")?,
+        first_key,
+        is_rounded: is_set(matches, "round"),
+        may_remove,
+    };
+    let ask = designs_as(has_value(matches, "base"), designs);
+    Ok((ask, offices_of_design(alloc, matches)?))
+}
+
+/// Returns what `designs` asks for, and its files, or nothing where the first key or the choice can't be read.
+pub(crate) fn designs(
+    alloc: Global,
+    matches: &ArgMatches,
+) -> Result<Option<GeographicAskAndFiles>, AllocError>
+    ensures { IfOk result (λ r. designs_ask (rows_of (found_of matches.now)) ≡ option_map (λ p. (p.0, p.1.items)) r) }
+{
+    let Some(first_key) = first_key(matches) else {
+        return Ok(None);
+    };
+    let Some(may_remove) = may_remove(matches) else {
+        return Ok(None);
+    };
+    Ok(Some(designs_with(alloc, matches, first_key, may_remove)?))
 }

@@ -71,13 +71,16 @@ Example:
 
 pub(crate) const WHY_PRINTS: &str =
     "It prints the fault of the office text, or of the script or certificate that is given, as `clr_office`
-names it; its line, column and path; the line of the text with a mark; and what is wrong there. Where
-both a script and a certificate are given, it looks at the script. The status is 0 where there is no
-fault, 1 where a need is broken in the office that isn't known, and 2 where there is a fault. Of an
-office in which all that is broken is known, it says how many old errors there are of each rule.
+names it; its line, column and path; the line of the text with a mark; and what is wrong there. Of layers
+it prints all that is wrong with them: each fault with its file, line and column, up to 100 of a layer, and
+how many there are of each kind. It looks at the layers that are given, else at the script, and else at the
+certificate. The status is 0 where there is no fault, 1 where a need is broken in the office that isn't
+known, and 2 where there is a fault. Of an office in which all that is broken is known, it says how many
+old errors there are of each rule.
 
 Example:
-  clr_desk why office.json --script night.csv";
+  clr_desk why office.json --script night.csv
+  clr_desk why schema.json main=main.csv valve=valve.csv";
 
 pub(crate) const WORDS_PRINTS: &str =
     "It prints the plan of the designs in sentences: whether they can be merged in every order, and if
@@ -127,10 +130,14 @@ pub(crate) const OFFICE_PRINTS: &str =
 with status 0. A layer is CSV, as `clr_desk layer` prints it, with shapes as WKT in metres; a row whose KEY is empty
 gets the least key that is free. Where a layer can't be read or a rule doesn't hold it prints nothing, and on standard
 error the line that says so, with status 2 or 1. With --accept no rule is in the way: what is broken is known in the
-office, as `clr_desk accept` has it, and standard error says how many needs these are of each rule.
+office, as `clr_desk accept` has it, and standard error says how many needs these are of each rule. With --skip it takes
+the records of one layer that have no fault. The others go into BAD, under the layer's header, with the column WHY behind
+their own, which says what is wrong; and standard error says how many they are. BAD is written where the office is
+printed, and there must be no such file yet.
 
 Example:
-  clr_desk office schema.json main=main.csv valve=valve.csv > office.json";
+  clr_desk office schema.json main=main.csv valve=valve.csv > office.json
+  clr_desk office schema.json main=main.csv --skip bad_main.csv --accept > office.json";
 
 pub(crate) const DESIGN_PRINTS: &str =
     "It prints the office with one more design under LIVE, which has the rows of the layers in place of those of their
@@ -139,11 +146,23 @@ How many rows the design adds, changes and removes stands on standard error. A l
 it, with shapes as WKT in metres; a row whose KEY is empty gets the least key from N on that is free. What LIVE got
 since the layers were copied isn't in them, and the design would remove it: give the office that they were copied from
 as COPIED. The design is then the difference to that, and in conflict where LIVE changed the same since. With
---removes no a design that removes a row is refused. Where a layer can't be read or the design can't be made it prints
-nothing, and on standard error the line that says so, with status 2 or 1.
+--removes no a design that removes a row is refused. With --again NAME stands already: it keeps what it took over from
+LIVE, and its changes become those of the layers; with COPIED it is made anew in its place. Where a layer can't be read
+or the design can't be made it prints nothing, and on standard error the line that says so, with status 2 or 1.
 
 Example:
   clr_desk design office.json Bypass main=main.csv --base copied.json > with_bypass.json";
+
+pub(crate) const DESIGNS_PRINTS: &str =
+    "It prints the office with one more design under LIVE for each folder in FOLDER, in the order of their names, and
+nothing else, with status 0. The name of the folder is that of the design, and each file TABLE.csv in it is the layer of
+a table, as for `clr_desk design`. How many rows each design adds, changes and removes stands on standard error. Names
+that begin with a dot are passed over. COPIED, --removes, --keys and --round are as for `clr_desk design`, the same for
+all designs; rows whose KEY is empty may get the same key in two of them. Where a folder has no layer, a layer can't be
+read or a design can't be made it prints nothing, and on standard error the line that says so, with status 2 or 1.
+
+Example:
+  clr_desk designs office.json designs --base copied.json > with_designs.json";
 
 pub(crate) const ERRORS_PRINTS: &str =
     "It prints each need that is broken in LIVE: whether it is known, the rule, the rows, and the place; with --geojson
@@ -166,3 +185,15 @@ and so does whatever else prints the office. The status is 0.
 
 Example:
   clr_desk mended office.json";
+
+pub(crate) const REACH_PRINTS: &str =
+    "It reads the rows of the table as CSV from standard input, as `clr_desk layer` prints them, and prints those that the
+cut lacks: rows that a design changes, and rows near what it brings or takes away. The cut is an office text with the
+designs and a part of the rows; rules may be broken in it. One row is read at a time, so the table may have any size.
+On standard error stand the rows that the cut has otherwise, and how many rows were read, printed, otherwise and had.
+Where a pass over each table prints nothing and all rows of the cut were had, a plan over the cut is the plan over the
+whole. Without names it takes all designs. The status is 0 where no row is printed and none is otherwise, 1 where one
+is, and 2 where a row can't be read.
+
+Example:
+  clr_desk reach cut.json main < main.csv > more.csv";

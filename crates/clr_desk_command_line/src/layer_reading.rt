@@ -2,10 +2,10 @@
 
 ghost use Rattle.std.specs.Prelude.{◌≡◌, IfOk, option_map};
 ghost use Rattle.clap.specs.Words.{found_of, rows_of};
-ghost use Rattle.clr_desk_command_line.specs.Asks.{features_of, geographic_asked, layer_ask};
+ghost use Rattle.clr_desk_command_line.specs.Asks.{features_of, geographic_asked, imports_asked, layer_ask};
 
 use crate::asks::GeographicAsk;
-use crate::design_reading::{GeographicAskAndFiles, design, office};
+use crate::design_reading::{GeographicAskAndFiles, design, designs, office};
 use crate::values::{given_or, given_value, root};
 use clap::ArgMatches;
 use clr_command_line::{database, names};
@@ -37,6 +37,24 @@ fn layer(alloc: Global, matches: &ArgMatches) -> Result<GeographicAskAndFiles, A
     ))
 }
 
+/// Returns what a subcommand that reads layers asks for, and its files, or nothing where no such subcommand has the name, or where its layers or its
+/// first key can't be read.
+#[tactic(auto, unfolding(crate::specs::Asks::imports_asked))]
+fn imports_ask(
+    alloc: Global,
+    name: &str,
+    matches: &ArgMatches,
+) -> Result<Option<GeographicAskAndFiles>, AllocError>
+    ensures { IfOk result (λ r. imports_asked name.now (rows_of (found_of matches.now)) ≡ option_map (λ p. (p.0, p.1.items)) r) }
+{
+    match name {
+        "office" => office(alloc, matches),
+        "design" => design(alloc, matches),
+        "designs" => designs(alloc, matches),
+        _ => Ok(None),
+    }
+}
+
 /// Returns what a subcommand over layers or features asks for, and its files, or nothing where no such subcommand has the name, or where its layers
 /// or its first key can't be read.
 #[tactic(auto, unfolding(crate::specs::Asks::geographic_asked))]
@@ -50,8 +68,6 @@ pub(crate) fn geographic_ask(
     match name {
         "geojson" => Ok(Some(features(alloc, matches)?)),
         "layer" => Ok(Some(layer(alloc, matches)?)),
-        "office" => office(alloc, matches),
-        "design" => design(alloc, matches),
-        _ => Ok(None),
+        _ => imports_ask(alloc, name, matches),
     }
 }

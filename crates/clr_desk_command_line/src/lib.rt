@@ -3,7 +3,7 @@
 //! - `ask_of` [`asks`, `takes`]: what is asked, and the files, are what `clap`'s definition of a
 //!   simple command finds in the words. Words that the command takes, in which each layer, the first
 //!   key and the choice can be read where a subcommand has them, are refused only where there is no memory, but for
-//!   the script of a design that has none. Texts of
+//!   the script of a design that has none, and for records of several layers that are to be skipped. Texts of
 //!   help, usage and refusals are tested only.
 #![tactic(auto)]
 
@@ -16,7 +16,10 @@ mod layer_reading;
 mod named_layers;
 mod reading;
 mod values;
+mod why_reading;
 
-pub use asks::{DesignAsk, DeskAsk, GeographicAsk, OrderAsk, TextKind};
+pub use asks::{
+    Asked, DesignAsk, DesignsAsk, DeskAsk, GeographicAsk, LayersAsk, OrderAsk, ReachAsk, TextKind,
+};
 pub use clr_command_line::AskFault;
 pub use reading::ask_of;

@@ -1,11 +1,12 @@
 //! Reading the words of a command line.
 
-ghost use Rattle.std.specs.Prelude.{◌≡◌, Some, IfOk, IfErr, map, option_map, true};
-ghost use Rattle.clap.specs.Words.{found_of, rows_of, subcommand_of, takes};
-ghost use Rattle.clr_command_line.specs.Asks.{IsMemory};
+ghost use Rattle.std.specs.Prelude.{◌≡◌, Some, IfOk, IfErr, List, codes, map, option_map, true};
+ghost use Rattle.clap.specs.Words.{Text, first_of, found_of, rows_of, subcommand_of, takes};
+ghost use Rattle.clr_command_line.specs.Asks.{IsMemory, database_of};
 ghost use Rattle.clr_desk_command_line.specs.Asks.{
   ask_of,
   ask_by_name,
+  asked_by_name,
   asked_of_office,
   certificate_ask,
   errors_of,
@@ -15,46 +16,33 @@ ghost use Rattle.clr_desk_command_line.specs.Asks.{
   keep_ask,
   members_asked,
   merge_ask,
+  of_layers,
+  of_texts,
   or_members_asked,
   order_ask,
   or_others_asked,
-  why_of,
+  pictures_ask,
+  reach_of,
 };
 ghost use Rattle.clr_desk_command_line.specs.Program.{program};
+ghost use Rattle.clr_desk_command_line.specs.declared.asks.DeskAsk.{DeskAsk};
+ghost use Rattle.clr_desk_command_line.specs.declared.asks.DeskAsk.TheVariants.{Errors, Geographic};
+ghost use Rattle.clr_desk_command_line.specs.declared.asks.GeographicAsk.TheVariants.{ErrorFeatures};
 
-use crate::asks::{DeskAsk, GeographicAsk, OrderAsk, TextKind};
+use crate::asks::{Asked, DeskAsk, GeographicAsk, OrderAsk, ReachAsk};
 use crate::command::whole_command;
 use crate::complaints::complaint;
 use crate::layer_reading::geographic_ask;
-use crate::values::{given_value, has_value, root};
+use crate::values::{given_or, given_value, root};
+use crate::why_reading::{AskAndFiles, why};
 use clap::ArgMatches;
 use clap::error::ErrorKind;
 use clr_command_line::{AskFault, database, database_with, is_set, names};
 use clr_rows::{Names, Words};
 use std::alloc::{AllocError, Global};
 
-/// What is asked, and the files, in which the office text stands first.
-type AskAndFiles = (DeskAsk, Vec<Words>);
-
-/// Returns what `why` asks for, and its files: where a script and a certificate are given, the script
-/// counts.
-fn why(alloc: Global, matches: &ArgMatches) -> Result<AskAndFiles, AllocError>
-    ensures { IfOk result (λ r. why_of (rows_of (found_of matches.now)) ≡ (r.0, r.1.items)) }
-{
-    if has_value(matches, "script") {
-        Ok((
-            DeskAsk::Why(TextKind::Script),
-            database_with(alloc, matches, "script")?,
-        ))
-    } else if has_value(matches, "certificate") {
-        Ok((
-            DeskAsk::Why(TextKind::Certificate),
-            database_with(alloc, matches, "certificate")?,
-        ))
-    } else {
-        Ok((DeskAsk::Why(TextKind::Office), database(alloc, matches)?))
-    }
-}
+/// The same of texts or of a stream.
+type AskedAndFiles = (Asked, Vec<Words>);
 
 /// Returns what `certificate` asks for, in the order of the names or in every order.
 fn certificate_ask(is_in_order: bool, root: Words, names: Names) -> DeskAsk
@@ -89,6 +77,19 @@ fn order_ask(is_certificate: bool) -> OrderAsk
     }
 }
 
+/// Returns the plan of members of a root in words, as a picture or as a page, if a subcommand of this name asks it.
+#[tactic(auto, unfolding(crate::specs::Asks::pictures_ask))]
+fn pictures_ask(name: &str, root: Words, names: Names) -> Option<DeskAsk>
+    ensures { result ≡ pictures_ask name.now root names }
+{
+    match name {
+        "words" => Some(DeskAsk::WorkOrder(root, names)),
+        "map" => Some(DeskAsk::Map(root, names)),
+        "report" => Some(DeskAsk::Report(root, names)),
+        _ => None,
+    }
+}
+
 /// Returns what is asked of members of a root, if a subcommand of this name asks it.
 #[tactic(auto, unfolding(crate::specs::Asks::members_ask))]
 fn members_ask(name: &str, matches: &ArgMatches, root: Words, names: Names) -> Option<DeskAsk>
@@ -99,10 +100,7 @@ fn members_ask(name: &str, matches: &ArgMatches, root: Words, names: Names) -> O
         "keep" => Some(keep_ask(is_set(matches, "in-order"), root, names)),
         "clashes" => Some(DeskAsk::Clashes(root, names)),
         "order" => Some(DeskAsk::InOrder(order_ask(is_set(matches, "certificate")), root, names)),
-        "words" => Some(DeskAsk::WorkOrder(root, names)),
-        "map" => Some(DeskAsk::Map(root, names)),
-        "report" => Some(DeskAsk::Report(root, names)),
-        _ => None,
+        _ => pictures_ask(name, root, names),
     }
 }
 
@@ -131,18 +129,47 @@ fn merge(alloc: Global, matches: &ArgMatches) -> Result<AskAndFiles, AllocError>
     Ok((ask, database_with(alloc, matches, "CERT")?))
 }
 
+/// Returns what `errors` asks for where features are asked for, and its file.
+fn error_features(alloc: Global, matches: &ArgMatches) -> Result<AskAndFiles, AllocError>
+    ensures { IfOk result (λ r. ◌≡◌ {A = DeskAsk × List Text} (
+      Geographic (ErrorFeatures (first_of (codes "crs") (rows_of (found_of matches.now)))),
+      database_of (rows_of (found_of matches.now)),
+    ) (r.0, r.1.items)) }
+{
+    let system = given_value(alloc, matches, "crs")?;
+    let files = database(alloc, matches)?;
+    Ok((
+        DeskAsk::Geographic(GeographicAsk::ErrorFeatures(system)),
+        files,
+    ))
+}
+
+/// Returns what `errors` asks for where lines are asked for, and its file.
+fn error_lines(alloc: Global, matches: &ArgMatches) -> Result<AskAndFiles, AllocError>
+    ensures { IfOk result (λ r. ◌≡◌ {A = DeskAsk × List Text} (Errors, database_of (rows_of (found_of matches.now))) (r.0, r.1.items)) }
+{
+    let files = database(alloc, matches)?;
+    Ok((DeskAsk::Errors, files))
+}
+
 /// Returns what `errors` asks for, and its file: features, or lines.
 fn errors(alloc: Global, matches: &ArgMatches) -> Result<AskAndFiles, AllocError>
     ensures { IfOk result (λ r. errors_of (rows_of (found_of matches.now)) ≡ (r.0, r.1.items)) }
 {
     if is_set(matches, "geojson") {
-        let system = given_value(alloc, matches, "crs")?;
-        Ok((
-            DeskAsk::Geographic(GeographicAsk::ErrorFeatures(system)),
-            database(alloc, matches)?,
-        ))
+        error_features(alloc, matches)
     } else {
-        Ok((DeskAsk::Errors, database(alloc, matches)?))
+        error_lines(alloc, matches)
+    }
+}
+
+/// Returns what is asked of whole layers, or where a file is given for records that have faults, of the others.
+fn of_layers(skipped: Option<Words>, ask: GeographicAsk) -> DeskAsk
+    ensures { result ≡ of_layers skipped ask }
+{
+    match skipped {
+        None => DeskAsk::Geographic(ask),
+        Some(file) => DeskAsk::Skipping(ask, file),
     }
 }
 
@@ -157,7 +184,10 @@ fn over_layers_or_members(
         ≡ option_map (λ p. (p.0, p.1.items)) r) }
 {
     match geographic_ask(alloc, name, matches)? {
-        Some((ask, files)) => Ok(Some((DeskAsk::Geographic(ask), files))),
+        Some((ask, files)) => {
+            let skipped = given_value(alloc, matches, "skip")?;
+            Ok(Some((of_layers(skipped, ask), files)))
+        }
         None => over_members(alloc, name, matches),
     }
 }
@@ -190,8 +220,8 @@ fn over_office_or_others(
     }
 }
 
-/// Returns what a subcommand asks for, and its files, or nothing where no subcommand has the name, or where its layers or its first key can't
-/// be read.
+/// Returns what a subcommand asks for of texts, and its files, or nothing where no such subcommand has the name, or where its layers or its first
+/// key can't be read.
 #[tactic(auto, unfolding(crate::specs::Asks::ask_by_name))]
 fn ask_of_subcommand(
     alloc: Global,
@@ -204,8 +234,54 @@ fn ask_of_subcommand(
         "check" => Ok(Some((DeskAsk::Check, database_with(alloc, matches, "CERT")?))),
         "merge" => Ok(Some(merge(alloc, matches)?)),
         "errors" => Ok(Some(errors(alloc, matches)?)),
-        "why" => Ok(Some(why(alloc, matches)?)),
+        "why" => why(alloc, matches),
         _ => over_office_or_others(alloc, name, matches),
+    }
+}
+
+/// Returns what `reach` asks for, and its file.
+fn reach(alloc: Global, matches: &ArgMatches) -> Result<AskedAndFiles, AllocError>
+    ensures { IfOk result (λ r. reach_of (rows_of (found_of matches.now)) ≡ (r.0, r.1.items)) }
+{
+    let ask = ReachAsk {
+        table: given_or(alloc, matches, "TABLE", "")?,
+        names: names(alloc, matches)?,
+        is_for_groups: is_set(matches, "groups"),
+        is_rounded: is_set(matches, "round"),
+    };
+    let mut files = Vec::new(alloc);
+    files.push(given_or(alloc, matches, "CUT", "")?)?;
+    Ok((Asked::Reach(ask), files))
+}
+
+/// Returns what a subcommand asks for of texts, and its files, or nothing where no such subcommand has the name, or where its layers or its first
+/// key can't be read.
+fn of_texts(
+    alloc: Global,
+    name: &str,
+    matches: &ArgMatches,
+) -> Result<Option<AskedAndFiles>, AllocError>
+    ensures { IfOk result (λ r. of_texts (ask_by_name name.now (rows_of (found_of matches.now))) ≡ option_map (λ p. (p.0, p.1.items)) r) }
+{
+    match ask_of_subcommand(alloc, name, matches)? {
+        Some((ask, files)) => Ok(Some((Asked::OfTexts(ask), files))),
+        None => Ok(None),
+    }
+}
+
+/// Returns what a subcommand asks for of texts or of a stream, and its files, or nothing where no subcommand has the name, or where its layers or
+/// its first key can't be read.
+#[tactic(auto, unfolding(crate::specs::Asks::asked_by_name))]
+fn asked_of_subcommand(
+    alloc: Global,
+    name: &str,
+    matches: &ArgMatches,
+) -> Result<Option<AskedAndFiles>, AllocError>
+    ensures { IfOk result (λ r. asked_by_name name.now (rows_of (found_of matches.now)) ≡ option_map (λ p. (p.0, p.1.items)) r) }
+{
+    match name {
+        "reach" => Ok(Some(reach(alloc, matches)?)),
+        _ => of_texts(alloc, name, matches),
     }
 }
 
@@ -219,16 +295,18 @@ fn refusal(alloc: Global, matches: &ArgMatches) -> Result<AskFault, AllocError> 
 
 /// Returns what the words of a command line ask for, with the program's name first, and the names of the files that it is asked of: that of the office text,
 /// and then that of the script, the certificate or the office that was copied, and those of the layers, where there are some. The subcommands are `check DB
-/// CERT`, `merge DB CERT NAME..`, `format DB`, `accept DB`, `mended DB`, `errors DB [--geojson] [--crs SYSTEM]`, `why DB [--script FILE] [--certificate
-/// FILE]`, `certificate`, `keep`, `clashes`, `order`, `words`, `map` and `report`, each with `DB [--under ROOT] NAME..`, of which `certificate` and `keep`
-/// take `--in-order` and `order` takes `--certificate`, `geojson DB [--under ROOT] [--crs SYSTEM] NAME..`, `layer DB TABLE [--in WORKSPACE]`, `office SCHEMA
-/// TABLE=FILE.. [--round] [--accept]` and `design DB NAME TABLE=FILE.. [--base COPIED] [--removes CHOICE] [--script] [--keys N] [--round]`. There are none or
-/// more names, and one or more layers. The root, and the workspace of a layer, is LIVE where none is given; N is 1, and CHOICE is `yes`.
+/// CERT`, `merge DB CERT NAME..`, `format DB`, `accept DB`, `mended DB`, `errors DB [--geojson] [--crs SYSTEM]`, `why DB [TABLE=FILE..] [--script FILE]
+/// [--certificate FILE] [--round]`, `certificate`, `keep`, `clashes`, `order`, `words`, `map` and `report`, each with `DB [--under ROOT] NAME..`, of which
+/// `certificate` and `keep` take `--in-order` and `order` takes `--certificate`, `geojson DB [--under ROOT] [--crs SYSTEM] NAME..`, `layer DB TABLE [--in
+/// WORKSPACE]`, `office SCHEMA TABLE=FILE.. [--round] [--accept] [--skip BAD]`, `design DB NAME TABLE=FILE.. [--base COPIED] [--removes CHOICE] [--again]
+/// [--script] [--keys N] [--round]`, `designs DB FOLDER [--base COPIED] [--removes CHOICE] [--keys N] [--round]`, whose designs aren't among the files, and
+/// `reach CUT TABLE NAME.. [--groups] [--round]`, which reads the table from a stream. There are none or more names, and one or more layers, but for `why` none
+/// or more. The root, and the workspace of a layer, is LIVE where none is given; N is 1, and CHOICE is `yes`.
 ///
 /// Fails with `Refused` where the words name no subcommand or another count of values than it has, where a layer has no `=`, N is no key, CHOICE is neither
-/// `yes` nor `no`, or both COPIED and a script are asked for, or where they ask for help, as `help`, `--help` and `-h`, or for the version, as `--version`
-/// and `-V`; and with `OutOfMemory` for want of memory, which may come in place of any other answer.
-pub fn ask_of<'a>(alloc: Global, words: &'a [&'a str]) -> Result<(DeskAsk, Vec<Words>), AskFault>
+/// `yes` nor `no`, both COPIED and a script are asked for, or both BAD and several layers are given; or where they ask for help, as `help`, `--help` and `-h`,
+/// or for the version, as `--version` and `-V`; and with `OutOfMemory` for want of memory, which may come in place of any other answer.
+pub fn ask_of<'a>(alloc: Global, words: &'a [&'a str]) -> Result<(Asked, Vec<Words>), AskFault>
     ensures asks { IfOk result (λ r. ask_of (subcommand_of program (map (λ s. s.now) words.entry.now)) ≡ Some (r.0, r.1.items)) }
     ensures takes { takes program (map (λ s. s.now) words.entry.now) ≡ true
         → is_readable (subcommand_of program (map (λ s. s.now) words.entry.now)) ≡ true → IfErr result IsMemory }
@@ -241,7 +319,7 @@ pub fn ask_of<'a>(alloc: Global, words: &'a [&'a str]) -> Result<(DeskAsk, Vec<W
     let Some((name, values)) = matches.subcommand() else {
         unreachable!();
     };
-    match ask_of_subcommand(alloc, name, values)? {
+    match asked_of_subcommand(alloc, name, values)? {
         Some(asked) => Ok(asked),
         None => Err(refusal(alloc, values)?),
     }

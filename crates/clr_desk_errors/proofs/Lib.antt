@@ -1,3 +1,2 @@
 pub mod Accepted
-mod ListedLemmas
 mod MendedLemmas

@@ -17,7 +17,7 @@ use std::alloc::{AllocError, Global};
 
 /// An office, and the needs that its text names as known.
 #[derive(Drop)]
-pub(crate) struct KnownOffice {
+pub struct KnownOffice {
     pub office: Office,
     pub known: KnownNeeds,
 }
@@ -36,7 +36,7 @@ pub fn admitted(draft: Draft) -> Result<Office, AllocError>
 
 /// Returns the office of a text, whatever is broken in it, and the needs that are known there. Fails with `BadOffice` where the text is no
 /// office, and with `OutOfMemory` if memory runs out.
-pub(crate) fn open_known(alloc: Global, text: &[u8]) -> Result<KnownOffice, RunFault>
+pub fn open_known(alloc: Global, text: &[u8]) -> Result<KnownOffice, RunFault>
     ensures office { IfOk result (λ opened. draft_in text.now ≡ Ok opened.office) }
     ensures known { IfOk result (λ opened. opened.known ≡ known_in text.now) }
     ensures fault { IfErr result (IsOfficeFault (draft_in text.now)) }

@@ -1,7 +1,7 @@
-mod CountedLemmas
+pub mod CountedLemmas
 pub mod LayerLemmas
 pub mod LayersAgain
-mod OpenedLemmas
+pub mod OpenedLemmas
 mod RelaidLemmas
 mod SchemaLemmas
 pub mod ScriptLemmas

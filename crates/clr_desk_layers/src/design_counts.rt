@@ -13,7 +13,7 @@ use clr_rows::CellId;
 use std::alloc::{AllocError, Global};
 
 /// Returns the cell of the first row that edits remove, where they mustn't remove any.
-pub(crate) fn removal_in(may_remove: bool, edits: &[Edit]) -> Option<CellId>
+pub fn removal_in(may_remove: bool, edits: &[Edit]) -> Option<CellId>
     ensures { result ≡ removal_in may_remove edits.now }
 {
     if may_remove {
@@ -24,7 +24,7 @@ pub(crate) fn removal_in(may_remove: bool, edits: &[Edit]) -> Option<CellId>
 }
 
 /// Returns a print with how many rows edits add, change and remove behind its notes.
-pub(crate) fn with_counts(alloc: Global, print: Print, edits: &[Edit]) -> Result<Print, AllocError>
+pub fn with_counts(alloc: Global, print: Print, edits: &[Edit]) -> Result<Print, AllocError>
     ensures { IfOk result (λ p. printed p ≡ with_lines (edit_counts_text edits.now) (printed print)) }
 {
     let line = edit_counts_line(alloc, edits)?;

@@ -26,7 +26,7 @@ use clr_steps::Reply;
 use std::alloc::{AllocError, Global};
 
 /// Returns the line of the first layer with a fault as the only note, without a text.
-pub(crate) fn print_of_fault(
+pub fn print_of_fault(
     alloc: Global,
     layers: &[GivenLayer],
     faulty: &FaultyLayer,
@@ -41,11 +41,7 @@ pub(crate) fn print_of_fault(
 }
 
 /// Returns the line of a refusal as the only note, without a text.
-pub(crate) fn print_of_refusal(
-    alloc: Global,
-    schema: &Schema,
-    reply: &Reply,
-) -> Result<Print, AllocError>
+pub fn print_of_refusal(alloc: Global, schema: &Schema, reply: &Reply) -> Result<Print, AllocError>
     ensures { IfOk result (λ p. printed p ≡ refusal_print schema.now reply.now) }
 {
     let line = reply_line(alloc, schema, reply)?;

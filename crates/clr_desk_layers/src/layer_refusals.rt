@@ -13,7 +13,7 @@ use clr_rows::{CellId, Schema};
 use std::alloc::{AllocError, Global};
 
 /// Returns the print of what can't be a layer or a design: no text, and the line that says why as its only note, which counts as a refusal.
-fn unfit_print(alloc: Global, why: &[u8], name: &[u8]) -> Result<Print, AllocError>
+pub fn unfit_print(alloc: Global, why: &[u8], name: &[u8]) -> Result<Print, AllocError>
     ensures { IfOk result (λ p. printed p ≡ unfit_print why.now name.now) }
 {
     let line = unfit_line(alloc, why, name)?;
@@ -43,14 +43,14 @@ pub(crate) fn wkt_column(alloc: Global, name: &str) -> Result<Print, AllocError>
 }
 
 /// Returns what is printed where the table of this name isn't the same in the office that layers were copied from.
-pub(crate) fn other_schema(alloc: Global, table: &str) -> Result<Print, AllocError>
+pub fn other_schema(alloc: Global, table: &str) -> Result<Print, AllocError>
     ensures { IfOk result (λ p. printed p ≡ unfit_print other_schema_word table.now) }
 {
     unfit_print(alloc, b"10 OtherSchema", table.as_bytes())
 }
 
 /// Returns what is printed where a design would remove the row at this cell, and mustn't.
-pub(crate) fn removal(alloc: Global, schema: &Schema, cell: CellId) -> Result<Print, AllocError>
+pub fn removal(alloc: Global, schema: &Schema, cell: CellId) -> Result<Print, AllocError>
     ensures { IfOk result (λ p. printed p ≡ removal_print schema.now cell) }
 {
     let mut row = Vec::new(alloc);

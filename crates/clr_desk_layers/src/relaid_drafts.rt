@@ -13,7 +13,7 @@ use clr_tree::Tree;
 use std::alloc::{AllocError, Global};
 
 /// Returns the draft of an office text with another content in place of LIVE's, whatever it breaks. The text is read once more for that.
-pub(crate) fn draft_with_live(
+pub fn draft_with_live(
     alloc: Global,
     text: &[u8],
     draft: &Draft,

@@ -47,7 +47,7 @@ fn is_table_at(tables: &[TableDef], number: usize, other: &TableDef) -> bool
 }
 
 /// Returns the name of the first table that isn't the same in two schemas, or none where they are the same.
-pub(crate) fn first_other<'a>(tables: &'a [TableDef], others: &'a [TableDef]) -> Option<&'a str>
+pub fn first_other<'a>(tables: &'a [TableDef], others: &'a [TableDef]) -> Option<&'a str>
     ensures same { IfNone result (tables.now ≡ others.now) }
     ensures other { IfSome result (λ name. IsFirstOther tables.now others.now name.now) }
 {

@@ -121,7 +121,7 @@ fn print_over(
 }
 
 /// Returns what is printed of the design that has the rows of layers which were copied from LIVE of a draft, or which table isn't the same there.
-pub(crate) fn since_print(
+pub fn since_print(
     alloc: Global,
     office: &mut Office,
     text: &[u8],

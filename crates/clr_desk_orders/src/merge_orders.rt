@@ -2,7 +2,8 @@
 ghost use Rattle.std.specs.Prelude.{◌≡◌, ◌∷◌, map, option_map, IfOk};
 ghost use Rattle.clr_merge_sets.specs.MergeSetNames.{merge_set};
 ghost use Rattle.clr_office_texts.specs.Drafts.{opened_in};
-ghost use Rattle.clr_desk_orders.specs.MergeOrders.{IsMergeOrderOfSet, IsMergeOrderPrint, order_in, order_in_scene, order_lines, order_print};
+ghost use Rattle.clr_merge_orders.specs.MergeOrders.{order_in, order_in_scene};
+ghost use Rattle.clr_desk_orders.specs.MergeOrders.{IsMergeOrderOfSet, IsMergeOrderPrint, order_lines, order_print};
 ghost use Rattle.clr_desk_prints.specs.NameHints.{IsHinted};
 ghost use Rattle.clr_desk_prints.specs.Printing.{IsMadePrintout, IsPrintoutIn, printed};
 

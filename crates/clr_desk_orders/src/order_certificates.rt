@@ -2,14 +2,8 @@
 ghost use Rattle.std.specs.Prelude.{◌≡◌, ◌∷◌, map, None, Some, IfOk};
 ghost use Rattle.clr_merge_sets.specs.MergeSetNames.{merge_set};
 ghost use Rattle.clr_office_texts.specs.Drafts.{opened_in};
-ghost use Rattle.clr_merge_orders.specs.MergeOrders.{IsFoundOrder};
-ghost use Rattle.clr_desk_orders.specs.MergeOrders.{order_in};
-ghost use Rattle.clr_desk_orders.specs.OrderCertificates.{
-  IsOrderCertificateOfSet,
-  IsOrderCertificatePrint,
-  behind_lines,
-  in_this_order,
-};
+ghost use Rattle.clr_merge_orders.specs.MergeOrders.{IsFoundOrder, in_this_order, order_in};
+ghost use Rattle.clr_desk_orders.specs.OrderCertificates.{IsOrderCertificateOfSet, IsOrderCertificatePrint, behind_lines};
 ghost use Rattle.clr_desk_orders.specs.PlansInOrder.{IsPlanInOrderPrint};
 ghost use Rattle.clr_desk_prints.specs.NameHints.{IsHinted};
 ghost use Rattle.clr_desk_prints.specs.Printing.{IsMadePrintout, IsPrintoutIn, printed};

@@ -16,7 +16,7 @@ use Rattle.clr_clearance.specs.declared.verdicts.Verdict.TheVariants as verdict
 use Rattle.clr_clearance.specs.MergeSets.{change_sets, setting_by_position}
 use Rattle.clr_clearance.specs.Verdicts.{member_fault}
 use Rattle.clr_merge_sets.specs.Faults.{IsMergeSetFault, of_member as fault_of_member, verdict_of, without_memory}
-use Rattle.clr_independence.specs.declared.member_pairs.Pair.{Pair}
+use Rattle.clr_independence.specs.declared.member_pairs.MemberPair.{MemberPair}
 use Rattle.clr_independence.specs.Independences.{IsUnfitFor, of_cell, of_member}
 use Rattle.clr_independence.specs.Pairs.{ArePairs}
 
@@ -35,7 +35,7 @@ module _ (o : Office) (s : MergeSet) where
     members_counted = sym (length-range_with_len 0 (length sets)) ∙ ap (λ (c : Setting ℕ). length c.members) is
         ∙ length-range_with_len 0 (length (change_sets o s)) ∙ length-map s.members (changes_in o)
 
-    pub pairs_of_merge_set : (pairs : List Pair) → ArePairs (setting rules root sets) (length sets) pairs
+    pub pairs_of_merge_set : (pairs : List MemberPair) → ArePairs (setting rules root sets) (length sets) pairs
         → ArePairs (setting_by_position o s) (length s.members) pairs
     pairs_of_merge_set pairs are = subst (λ c. ArePairs c (length s.members) pairs) is (subst (λ n. ArePairs (setting rules root sets) n pairs)
         members_counted are)

@@ -13,13 +13,13 @@ use Rattle.clr_needs.specs.Tests.{IsTestOf}
 use Rattle.clr_needs.proofs.TestLemmas.{it_is, it_is_not}
 use Rattle.clr_foot.proofs.InvolvedLaws.{both_depend}
 use Rattle.clr_groups.proofs.LabelledGroups.{PutAt, earlier, last, put_at}
-use Rattle.clr_independence.specs.declared.member_pairs.Pair.{Pair}
+use Rattle.clr_independence.specs.declared.member_pairs.MemberPair.{MemberPair}
 use Rattle.clr_independence.specs.Pairs.{AreNeedsOf, IsPairByNeeds, ShareOne, TellsIfApart}
 
 -- dependence -------------------------------------------------------------------------------------
 
 module _ (c : Setting ℕ) (count : ℕ) (lists : List (List Need)) (are : AreNeedsOf c count lists) where
-  pub pair_is_independent : (p : Pair) → IsPairByNeeds lists p → IsIndependence c p.first p.second p.independent
+  pub pair_is_independent : (p : MemberPair) → IsPairByNeeds lists p → IsIndependence c p.first p.second p.independent
   pair_is_independent p t = by p.independent t.each
     where
       by : (b : Bool) → TellsIfApart b t.needs t.others → IsIndependence c p.first p.second b

@@ -17,7 +17,7 @@ use Rattle.clr_clearance.proofs.VerdictLemmas.{not_apart, not_both, one_verdict}
 use Rattle.clr_lines.specs.Verdicts.{verdict_text}
 use Rattle.clr_independence.specs.declared.independent_members.Independence.{Independence}
 use Rattle.clr_independence.specs.declared.independent_members.Independence.TheVariants as said
-use Rattle.clr_independence.specs.declared.member_pairs.Pair.{Pair}
+use Rattle.clr_independence.specs.declared.member_pairs.MemberPair.{MemberPair}
 use Rattle.clr_independence.specs.Independences.{IsIndependenceOf, IsUnfitFor, of_cell, of_member}
 use Rattle.clr_independence.specs.IndependenceLines.{independence_line, independence_text}
 use Rattle.clr_independence.specs.Pairs.{pair_members}
@@ -31,17 +31,17 @@ one_told c x y true false one two = absurd (one two)
 one_told c x y false true one two = absurd (two one)
 one_told c x y false false one two = refl
 
-abbrev IsTold : Setting ℕ → Pair → Type 0
+abbrev IsTold : Setting ℕ → MemberPair → Type 0
 IsTold c p = IsIndependence c p.first p.second p.independent
 
-one_pair : (c : Setting ℕ) (p q : Pair) → pair_members p ≡ pair_members q → IsTold c p → IsTold c q → p ≡ q
+one_pair : (c : Setting ℕ) (p q : MemberPair) → pair_members p ≡ pair_members q → IsTold c p → IsTold c q → p ≡ q
 one_pair c p q same one two =
     let turned : IsIndependence c p.first p.second q.independent = subst (λ (both : ℕ × ℕ). IsIndependence c both.0 both.1 q.independent) (sym same) two in
     let told = one_told c p.first p.second p.independent q.independent one turned in
     λ i. record { first = (same i).0; second = (same i).1; independent = told i }
 
-one_pairs : (c : Setting ℕ) (ps qs : List Pair) → map pair_members ps ≡ map pair_members qs
-    → ((p : Pair) → Among p ps → IsTold c p) → ((q : Pair) → Among q qs → IsTold c q) → ps ≡ qs
+one_pairs : (c : Setting ℕ) (ps qs : List MemberPair) → map pair_members ps ≡ map pair_members qs
+    → ((p : MemberPair) → Among p ps → IsTold c p) → ((q : MemberPair) → Among q qs → IsTold c q) → ps ≡ qs
 one_pairs c [] [] same one two = refl
 one_pairs c [] (q ∷ qs) same one two = absurd (cc)
 one_pairs c (p ∷ ps) [] same one two = absurd (cc)
@@ -63,7 +63,7 @@ module _ (o : Office) (s : MergeSet) where
   abbrev text_of : Independence → List ℕ
   text_of value = independence_text o.schema s.members s.root value
 
-  abbrev text_of_pairs : List Pair → List ℕ
+  abbrev text_of_pairs : List MemberPair → List ℕ
   text_of_pairs pairs = flat_map (independence_line s.members) pairs
 
   same_text : (value other : Independence) → IsIndependenceOf o s value → IsIndependenceOf o s other
@@ -77,7 +77,7 @@ module _ (o : Office) (s : MergeSet) where
   same_text (said.Pairs pairs) (said.Pairs others) one two =
       let same : pairs.items ≡ others.items = one_pairs (setting_by_position o s) pairs.items others.items (one.2.all ∙ sym two.2.all)
       (λ p h. one.2.each p (contained p pairs.items h)) (λ p h. two.2.each p (contained p others.items h)) in
-      (ap text_of_pairs same, ap (list_any (λ (p : Pair). not p.independent)) same)
+      (ap text_of_pairs same, ap (list_any (λ (p : MemberPair). not p.independent)) same)
 
   pub one_independence : IsOne (IsIndependenceOutcome o s)
   one_independence all other (value, of_merge_set, is) (second, of_merge_set_other, is_other) found found_other =

@@ -11,7 +11,7 @@ use Rattle.clr_rules.proofs.Elements.{among}
 use Rattle.clr_needs.specs.declared.needs.Need.{Need}
 use Rattle.clr_needs.specs.Settings.{Setting}
 use Rattle.clr_needs.specs.Tests.{IsTestOf}
-use Rattle.clr_independence.specs.declared.member_pairs.Pair.{Pair}
+use Rattle.clr_independence.specs.declared.member_pairs.MemberPair.{MemberPair}
 use Rattle.clr_independence.specs.Pairs.{AddsPairs, AreAscending, AreNeedsOf, ArePairs, IsPairByNeeds, ShareOne, TellsIfApart, pair_members}
 use Rattle.clr_independence.specs.Pairs.{pairs_with}
 use Rattle.clr_independence.proofs.NeedLaws.{pair_is_independent}
@@ -29,25 +29,25 @@ beside i j = (i, j)
 
 module _ (lists : List (List Need)) (first : ℕ) where
   -- the pairs with the members before a position
-  pub record AddsPairsTo (end : ℕ) (old new : List Pair) : Type 0 where
+  pub record AddsPairsTo (end : ℕ) (old new : List MemberPair) : Type 0 where
     pub all : map pair_members new ≡ map pair_members old ++ map (beside first) (range_with_len (first + 1) (end - (first + 1)))
-    pub each : (p : Pair) → Contains new p → Contains old p ⊎ IsPairByNeeds lists p
+    pub each : (p : MemberPair) → Contains new p → Contains old p ⊎ IsPairByNeeds lists p
 
-  pub no_pairs_with : (old : List Pair) → AddsPairsTo (first + 1) old old
+  pub no_pairs_with : (old : List MemberPair) → AddsPairsTo (first + 1) old old
   no_pairs_with old = record {
     all = sym (append-nil (map pair_members old)) ∙ (let none : 0 ≡ (first + 1) - (first + 1) = omega arith in ap (λ n. map pair_members old
         ++ map (beside first) (range_with_len (first + 1) n)) none);
     each = λ p h. inl h;
   }
 
-  abbrev pub pair : ℕ → Bool → Pair
+  abbrev pub pair : ℕ → Bool → MemberPair
   pair second answer = record { first = first; second = second; independent = not answer }
 
   apart_by : (b : Bool) (needs others : List Need) → IsTestOf b (ShareOne needs others) → TellsIfApart (not b) needs others
   apart_by true needs others h = h
   apart_by false needs others h = h
 
-  pub one_pair_with : (second : ℕ) (needs others : List Need) (answer : Bool) (old list new : List Pair) → first + 1 ≤ second → slice_get lists first
+  pub one_pair_with : (second : ℕ) (needs others : List Need) (answer : Bool) (old list new : List MemberPair) → first + 1 ≤ second → slice_get lists first
       ≡ Some needs → slice_get lists second ≡ Some others → IsTestOf answer (ShareOne needs others)
       → new ≡ list ++ pair second answer ∷ []
       → AddsPairsTo second old list
@@ -73,15 +73,15 @@ module _ (lists : List (List Need)) (first : ℕ) where
       here : IsPairByNeeds lists (pair second answer)
       here = record { needs = needs; others = others; first = at; second = other_at; each = apart_by answer needs others tells }
 
-      last : (q : Pair) → (pair second answer ≡ q) ⊎ ⊥ → IsPairByNeeds lists q
+      last : (q : MemberPair) → (pair second answer ≡ q) ⊎ ⊥ → IsPairByNeeds lists q
       last q (inl e) = subst (IsPairByNeeds lists) e here
       last q (inr none) = absurd none
 
-      by : (q : Pair) → Contains list q ⊎ Contains (pair second answer ∷ []) q → Contains old q ⊎ IsPairByNeeds lists q
+      by : (q : MemberPair) → Contains list q ⊎ Contains (pair second answer ∷ []) q → Contains old q ⊎ IsPairByNeeds lists q
       by q (inl h) = are.each q h
       by q (inr h) = inr (last q (among q (pair second answer ∷ []) h))
 
-  pub all_pairs_with : (end : ℕ) (old new : List Pair) → end ≡ length lists → AddsPairsTo end old new → AddsPairs lists first old new
+  pub all_pairs_with : (end : ℕ) (old new : List MemberPair) → end ≡ length lists → AddsPairsTo end old new → AddsPairs lists first old new
   all_pairs_with end old new is are = record {
     all = are.all ∙ ap (λ k. map pair_members old ++ map (beside first) (range_with_len (first + 1) (k - (first + 1)))) is;
     each = are.each;
@@ -91,14 +91,14 @@ module _ (lists : List (List Need)) (first : ℕ) where
 
 module _ (lists : List (List Need)) where
   -- the pairs of the members before a position
-  pub record ArePairsTo (end : ℕ) (pairs : List Pair) : Type 0 where
+  pub record ArePairsTo (end : ℕ) (pairs : List MemberPair) : Type 0 where
     pub all : map pair_members pairs ≡ flat_map (pairs_with (length lists)) (range_with_len 0 end)
-    pub each : (p : Pair) → Contains pairs p → IsPairByNeeds lists p
+    pub each : (p : MemberPair) → Contains pairs p → IsPairByNeeds lists p
 
-  pub no_pairs : (pairs : List Pair) → pairs ≡ [] → ArePairsTo 0 pairs
+  pub no_pairs : (pairs : List MemberPair) → pairs ≡ [] → ArePairsTo 0 pairs
   no_pairs pairs none = subst (ArePairsTo 0) (sym none) (record { all = refl; each = λ p h. absurd (among p [] h) })
 
-  pub one_more_first : (k : ℕ) (old new : List Pair) → AddsPairs lists k old new → ArePairsTo k old → ArePairsTo (k + 1) new
+  pub one_more_first : (k : ℕ) (old new : List MemberPair) → AddsPairs lists k old new → ArePairsTo k old → ArePairsTo (k + 1) new
   one_more_first k old new adds are = record {
     all = adds.all ∙ (λ i. are.all i ++ pairs_with (length lists) k) ∙ sym (ap (flat_map (pairs_with (length lists))) (range_more 0 k k (omega arith))
         ∙ flat_map-append (pairs_with (length lists)) (range_with_len 0 k) (k ∷ []) ∙ ap (λ ps. flat_map (pairs_with (length lists)) (range_with_len 0 k)
@@ -106,11 +106,11 @@ module _ (lists : List (List Need)) where
     each = λ p h. by p (adds.each p h);
   }
     where
-      by : (p : Pair) → Contains old p ⊎ IsPairByNeeds lists p → IsPairByNeeds lists p
+      by : (p : MemberPair) → Contains old p ⊎ IsPairByNeeds lists p → IsPairByNeeds lists p
       by p (inl h) = are.each p h
       by p (inr h) = h
 
-  pub all_pairs : (c : Setting ℕ) (count end : ℕ) (pairs : List Pair) → AreNeedsOf c count lists → end ≡ length lists → ArePairsTo end pairs
+  pub all_pairs : (c : Setting ℕ) (count end : ℕ) (pairs : List MemberPair) → AreNeedsOf c count lists → end ≡ length lists → ArePairsTo end pairs
       → ArePairs c count pairs
   all_pairs c count end pairs needs is are = record {
     all = are.all ∙ (λ i. flat_map (pairs_with (needs.long i)) (range_with_len 0 (whole i)));

@@ -9,7 +9,7 @@ use Rattle.clr_lines.specs.Verdicts.{verdict_text}
 use Rattle.clr_member_changes.specs.Names.{member_name}
 use Rattle.clr_independence.specs.declared.independent_members.Independence.{Independence}
 use Rattle.clr_independence.specs.declared.independent_members.Independence.TheVariants as said
-use Rattle.clr_independence.specs.declared.member_pairs.Pair.{Pair}
+use Rattle.clr_independence.specs.declared.member_pairs.MemberPair.{MemberPair}
 use Rattle.clr_independence.specs.Independences.{IsIndependenceOf}
 
 abbrev pub word_of : Bool → List ℕ
@@ -17,7 +17,7 @@ word_of true = codes "independent "
 word_of false = codes "dependent "
 
 -- the line of a pair: the word, and both names
-abbrev pub independence_line : List Name → Pair → List ℕ
+abbrev pub independence_line : List Name → MemberPair → List ℕ
 independence_line members p = word_of p.independent ++ member_name members p.first ++ codes " " ++ member_name members p.second ++ codes "\n"
 
 -- the lines of what is said of members of a root

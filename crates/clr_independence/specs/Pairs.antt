@@ -8,7 +8,7 @@ use Rattle.clr_foot.specs.Involvement.{IsInvolving}
 use Rattle.clr_needs.specs.Needs.{Lists}
 use Rattle.clr_needs.specs.Orders.{need_cmp}
 use Rattle.clr_needs.specs.Settings.{Setting}
-use Rattle.clr_independence.specs.declared.member_pairs.Pair.{Pair}
+use Rattle.clr_independence.specs.declared.member_pairs.MemberPair.{MemberPair}
 
 -- the pairs of a member with each one behind it, and those of all, in the order of the list
 abbrev pub pairs_with : ℕ → ℕ → List (ℕ × ℕ)
@@ -17,13 +17,13 @@ pairs_with count i = map (λ j. (i, j)) (range_with_len (i + 1) (count - (i + 1)
 abbrev pub pairs_below : ℕ → List (ℕ × ℕ)
 pairs_below count = flat_map (pairs_with count) (range_with_len 0 count)
 
-abbrev pub pair_members : Pair → ℕ × ℕ
+abbrev pub pair_members : MemberPair → ℕ × ℕ
 pair_members p = (p.first, p.second)
 
 -- each pair once, in the order of the list, with whether its members are independent
-pub record ArePairs (c : Setting ℕ) (count : ℕ) (pairs : List Pair) : Type 0 where
+pub record ArePairs (c : Setting ℕ) (count : ℕ) (pairs : List MemberPair) : Type 0 where
   pub all : map pair_members pairs ≡ pairs_below count
-  pub each : (p : Pair) → Contains pairs p → IsIndependence c p.first p.second p.independent
+  pub each : (p : MemberPair) → Contains pairs p → IsIndependence c p.first p.second p.independent
 
 -- by the needs of each member -----------------------------------------------------------------
 
@@ -45,7 +45,7 @@ TellsIfApart true needs others = ¬ (ShareOne needs others)
 TellsIfApart false needs others = ShareOne needs others
 
 -- a pair, which is independent where the needs of its members have none in common
-pub record IsPairByNeeds (lists : List (List Need)) (p : Pair) : Type 0 where
+pub record IsPairByNeeds (lists : List (List Need)) (p : MemberPair) : Type 0 where
   pub needs : List Need
   pub others : List Need
   pub first : slice_get lists p.first ≡ Some needs
@@ -53,6 +53,6 @@ pub record IsPairByNeeds (lists : List (List Need)) (p : Pair) : Type 0 where
   pub each : TellsIfApart p.independent needs others
 
 -- the pairs of a member with those behind it are added
-pub record AddsPairs (lists : List (List Need)) (first : ℕ) (old new : List Pair) : Type 0 where
+pub record AddsPairs (lists : List (List Need)) (first : ℕ) (old new : List MemberPair) : Type 0 where
   pub all : map pair_members new ≡ map pair_members old ++ pairs_with (length lists) first
-  pub each : (p : Pair) → Contains new p → Contains old p ⊎ IsPairByNeeds lists p
+  pub each : (p : MemberPair) → Contains new p → Contains old p ⊎ IsPairByNeeds lists p

@@ -7,7 +7,7 @@ ghost use Rattle.clr_independence.specs.IndependenceOutcomes.{IsIndependenceOutc
 
 use crate::independent_members::{Independence, independence_of};
 use crate::lines_of_pairs::lines_of_independence;
-use crate::member_pairs::Pair;
+use crate::member_pairs::MemberPair;
 use clr_engine::Office;
 use clr_merge_sets::texts_of_names;
 use clr_office_reports::Output;
@@ -15,7 +15,7 @@ use clr_rows::Words;
 use std::alloc::{AllocError, Global};
 
 /// Returns whether some pair is dependent.
-fn has_dependent_pair(pairs: &[Pair]) -> bool
+fn has_dependent_pair(pairs: &[MemberPair]) -> bool
     ensures { result ≡ list_any (λ p. not p.independent) pairs.now }
 {
     pairs.iter().any(|pair| !pair.independent)

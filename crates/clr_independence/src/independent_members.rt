@@ -11,7 +11,7 @@ ghost use Rattle.clr_merge_sets.specs.MergeSetNames.{merge_set};
 ghost use Rattle.clr_merge_sets.specs.MergeSets.{AreParts};
 ghost use Rattle.clr_independence.specs.Independences.{IsIndependenceOf};
 
-use crate::member_pairs::{Pair, pairs};
+use crate::member_pairs::{MemberPair, pairs};
 use clr_change::ChangeSet;
 use clr_clearance::Verdict;
 use clr_engine::Office;
@@ -27,7 +27,7 @@ pub enum Independence {
     /// The first test of the members that fails: of names, of conflicts with the root, of shared cells.
     Unfit(Verdict),
     /// Each pair of members, in the order of the list.
-    Pairs(Vec<Pair>),
+    Pairs(Vec<MemberPair>),
 }
 
 /// Returns the answer where a test of members fails.

@@ -16,4 +16,4 @@ mod member_pairs;
 pub use independences::independence_output;
 pub use independent_members::{Independence, independence_of};
 pub use lines_of_pairs::independence_lines;
-pub use member_pairs::Pair;
+pub use member_pairs::MemberPair;

@@ -6,7 +6,7 @@ ghost use Rattle.clr_merge_sets.specs.MergeSetNames.{merge_set};
 ghost use Rattle.clr_independence.specs.IndependenceLines.{AreIndependenceLines, independence_line, independence_text};
 
 use crate::independent_members::{Independence, independence_of};
-use crate::member_pairs::Pair;
+use crate::member_pairs::MemberPair;
 use clr_engine::Office;
 use clr_lines::unfit_line;
 use clr_member_changes::member_name;
@@ -14,7 +14,7 @@ use clr_rows::Schema;
 use std::alloc::{AllocError, Global};
 
 /// Adds the line of a pair.
-fn add_pair(lines: &mut Vec<u8>, members: &[&str], pair: Pair) -> Result<(), AllocError>
+fn add_pair(lines: &mut Vec<u8>, members: &[&str], pair: MemberPair) -> Result<(), AllocError>
     ensures { OnOk result (lines.new.items ≡ lines.old.items ++ independence_line (map (λ name. name.now) members.now) pair) }
 {
     let word = if pair.independent {
@@ -30,7 +30,7 @@ fn add_pair(lines: &mut Vec<u8>, members: &[&str], pair: Pair) -> Result<(), All
 }
 
 /// Returns the lines of pairs.
-fn pair_lines(alloc: Global, members: &[&str], pairs: &[Pair]) -> Result<Vec<u8>, AllocError>
+fn pair_lines(alloc: Global, members: &[&str], pairs: &[MemberPair]) -> Result<Vec<u8>, AllocError>
     ensures { IfOk result (λ lines. lines.items ≡ flat_map (independence_line (map (λ name. name.now) members.now)) pairs.now) }
 {
     let mut lines = Vec::new(alloc);

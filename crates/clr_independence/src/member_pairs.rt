@@ -13,14 +13,18 @@ use std::alloc::{AllocError, Global};
 
 /// Two members by position, and whether no possible need involves both.
 #[derive(Clone, Copy, Debug, PartialEq, Eq)]
-pub struct Pair {
+pub struct MemberPair {
     pub first: usize,
     pub second: usize,
     pub independent: bool,
 }
 
 /// Adds the pairs of a member with each one behind it.
-fn add_pairs(lists: &[Vec<Need>], first: usize, pairs: &mut Vec<Pair>) -> Result<(), AllocError>
+fn add_pairs(
+    lists: &[Vec<Need>],
+    first: usize,
+    pairs: &mut Vec<MemberPair>,
+) -> Result<(), AllocError>
     requires first { first < length lists.now }
     requires ascending { AreAscending (map (λ list. list.items) lists.now) }
     ensures { OnOk result (AddsPairs (map (λ list. list.items) lists.now) first pairs.old.items pairs.new.items) }
@@ -28,7 +32,7 @@ fn add_pairs(lists: &[Vec<Need>], first: usize, pairs: &mut Vec<Pair>) -> Result
     let needs = lists[first].as_slice();
     for second in first + 1..lists.len() {
         let independent = !share_one(needs, lists[second].as_slice());
-        pairs.push(Pair {
+        pairs.push(MemberPair {
             first,
             second,
             independent,
@@ -42,7 +46,7 @@ fn add_pairs(lists: &[Vec<Need>], first: usize, pairs: &mut Vec<Pair>) -> Result
 pub(crate) fn pairs<V: RowView, F: RowFinder>(
     alloc: Global,
     scene: &Scene<'_, V, F>,
-) -> Result<Vec<Pair>, AllocError>
+) -> Result<Vec<MemberPair>, AllocError>
     requires ready { IsReady F.settled (model_of V.content scene.now) }
     ensures { IfOk result (λ pairs. ArePairs (setting_of (model_of V.content scene.now)) (length (model_of V.content scene.now).sets) pairs.items) }
 {

@@ -1,6 +1,6 @@
 //! The line of a fault, with its place.
 
-ghost use Rattle.std.specs.Prelude.{◌≡◌, ◌++◌, ◌≤◌, [], OnOk, length, map};
+ghost use Rattle.std.specs.Prelude.{◌≡◌, ◌++◌, ◌≤◌, [], IfOk, OnOk, length, map};
 ghost use Rattle.csv.specs.Records.{fields_of};
 ghost use Rattle.clr_layer_reports.specs.FaultSayings.{fields_at};
 ghost use Rattle.clr_layer_faults.specs.FieldPlaces.{record_starts};
@@ -64,8 +64,8 @@ fn add_fault_words(
     add_hint(alloc, line, table, names, near, fields, found)
 }
 
-/// Returns the record of a number, counted from 1, or else one without fields.
-fn record_at<'a>(
+/// Returns the record of a number, counted from 1, or else one without fields, which is given.
+pub fn record_at<'a>(
     records: &'a [StringRecord],
     none: &'a StringRecord,
     number: usize,
@@ -77,6 +77,23 @@ fn record_at<'a>(
         Some(fields) => fields,
         None => none,
     }
+}
+
+/// Returns what is said of the fault of a record, without its place: its name, a sentence, the row and perhaps a hint. For example, of an empty field
+/// of column dn it is `BadNumber: column dn is INT, and the field is empty, main 130; hint: COALESCE(dn, 0) puts a number there`. For a column that a
+/// header lacks, no name that is near is told.
+pub fn fault_words(
+    alloc: Global,
+    table: &TableDef,
+    names: &[Words],
+    fields: &StringRecord,
+    found: &FoundFault,
+) -> Result<Vec<u8>, AllocError>
+    ensures { IfOk result (λ words. words.items ≡ fault_words table.now names.now [] (fields_of fields.now) found.now) }
+{
+    let mut words = Vec::new(alloc);
+    add_fault_words(alloc, &mut words, table, names, &[], fields, found)?;
+    Ok(words)
 }
 
 /// Adds the line of a fault of a text that has these records, with the names of their header, and those of them that are near columns. What is given

@@ -7,10 +7,11 @@ ghost use Rattle.clr_needs.specs.Needs.{AreServers, IsPossibleNeed};
 ghost use Rattle.clr_needs.specs.Settings.{Without};
 ghost use Rattle.clr_listed_covers.specs.Covers.{IsCoverByPair, IsCoverByPairs};
 
-use crate::lives::{has_subject_with, least_with};
+use crate::lives::least_with;
 use clr_finders::RowFinder;
 use clr_foot::Scene;
 use clr_needs::{Life, Need, VersionId};
+use clr_open_needs::has_subject_with;
 use clr_order_answers::Pair;
 use clr_rows::RowView;
 

@@ -55,8 +55,8 @@ fn add_row(
     }
 }
 
-/// Returns the frames of the design at a position.
-pub fn frames_of(scene: &MapScene<'_>, at: usize) -> Result<Vec<Area>, AllocError> {
+/// Returns the areas of what the design at a position changes: those that are near one another as one.
+fn groups_of(scene: &MapScene<'_>, at: usize) -> Result<Vec<Area>, AllocError> {
     let mut groups = Vec::new(scene.field.alloc);
     if let Some(set) = scene.field.designs.changes(at) {
         for (_, change) in set.iter() {
@@ -64,6 +64,12 @@ pub fn frames_of(scene: &MapScene<'_>, at: usize) -> Result<Vec<Area>, AllocErro
             add_row(&mut groups, scene, change.after.as_ref())?;
         }
     }
+    Ok(groups)
+}
+
+/// Returns the frames of the design at a position.
+pub fn frames_of(scene: &MapScene<'_>, at: usize) -> Result<Vec<Area>, AllocError> {
+    let mut groups = groups_of(scene, at)?;
     for group in groups.iter_mut() {
         *group = group.grow(MARGIN);
     }

@@ -1,2 +1,3 @@
+pub mod FoundOrders
 pub mod MoreBefore
 pub mod PromiseLaws

@@ -1,10 +1,9 @@
 -- What is promised of orders: under its pairs one is cleared, and where there is none each is refused.
-use Rattle.std.proofs.Common.{◌≡◌, ◌∙◌, ◌<◌, ◌==◌, ◌&&◌, ◌||◌, ◌⊎◌, ℕ, zero, suc, Bool, true, false, cond, List, [], ◌∷◌, ◌++◌, Option, Some, None, inl, inr}
+use Rattle.std.proofs.Common.{◌≡◌, ◌∙◌, ◌<◌, ◌&&◌, ◌⊎◌, ℕ, zero, suc, Bool, true, false, List, [], ◌∷◌, ◌++◌, Option, Some, None, inl, inr}
 use Rattle.std.proofs.Common.{drop, get_or, length, map, slice_get, take, refl, sym, ap, subst, arith}
 use Rattle.std.specs.List.{cons_option, list_any}
 use Rattle.std.proofs.lemmas.Bool.{and_from, false≢true, or_cases, or_left, or_right}
-use Rattle.std.proofs.lemmas.List.{length-map, take_all, take-append-drop}
-use Rattle.std.proofs.lemmas.Option.{slice_get-get_or}
+use Rattle.std.proofs.lemmas.List.{take_all, take-append-drop}
 use Rattle.clr_rows.specs.Contents.{row_at}
 use Rattle.clr_rules.specs.Needs.{BreaksNoMore, View}
 use Rattle.clr_rules.proofs.Elements.{Among, any_by, mapped_among}
@@ -15,11 +14,9 @@ use Rattle.clr_needs.specs.Members.{AreApart}
 use Rattle.clr_needs.specs.Positions.{by_position}
 use Rattle.clr_needs.specs.Settings.{AreAmong, DoChange, Lived, Setting, view_with}
 use Rattle.clr_needs.specs.Settings as settings
-use Rattle.clr_needs.proofs.BlockerLaws.{member_below}
 use Rattle.clr_steps.specs.Names.{same_name}
 use Rattle.clr_steps.specs.Offices.{Office}
 use Rattle.clr_steps.specs.Quiet.{MergeSet, root_content}
-use Rattle.clr_steps.specs.Readings.{changes_in}
 use Rattle.clr_steps.specs.Steps.{step}
 use Rattle.clr_steps.proofs.FindLemmas.{same_itself}
 use Rattle.clr_clearance.specs.MergeSets.{AreMergeable, change_sets, rows_with, setting_by_position, setting_of}
@@ -30,9 +27,9 @@ use Rattle.clr_clearance.proofs.RefusedLemmas.{breaking_is_refused, merge_of, na
 use Rattle.clr_clearance.proofs.StaticLemmas.{numbered_is}
 use Rattle.clr_ordered_needs.specs.Positions.{goes_before_if_any}
 use Rattle.clr_ordered_needs.specs.States.{IsBrokenWith, IsOpen}
-use Rattle.clr_ordered_needs.specs.Turns.{ListsAll, is_earlier}
 use Rattle.clr_ordered_needs.proofs.Sequences.{later_there}
 use Rattle.clr_ordered_needs.proofs.StateLaws.{states_are_told}
+use Rattle.clr_ordered_clearance.specs.Laws.{CanBeMergedAs}
 use Rattle.clr_ordered_clearance.specs.MergeSets.{CoversInTurn, goes_before, position_goes_before}
 use Rattle.clr_ordered_clearance.proofs.HeadlineLemmas.{headline_in_turn}
 use Rattle.clr_order_answers.specs.declared.pairs.Pair.{Pair}
@@ -43,6 +40,7 @@ use Rattle.clr_scene_orders.proofs.Sides.{has_of, has_same, is_open, opens}
 use Rattle.clr_scene_orders.proofs.Covering.{pair_by}
 use Rattle.clr_merge_orders.specs.declared.merge_orders.MergeOrder.TheVariants as merge_order
 use Rattle.clr_merge_orders.specs.MergeOrders.{IsClearedBy, IsEachOrderRefused, IsFoundOrder, IsOrderOf, IsRefusedWith, PromisesOrder, name_at, ordered_by}
+use Rattle.clr_merge_orders.proofs.FoundOrders.{earlier_there, merged_in_order, positions_named}
 use Rattle.clr_merge_orders.proofs.MoreBefore.{covered_by_more}
 
 -- who is among the first members of a list is in it
@@ -72,16 +70,6 @@ members_joined s (k ∷ ks) others = ap (cons_option (slice_get s.members k)) (m
     by : (r : Option Name) → cons_option r (members_at s ks ++ members_at s others) ≡ cons_option r (members_at s ks) ++ members_at s others
     by None = refl
     by (Some n) = refl
-
--- who stands before another in a list is in it
-earlier_there : (xs : List ℕ) (x y : ℕ) → is_earlier (λ m n. m == n) xs x y ≡ true → settings.has (λ m n. m == n) xs x ≡ true
-earlier_there [] x y h = absurd (false≢true h)
-earlier_there (z ∷ zs) x y h = by (z == x) refl h (earlier_there zs x y)
-  where
-    by : (b : Bool) → (z == x) ≡ b → cond b (settings.has (λ m n. m == n) zs y) (is_earlier (λ m n. m == n) zs x y) ≡ true
-        → (is_earlier (λ m n. m == n) zs x y ≡ true → settings.has (λ m n. m == n) zs x ≡ true) → (z == x) || settings.has (λ m n. m == n) zs x ≡ true
-    by true e g rest = or_left (z == x) (settings.has (λ m n. m == n) zs x) e
-    by false e g rest = or_right (z == x) (settings.has (λ m n. m == n) zs x) (rest g)
 
 module _ (o : Office) (s : MergeSet) where
   abbrev c : Setting ℕ
@@ -127,10 +115,7 @@ module _ (o : Office) (s : MergeSet) where
 
   module _ (order : List ℕ) (pairs : List Pair) (is : IsOrderBy c order pairs) where
     named : (x : ℕ) → settings.has c.same order x ≡ true → slice_get s.members x ≡ Some (name_at s x)
-    named x h =
-        let less = member_below o.book (root_content o s) (change_sets o s) x (sym (is.lists.members x) ∙ h) in
-        let long = length-map s.members (changes_in o) in
-        slice_get-get_or s.members x [] (omega (arith, less, long))
+    named x h = positions_named o s order is.lists x h
 
     goes_too : (x y : ℕ) → order_by pairs x y ≡ true → position_goes_before (ordered_by s pairs) x y ≡ true
     goes_too x y goes =
@@ -146,14 +131,16 @@ module _ (o : Office) (s : MergeSet) where
         (ap (λ z. same_name (name_at s z) (name_at s x)) is_x ∙ same_itself (name_at s x))
         (ap (λ z. same_name (name_at s z) (name_at s y)) is_y ∙ same_itself (name_at s y)))
 
-    cleared_by : AreMergeable o s → IsClearedBy o s pairs
+    cleared_by : AreMergeable o s → IsClearedBy o s pairs × CanBeMergedAs o (ordered_by s pairs) (members_at s order)
     cleared_by mergeable =
         let (es, covered) = is.covered in
         let covers : CoversInTurn o (ordered_by s pairs) es = record {
           mergeable = mergeable;
           covered = covered_by_more (order_by pairs) (position_goes_before (ordered_by s pairs)) goes_too c es covered;
-        } in
-        ((es, covers), headline_in_turn o (ordered_by s pairs) es covers)
+        } in (
+          ((es, covers), headline_in_turn o (ordered_by s pairs) es covers),
+          merged_in_order o s mergeable order is.lists pairs is.in_order es covers,
+        )
 
   -- what is promised --------------------------------------------------------------------------------------------------
 

@@ -1,5 +1,5 @@
 -- What is said of the orders of a merge set's members, and what it promises.
-use Rattle.std.specs.Prelude.{◌≡◌, ℕ, true, false, List, [], None, get_or, map}
+use Rattle.std.specs.Prelude.{◌≡◌, ℕ, true, false, List, [], Option, Some, None, get_or, map}
 use Rattle.clr_workspaces.specs.Marks.{Name}
 use Rattle.clr_needs.specs.Covers.{Entry}
 use Rattle.clr_needs.specs.Members.{AreApart}
@@ -11,7 +11,9 @@ use Rattle.clr_clearance.specs.Plans.{is_order_refused, members_at}
 use Rattle.clr_clearance.specs.Verdicts.{member_fault}
 use Rattle.clr_ordered_needs.specs.Turns.{ListsAll}
 use Rattle.clr_ordered_clearance.specs.Headlines.{HeadlineInTurn}
+use Rattle.clr_ordered_clearance.specs.Laws.{CanBeMergedAs}
 use Rattle.clr_ordered_clearance.specs.MergeSets.{CoversInTurn, OrderedMergeSet}
+use Rattle.clr_merge_sets.specs.MergeSetNames.{merge_set}
 use Rattle.clr_merge_sets.specs.Plans.{is_out_of_memory}
 use Rattle.clr_merge_sets.specs.declared.plans.Plan.{Plan}
 use Rattle.clr_plan.specs.Plans.{IsPlan}
@@ -39,6 +41,22 @@ abbrev pub IsMergeOrder : Office → MergeSet → MergeOrder → Type 0
 IsMergeOrder o s (merge_order.Planned p) = IsPlanWithoutOrders o s p
 IsMergeOrder o s (merge_order.Ordered order) = IsOrderOf o s order
 
+-- the order that is said of a scene, if one is
+abbrev pub order_in_scene : SceneOrder → Option (List ℕ)
+order_in_scene (scene_order.Order order pairs) = Some order.items
+order_in_scene (scene_order.Final need members) = None
+order_in_scene (scene_order.Stuck members) = None
+order_in_scene (scene_order.TooMany members) = None
+
+-- the order in which members can be merged, by position, if one was found
+abbrev pub order_in : MergeOrder → Option (List ℕ)
+order_in (merge_order.Ordered order) = order_in_scene order
+order_in (merge_order.Planned p) = None
+
+-- the members in an order
+abbrev pub in_this_order : MergeSet → List ℕ → MergeSet
+in_this_order s order = merge_set s.root (members_at s order)
+
 -- what it promises ---------------------------------------------------------------------------------------------
 
 -- the name of the member at a position
@@ -62,8 +80,10 @@ abbrev pub IsRefusedWith : Office → MergeSet → List ℕ → Type 0
 IsRefusedWith o s blockers = let c = setting_by_position o s in
     (list : List ℕ) → AreAmong c blockers list → AreAmong c list c.members → is_order_refused o (members_at s list) ≡ true
 
+-- of an order its pairs promise the headline, and its merges, one after another, are all done
 abbrev pub PromisesOrder : Office → MergeSet → SceneOrder → Type 0
-PromisesOrder o s (scene_order.Order order pairs) = IsClearedBy o s pairs.items
+PromisesOrder o s (scene_order.Order order pairs) =
+    IsClearedBy o s pairs.items × CanBeMergedAs o (ordered_by s pairs.items) (members_at s order.items)
 PromisesOrder o s (scene_order.Final need members) = IsRefusedWith o s members.items
 PromisesOrder o s (scene_order.Stuck members) = IsEachOrderRefused o s
 PromisesOrder o s (scene_order.TooMany members) = Unit {0}

@@ -3,7 +3,7 @@
 ghost use Rattle.std.specs.Prelude.{◌≡◌, ◌++◌, map, option_to_list, slice_get, IfOk, OnOk};
 ghost use Rattle.std.specs.List.{filter_map};
 
-use clr_rows::Words;
+use clr_rows::{Names, Words};
 use std::alloc::{AllocError, Global};
 
 /// Returns the texts of names.
@@ -15,6 +15,17 @@ pub fn texts_of_names<'a>(alloc: Global, names: &'a [Words]) -> Result<Vec<&'a s
         texts.push(name.as_str())?;
     }
     Ok(texts)
+}
+
+/// Returns texts as names of their own, in their order. It fails only for want of memory.
+pub fn owned_names(alloc: Global, texts: &[&str]) -> Result<Names, AllocError>
+    ensures { IfOk result (λ names. names ≡ map (λ text. text.now) texts.now) }
+{
+    let mut list = Vec::with_capacity(alloc, texts.len())?;
+    for name in texts {
+        list.push(Words::from_str(alloc, name)?)?;
+    }
+    Ok(Names::new(list))
 }
 
 /// Adds the name at a position, if there is one.

@@ -5,7 +5,7 @@ use crate::merge_sets::groups_of;
 use crate::plain::{are_dependent, group_of, needs_of};
 use clr_call_test_kit::Dice;
 use clr_engine::Office;
-use clr_independence::{Independence, Pair, independence_of};
+use clr_independence::{Independence, MemberPair, independence_of};
 use clr_office_test_kit::{office_of, perform_script};
 use std::alloc::Global;
 use std::test::Fail;
@@ -42,7 +42,7 @@ fn are_groups(needs: &[u16], groups: &[Vec<u16>]) -> bool {
 }
 
 /// Returns whether two members are told independent where no need involves both.
-fn is_pair(needs: &[u16], pair: &Pair) -> bool {
+fn is_pair(needs: &[u16], pair: &MemberPair) -> bool {
     let both = only(pair.first) | only(pair.second);
     pair.independent != are_dependent(needs, both)
 }

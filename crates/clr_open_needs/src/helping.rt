@@ -3,43 +3,17 @@
 ghost use Rattle.std.specs.Prelude.{◌≡◌, IfOk};
 ghost use Rattle.std.specs.List.{list_any};
 ghost use Rattle.clr_foot.specs.Scenes.{IsReady, model_of, setting_of};
-ghost use Rattle.clr_needs.specs.Blocking.{has_life, has_subject_of_life};
 ghost use Rattle.clr_needs.specs.Members.{lifetime};
 ghost use Rattle.clr_needs.specs.Needs.{AreServers, IsPossibleNeed};
-ghost use Rattle.clr_needs.specs.Settings.{version};
 ghost use Rattle.clr_needs.specs.Witnesses.{has_life_at};
 ghost use Rattle.clr_open_needs.specs.OpenNeeds.{Helps, IsToldHelper};
 
+use crate::scene_lives::{has_life, has_subject_with};
 use clr_finders::RowFinder;
 use clr_foot::Scene;
 use clr_needs::{Life, Need, VersionId};
-use clr_row_versions::are_same;
 use clr_rows::RowView;
 use std::alloc::{AllocError, Global};
-
-/// Tests whether the version of a name is there and has this life.
-fn has_life<V: RowView, F: RowFinder>(scene: &Scene<'_, V, F>, id: VersionId, life: Life) -> bool
-    ensures { result ≡ has_life (lifetime life) (version (setting_of (model_of V.content scene.now)) id) }
-{
-    match scene.life(id) {
-        None => false,
-        Some(found) => are_same(found, life),
-    }
-}
-
-/// Tests whether a subject of a need has this life.
-fn has_subject_with<V: RowView, F: RowFinder>(
-    scene: &Scene<'_, V, F>,
-    need: &Need,
-    life: Life,
-) -> bool
-    ensures { result ≡ has_subject_of_life (lifetime life) (setting_of (model_of V.content scene.now)) need.now }
-{
-    match need.second {
-        None => has_life(scene, need.first, life),
-        Some(second) => has_life(scene, need.first, life) || has_life(scene, second, life),
-    }
-}
 
 /// Tests whether one of some versions has this life.
 fn has_server_with<V: RowView, F: RowFinder>(

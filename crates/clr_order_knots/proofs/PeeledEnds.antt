@@ -11,7 +11,7 @@ use Rattle.clr_order_search.specs.Orders.{IsOrder}
 use Rattle.clr_order_search.proofs.Positions.{all_of, each_of}
 use Rattle.clr_order_search.proofs.Rests.{at_of, itself}
 use Rattle.clr_order_knots.specs.declared.peeling.Peeled.{Peeled}
-use Rattle.clr_order_knots.specs.declared.sides.Side.TheVariants as side
+use Rattle.clr_order_knots.specs.declared.sides.NeedSide.TheVariants as side
 use Rattle.clr_order_knots.specs.Members.{ArePlaces, AreOnce, AreThose, Tells, concerns, is_concerned, is_on, needs_at}
 use Rattle.clr_order_knots.specs.OpenNeeds.{AreHelped, AreWithin, IsWithin}
 use Rattle.clr_order_knots.specs.Peeling.{AreAmong, AreEnds, AreHelpedInTime, AreLeft, AreTangled, IsFilled, IsPeeled, IsRound, Stay, goes_first, goes_last, stays}

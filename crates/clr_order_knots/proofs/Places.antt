@@ -6,8 +6,8 @@ use Rattle.std.proofs.lemmas.Bool.{cases_Bool, false≢true, true≢false, or_ca
 use Rattle.clr_order_search.specs.declared.open_needs.OpenNeed.{OpenNeed}
 use Rattle.clr_order_search.specs.OpenNeeds.{has}
 use Rattle.clr_order_search.proofs.Rests.{itself, same_of}
-use Rattle.clr_order_knots.specs.declared.sides.Side.{Side}
-use Rattle.clr_order_knots.specs.declared.sides.Side.TheVariants as side
+use Rattle.clr_order_knots.specs.declared.sides.NeedSide.{NeedSide}
+use Rattle.clr_order_knots.specs.declared.sides.NeedSide.TheVariants as side
 use Rattle.clr_order_knots.specs.Members.{ArePlaces, concerns, is_concerned, is_on, needs_at, on_side}
 use Rattle.clr_order_knots.specs.OpenNeeds.{AreHelped, AreWithin, IsWithin}
 use Rattle.clr_order_knots.specs.Peeling.{AreAmong}
@@ -80,13 +80,13 @@ module _ (needs : List OpenNeed) where
 
 -- who is concerned ---------------------------------------------------------------------------------------------
 
-pub on_of : (s : Side) (ns : List OpenNeed) (m : ℕ) → is_on s ns m ≡ true → (need : OpenNeed) × Among need ns × (has (on_side s need) m ≡ true)
+pub on_of : (s : NeedSide) (ns : List OpenNeed) (m : ℕ) → is_on s ns m ≡ true → (need : OpenNeed) × Among need ns × (has (on_side s need) m ≡ true)
 on_of s ns m h = some_of (λ need. has (on_side s need) m) ns h
 
-pub on_by : (s : Side) (ns : List OpenNeed) (m : ℕ) (need : OpenNeed) → Among need ns → has (on_side s need) m ≡ true → is_on s ns m ≡ true
+pub on_by : (s : NeedSide) (ns : List OpenNeed) (m : ℕ) (need : OpenNeed) → Among need ns → has (on_side s need) m ≡ true → is_on s ns m ≡ true
 on_by s ns m need there h = any_by (λ n. has (on_side s n) m) need ns there h
 
-pub on_more : (s : Side) (xs ys : List OpenNeed) (m : ℕ) → ((n : OpenNeed) → Among n xs → Among n ys) → is_on s xs m ≡ true → is_on s ys m ≡ true
+pub on_more : (s : NeedSide) (xs ys : List OpenNeed) (m : ℕ) → ((n : OpenNeed) → Among n xs → Among n ys) → is_on s xs m ≡ true → is_on s ys m ≡ true
 on_more s xs ys m more h = any_more (λ n. has (on_side s n) m) xs ys more h
 
 pub concerned_of : (ns : List OpenNeed) (m : ℕ) → is_concerned ns m ≡ true → (need : OpenNeed) × Among need ns × (concerns m need ≡ true)

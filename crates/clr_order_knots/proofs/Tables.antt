@@ -12,8 +12,8 @@ use Rattle.std.proofs.lemmas.Option.{slice_get_read}
 use Rattle.clr_order_search.specs.declared.open_needs.OpenNeed.{OpenNeed}
 use Rattle.clr_order_search.specs.OpenNeeds.{has}
 use Rattle.clr_order_search.proofs.Rests.{itself, same_of}
-use Rattle.clr_order_knots.specs.declared.sides.Side.{Side}
-use Rattle.clr_order_knots.specs.declared.sides.Side.TheVariants as side
+use Rattle.clr_order_knots.specs.declared.sides.NeedSide.{NeedSide}
+use Rattle.clr_order_knots.specs.declared.sides.NeedSide.TheVariants as side
 use Rattle.clr_order_knots.specs.Members.{is_at, is_on, needs_at, on_side}
 use Rattle.clr_order_knots.specs.OpenNeeds.{AreWithin}
 
@@ -62,7 +62,7 @@ module _ {X : Type 0} (test : X → ℕ → Bool) where
           ∙ (λ i. list_any (λ y. test y m) (take k xs) || or-false (test x m) i)
 
 -- one more place, with the need that stands there, if any
-module _ (needs : List OpenNeed) (places : List ℕ) (s : Side) (start old : List Bool) (k : ℕ) (less : k < length places)
+module _ (needs : List OpenNeed) (places : List ℕ) (s : NeedSide) (start old : List Bool) (k : ℕ) (less : k < length places)
     (adds : Adds start old (is_on s (needs_at needs (take k places)))) where
   abbrev at : ℕ
   at = get_or places k 0
@@ -89,7 +89,7 @@ none_past (n ∷ ns) zero long = absurd (omega (arith, long))
 none_past (n ∷ ns) (suc j) long = none_past ns j (omega (arith, long))
 
 -- the members on a side are below the count
-pub side_below : (needs : List OpenNeed) (count : ℕ) → AreWithin needs count → (s : Side) (need : OpenNeed) (at : ℕ) → slice_get needs at ≡ Some need → (m : ℕ)
+pub side_below : (needs : List OpenNeed) (count : ℕ) → AreWithin needs count → (s : NeedSide) (need : OpenNeed) (at : ℕ) → slice_get needs at ≡ Some need → (m : ℕ)
     → has (on_side s need) m ≡ true → m < count
 side_below needs count within side.Blockers need at e m h = (within need at e).blockers m h
 side_below needs count within side.Helpers need at e m h = (within need at e).helpers m h
@@ -98,7 +98,7 @@ pub nothing_taken : {X : Type 0} (test : X → ℕ → Bool) (xs : List X) (m : 
 nothing_taken test [] m = refl
 nothing_taken test (x ∷ xs) m = refl
 
-pub no_place_taken : (needs : List OpenNeed) (places : List ℕ) (s : Side) (m : ℕ) → is_on s (needs_at needs (take 0 places)) m ≡ false
+pub no_place_taken : (needs : List OpenNeed) (places : List ℕ) (s : NeedSide) (m : ℕ) → is_on s (needs_at needs (take 0 places)) m ≡ false
 no_place_taken needs [] s m = refl
 no_place_taken needs (p ∷ ps) s m = refl
 

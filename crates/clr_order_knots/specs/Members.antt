@@ -3,21 +3,21 @@ use Rattle.std.specs.Prelude.{◌≡◌, ℕ, ◌<◌, ◌≤◌, Bool, true, �
 use Rattle.std.specs.List.{filter_map, list_any}
 use Rattle.clr_order_search.specs.declared.open_needs.OpenNeed.{OpenNeed}
 use Rattle.clr_order_search.specs.OpenNeeds.{has}
-use Rattle.clr_order_knots.specs.declared.sides.Side.{Side}
-use Rattle.clr_order_knots.specs.declared.sides.Side.TheVariants as side
+use Rattle.clr_order_knots.specs.declared.sides.NeedSide.{NeedSide}
+use Rattle.clr_order_knots.specs.declared.sides.NeedSide.TheVariants as side
 
 -- the members who block the need, or those who help it
-abbrev pub on_side : Side → OpenNeed → List ℕ
+abbrev pub on_side : NeedSide → OpenNeed → List ℕ
 on_side side.Blockers need = need.blockers.items
 on_side side.Helpers need = need.helpers.items
 
 -- the member is on this side of the need, if there is one
-abbrev pub is_at : Side → Option OpenNeed → ℕ → Bool
+abbrev pub is_at : NeedSide → Option OpenNeed → ℕ → Bool
 is_at s None m = false
 is_at s (Some need) m = has (on_side s need) m
 
 -- the member is on this side of one of the needs
-abbrev pub is_on : Side → List OpenNeed → ℕ → Bool
+abbrev pub is_on : NeedSide → List OpenNeed → ℕ → Bool
 is_on s needs m = list_any (λ need. has (on_side s need) m) needs
 
 -- the member blocks the need or helps it

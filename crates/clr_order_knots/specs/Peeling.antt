@@ -6,7 +6,7 @@ use Rattle.clr_order_search.specs.Laws.{IsHelpedInTime}
 use Rattle.clr_order_search.specs.OpenNeeds.{has}
 use Rattle.clr_order_search.specs.Orders.{IsOrder}
 use Rattle.clr_order_knots.specs.declared.peeling.Peeled.{Peeled}
-use Rattle.clr_order_knots.specs.declared.sides.Side.TheVariants as side
+use Rattle.clr_order_knots.specs.declared.sides.NeedSide.TheVariants as side
 use Rattle.clr_order_knots.specs.Members.{AreOnce, AreThose, is_concerned, is_on, needs_at}
 
 -- whoever blocks one of the needs helps one of them too, and the other way round

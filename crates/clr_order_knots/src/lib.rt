@@ -23,5 +23,5 @@ mod waiting;
 pub use ends::whole_order;
 pub use knots::{Knot, first_knot, large_knot};
 pub use peeling::{Peeled, peel};
-pub use sides::Side;
+pub use sides::NeedSide;
 pub use waiting::waiting_members;

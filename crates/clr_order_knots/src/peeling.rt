@@ -7,7 +7,7 @@ ghost use Rattle.clr_order_knots.specs.OpenNeeds.{AreHelped, AreWithin};
 ghost use Rattle.clr_order_knots.specs.Peeling.{AreLeft, IsPeeled, IsRoundIfAny, stays};
 ghost use Rattle.clr_order_knots.specs.Places.{keeps, passes_at};
 
-use crate::sides::{Side, are_marked, is_marked, table_of};
+use crate::sides::{NeedSide, are_marked, is_marked, table_of};
 use clr_order_search::OpenNeed;
 use std::alloc::{AllocError, Global};
 
@@ -87,8 +87,20 @@ fn peel_once(
     requires { AreWithin needs.now count }
     ensures { IfOk result (IsRoundIfAny needs.now count peeled.old peeled.new) }
 {
-    let blocking = table_of(alloc, needs, peeled.left.as_slice(), Side::Blockers, count)?;
-    let helping = table_of(alloc, needs, peeled.left.as_slice(), Side::Helpers, count)?;
+    let blocking = table_of(
+        alloc,
+        needs,
+        peeled.left.as_slice(),
+        NeedSide::Blockers,
+        count,
+    )?;
+    let helping = table_of(
+        alloc,
+        needs,
+        peeled.left.as_slice(),
+        NeedSide::Helpers,
+        count,
+    )?;
     let left = places_kept(
         alloc,
         needs,

@@ -11,7 +11,7 @@ use std::alloc::{AllocError, Global};
 
 /// A side of a need.
 #[derive(Clone, Copy, Debug)]
-pub enum Side {
+pub enum NeedSide {
     /// The members who block it.
     Blockers,
     /// The members who help it.
@@ -19,12 +19,12 @@ pub enum Side {
 }
 
 /// Returns the members on a side of a need.
-pub(crate) fn on_side(need: &OpenNeed, side: Side) -> &[u16]
+pub(crate) fn on_side(need: &OpenNeed, side: NeedSide) -> &[u16]
     ensures { result.now ≡ on_side side need.now }
 {
     match side {
-        Side::Blockers => need.blockers.as_slice(),
-        Side::Helpers => need.helpers.as_slice(),
+        NeedSide::Blockers => need.blockers.as_slice(),
+        NeedSide::Helpers => need.helpers.as_slice(),
     }
 }
 
@@ -69,7 +69,7 @@ pub(crate) fn mark(table: &mut Vec<bool>, members: &[u16])
 }
 
 /// Marks the members on a side of the need at a place, if there is one.
-fn mark_at(table: &mut Vec<bool>, needs: &[OpenNeed], at: usize, side: Side)
+fn mark_at(table: &mut Vec<bool>, needs: &[OpenNeed], at: usize, side: NeedSide)
     requires { AreWithin needs.now (length table.old.items) }
     ensures long { length table.new.items ≡ length table.old.items }
     ensures marked { (m : ℕ) → get_or table.new.items m false ≡ (get_or table.old.items m false || is_at side (slice_get needs.now at) m) }
@@ -81,7 +81,7 @@ fn mark_at(table: &mut Vec<bool>, needs: &[OpenNeed], at: usize, side: Side)
 }
 
 /// Marks the members on a side of the needs at some places.
-fn mark_side(table: &mut Vec<bool>, needs: &[OpenNeed], places: &[usize], side: Side)
+fn mark_side(table: &mut Vec<bool>, needs: &[OpenNeed], places: &[usize], side: NeedSide)
     requires { AreWithin needs.now (length table.old.items) }
     ensures long { length table.new.items ≡ length table.old.items }
     ensures marked { (m : ℕ) → get_or table.new.items m false ≡ (get_or table.old.items m false || is_on side (needs_at needs.now places.now) m) }
@@ -104,7 +104,7 @@ pub(crate) fn table_of(
     alloc: Global,
     needs: &[OpenNeed],
     places: &[usize],
-    side: Side,
+    side: NeedSide,
     count: u16,
 ) -> Result<Vec<bool>, AllocError>
     requires { AreWithin needs.now count }
@@ -126,8 +126,8 @@ pub(crate) fn table_of_concerned(
     ensures { IfOk result (λ table. Tells table.items (is_concerned (needs_at needs.now places.now))) }
 {
     let mut table = empty_table(alloc, count)?;
-    mark_side(&mut table, needs, places, Side::Blockers);
-    mark_side(&mut table, needs, places, Side::Helpers);
+    mark_side(&mut table, needs, places, NeedSide::Blockers);
+    mark_side(&mut table, needs, places, NeedSide::Helpers);
     Ok(table)
 }
 

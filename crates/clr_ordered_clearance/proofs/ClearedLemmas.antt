@@ -3,10 +3,10 @@ use Rattle.std.proofs.Common.{List}
 use Rattle.clr_needs.specs.Covers.{Entry}
 use Rattle.clr_steps.specs.Offices.{Office}
 use Rattle.clr_clearance.proofs.StaticLemmas.{others_free}
-use Rattle.clr_ordered_clearance.specs.MergeSets.{AreListedInTurn, CoversInTurn, OrderedMergeSet}
-use Rattle.clr_ordered_clearance.specs.VerdictLaws.{CanBeMergedAsListed, ClearedInTurnLaw, StaysFreeInTurn}
+use Rattle.clr_ordered_clearance.specs.MergeSets.{CoversInTurn, OrderedMergeSet}
+use Rattle.clr_ordered_clearance.specs.VerdictLaws.{ClearedInTurnLaw, StaysFreeInTurn}
 use Rattle.clr_ordered_clearance.proofs.HeadlineLemmas.{headline_in_turn}
-use Rattle.clr_ordered_clearance.proofs.ListedLemmas.{listed_merges}
+use Rattle.clr_ordered_clearance.proofs.ListedLemmas.{listed_merges, own_list}
 use Rattle.clr_ordered_clearance.proofs.RunLemmas.{runs_cleared}
 use Rattle.clr_ordered_clearance.proofs.SafeLemmas.{covered_in_turn, held_in_turn, safe_in_turn}
 use Rattle.clr_ordered_clearance.proofs.VerdictLemmas.{clear_in_turn}
@@ -18,11 +18,6 @@ stays_free o ordered entries covers = record {
   free = others_free o ordered.merge_set covers.mergeable;
 }
 
-as_listed : (o : Office) (ordered : OrderedMergeSet) (entries : List Entry) → CoversInTurn o ordered entries → AreListedInTurn ordered
-    → CanBeMergedAsListed o ordered
-as_listed o ordered entries covers listed =
-    let merges = listed_merges o ordered entries covers listed in record { quiet = merges.0; in_turn = merges.1; are_done = merges.2 }
-
 pub cleared_in_turn : ClearedInTurnLaw
 cleared_in_turn o ordered entries clear =
     let (covers, listed) = (clear_in_turn o ordered entries).0 clear in
@@ -30,6 +25,7 @@ cleared_in_turn o ordered entries clear =
       free = stays_free o ordered entries covers;
       safe = safe_in_turn o ordered entries covers;
       headline = headline_in_turn o ordered entries covers;
-      listed = as_listed o ordered entries covers listed;
+      listed = listed_merges o ordered entries ordered.merge_set.members covers (own_list o ordered covers.mergeable listed);
+      lists = λ names in_turn. listed_merges o ordered entries names covers in_turn;
       runs = runs_cleared o ordered (safe_in_turn o ordered entries covers);
     }

@@ -1,6 +1,7 @@
--- Where who goes before another is listed before it, the members can be merged as they are listed.
+-- The members can be merged as any list of them has them in which who goes before another stands before it.
 use Rattle.std.proofs.Common.{◌≡◌, ◌∙◌, ℕ, Bool, true, false, ◌||◌, ◌&&◌, cond, List, [], ◌∷◌, ◌++◌, map, refl, sym, ap, subst, Option, Some, None}
 use Rattle.std.proofs.Common.{is_some, slice_get}
+use Rattle.std.specs.List.{list_any}
 use Rattle.std.specs.Option.{option_map}
 use Rattle.std.proofs.lemmas.Bool.{true≢false, or_left, or_right}
 use Rattle.std.proofs.lemmas.List.{append_assoc}
@@ -19,13 +20,15 @@ use Rattle.clr_clearance.specs.Invariants.{Invariant}
 use Rattle.clr_clearance.specs.MergeSets.{AreMergeable, setting_of}
 use Rattle.clr_clearance.specs.Plans.{merges}
 use Rattle.clr_clearance.specs.Runs.{AreQuiet, merged_by, office_before}
+use Rattle.clr_clearance.specs.Safety.{is_clash}
 use Rattle.clr_clearance.proofs.ClearLemmas.{has_at}
+use Rattle.clr_clearance.proofs.NameLemmas.{has_is}
 use Rattle.clr_clearance.proofs.SafeLemmas.{answer_lasts, at_first}
-use Rattle.clr_ordered_needs.specs.Turns.{is_earlier}
+use Rattle.clr_ordered_needs.specs.Turns.{ListsAll, is_earlier}
 use Rattle.clr_ordered_needs.proofs.Lists.{AreOnce, stands_once}
 use Rattle.clr_ordered_needs.proofs.Sequences.{later_there}
-use Rattle.clr_ordered_clearance.specs.Laws.{ListedMergesLaw, none_lost}
-use Rattle.clr_ordered_clearance.specs.MergeSets.{AreListedInTurn, HaveComeInTurn, MembersBreakNoMoreInTurn, OrderedMergeSet}
+use Rattle.clr_ordered_clearance.specs.Laws.{ListedMergesLaw, UnrefusedLaw, none_lost}
+use Rattle.clr_ordered_clearance.specs.MergeSets.{AreListedInTurn, HaveComeInTurn, ListsInTurn, MembersBreakNoMoreInTurn, OrderedMergeSet}
 use Rattle.clr_ordered_clearance.specs.Turns.{IsTurnOf}
 use Rattle.clr_ordered_clearance.proofs.SafeLemmas.{covered_in_turn, safe_at}
 use Rattle.clr_ordered_clearance.proofs.Standing.{OthersStand, all_stand, answer_stands}
@@ -38,21 +41,29 @@ quiet_merge : (now : Office) (merge_set : MergeSet) (name : Name) (remove : Bool
 unfolding is_quiet
 quiet_merge now merge_set name remove member = or_left (is_member merge_set name) _ member
 
-merges_are_quiet : (o : Office) (merge_set : MergeSet) (lost : ℕ → Bool) → AreQuiet o merge_set (merges merge_set.members) lost
-merges_are_quiet o merge_set lost at c e = by (slice_get merge_set.members at) refl (sym (slice_get-map (λ name. command.Merge name false) merge_set.members at) ∙ e)
+merges_are_quiet : (o : Office) (merge_set : MergeSet) (names : List Name) (lost : ℕ → Bool)
+    → ((name : Name) → has names name ≡ true → is_member merge_set name ≡ true) → AreQuiet o merge_set (merges names) lost
+merges_are_quiet o merge_set names lost members at c e =
+    by (slice_get names at) refl (sym (slice_get-map (λ name. command.Merge name false) names at) ∙ e)
   where
-    by : (r : Option Name) → slice_get merge_set.members at ≡ r → option_map (λ name. command.Merge name false) r ≡ Some c
-        → is_quiet (office_before o (merges merge_set.members) lost at) merge_set c ≡ true
+    by : (r : Option Name) → slice_get names at ≡ r → option_map (λ name. command.Merge name false) r ≡ Some c
+        → is_quiet (office_before o (merges names) lost at) merge_set c ≡ true
     by None f d = absurd (cc)
     by (Some name) f d =
         let one : command.Merge name false ≡ c = cc in
-        ap (is_quiet (office_before o (merges merge_set.members) lost at) merge_set) (sym one)
-        ∙ quiet_merge (office_before o (merges merge_set.members) lost at) merge_set name false (has_at merge_set.members at name f)
+        ap (is_quiet (office_before o (merges names) lost at) merge_set) (sym one)
+        ∙ quiet_merge (office_before o (merges names) lost at) merge_set name false (members name (has_at names at name f))
+
+-- who is in a list of all members is a member
+listed_member : (o : Office) (merge_set : MergeSet) (list : List Name) → ListsAll (setting_of o merge_set) list → (name : Name) → has list name ≡ true
+    → is_member merge_set name ≡ true
+listed_member o merge_set list all name h =
+    sym (has_is merge_set.members name) ∙ sym (all.members name) ∙ has_is list name ∙ h
 
 -- one after another ------------------------------------------------------------------------------------------------------------
 
 module _ (first : Office) (ordered : OrderedMergeSet) (mergeable : AreMergeable first ordered.merge_set) (no_more : MembersBreakNoMoreInTurn first ordered)
-    (listed : AreListedInTurn ordered) where
+    (list : List Name) (listed : ListsInTurn first ordered list) where
   abbrev c : Setting Name
   c = setting_of first ordered.merge_set
 
@@ -92,16 +103,17 @@ module _ (first : Office) (ordered : OrderedMergeSet) (mergeable : AreMergeable 
     replies : (run now (merges ns) none_lost).replies ≡ map (λ name. Done) ns
     in_turn : ComeAfter ordered now names (merges ns) none_lost
 
-  all_done : (ns names : List Name) (now : Office) → names ++ ns ≡ ordered.merge_set.members → AreOnce c (names ++ ns)
+  all_done : (ns names : List Name) (now : Office) → names ++ ns ≡ list → AreOnce c (names ++ ns)
       → Invariant first ordered.merge_set names now → HaveComeInTurn first ordered names
       → OthersStand first ordered.merge_set mergeable names now → AreDone now names ns
   all_done [] names now whole once inv come stand = record { replies = refl; in_turn = λ at name remove e. absurd (cc) }
   all_done (n ∷ ns) names now whole once inv come stand =
       let m = command.Merge n false in
       let alone = next_alone names ns n once in
-      let member : is_member ordered.merge_set n ≡ true = ap (λ ms. has ms n) (sym whole) ∙ there names ns n in
+      let member : is_member ordered.merge_set n ≡ true =
+      listed_member first ordered.merge_set list listed.lists n (ap (λ ms. has ms n) (sym whole) ∙ there names ns n) in
       let turn : IsTurnOf ordered names n =
-      λ k goes is_one. already names ns n k alone.1 (ap (λ ms. is_earlier same_name ms k n) whole ∙ listed k n goes) in
+      λ k goes is_one. already names ns n k alone.1 (ap (λ ms. is_earlier same_name ms k n) whole ∙ listed.in_turn k n goes is_one member) in
       let safe = (safe_at first ordered mergeable no_more names now inv come).answers m member turn in
       let stands : is_some (workspace now n) ≡ true = is_there (workspace now n) (stand n member alone.0) in
       let done : (step now m).reply ≡ Done = safe.is_done (λ i. stands i && true) in
@@ -125,8 +137,28 @@ module _ (first : Office) (ordered : OrderedMergeSet) (mergeable : AreMergeable 
       is_there (Some w) h = refl
 
 pub listed_merges : ListedMergesLaw
-listed_merges o ordered entries covers listed =
-    let done = all_done o ordered covers.mergeable (covered_in_turn o ordered entries covers) listed ordered.merge_set.members [] o refl
-    (stands_once (setting_of o ordered.merge_set) ordered.merge_set.members covers.mergeable.distinct)
+listed_merges o ordered entries names covers listed =
+    let done = all_done o ordered covers.mergeable (covered_in_turn o ordered entries covers) names listed names [] o refl
+    (stands_once (setting_of o ordered.merge_set) names listed.lists.once)
     (at_first o ordered.merge_set covers.mergeable) (none_come ordered o) (all_stand o ordered.merge_set covers.mergeable) in
-    (merges_are_quiet o ordered.merge_set none_lost, done.in_turn, done.replies)
+    record {
+      quiet = merges_are_quiet o ordered.merge_set names none_lost (listed_member o ordered.merge_set names listed.lists);
+      in_turn = done.in_turn;
+      are_done = done.replies;
+    }
+
+-- the list of members itself, where it has them in turn
+pub own_list : (o : Office) (ordered : OrderedMergeSet) → AreMergeable o ordered.merge_set → AreListedInTurn ordered
+    → ListsInTurn o ordered ordered.merge_set.members
+own_list o ordered mergeable listed = record {
+  lists = record { members = λ name. refl; once = mergeable.distinct };
+  in_turn = λ m n goes is_one is_other. listed m n goes;
+}
+
+-- none that is done is refused
+none_clashes : (names : List Name) → list_any is_clash (map (λ (name : Name). Done) names) ≡ false
+none_clashes [] = refl
+none_clashes (n ∷ ns) = none_clashes ns
+
+pub unrefused : UnrefusedLaw
+unrefused o ordered names merged = ap (list_any is_clash) merged.are_done ∙ none_clashes names

@@ -18,7 +18,7 @@ use Rattle.clr_ordered_needs.specs.Covers.{AreCovered, IsUncovered, IsUncoveredN
 use Rattle.clr_ordered_needs.specs.States.{IsBrokenWith, IsOpen}
 use Rattle.clr_ordered_needs.specs.Turns.{ListsAll, is_earlier}
 use Rattle.clr_ordered_clearance.specs.Headlines.{HeadlineInTurn}
-use Rattle.clr_ordered_clearance.specs.MergeSets.{AreListedInTurn, CoversInTurn, KeepsRulesInTurn, MembersBreakNoMoreInTurn, OrderedMergeSet}
+use Rattle.clr_ordered_clearance.specs.MergeSets.{CoversInTurn, KeepsRulesInTurn, ListsInTurn, MembersBreakNoMoreInTurn, OrderedMergeSet}
 use Rattle.clr_ordered_clearance.specs.MergeSets.{goes_before, position_goes_before}
 use Rattle.clr_ordered_clearance.specs.Runs.{IsClearedRunInTurn, IsDue, IsQuietStartInTurn}
 use Rattle.clr_ordered_clearance.specs.Safety.{SafeInTurn}
@@ -69,15 +69,22 @@ HeadlineInTurnLaw = (o : Office) (ordered : OrderedMergeSet) (entries : List Ent
 abbrev pub none_lost : ℕ → Bool
 none_lost at = false
 
--- where who goes before another is listed before it, the members can be merged as they are listed
+-- the merges of members as a list has them are quiet, come in turn, and are all done
+pub record CanBeMergedAs (o : Office) (ordered : OrderedMergeSet) (names : List Name) : Type 0 where
+  pub quiet : AreQuiet o ordered.merge_set (merges names) none_lost
+  pub in_turn : MergesComeInTurn o ordered (merges names) none_lost
+  pub are_done : (run o (merges names) none_lost).replies ≡ map (λ name. Done) names
+
+-- the members can be merged as any list of them has them in which who goes before another stands before it
 abbrev pub ListedMergesLaw : Type 0
-ListedMergesLaw = (o : Office) (ordered : OrderedMergeSet) (entries : List Entry)
+ListedMergesLaw = (o : Office) (ordered : OrderedMergeSet) (entries : List Entry) (names : List Name)
     → CoversInTurn o ordered entries
-    → AreListedInTurn ordered
-    → let commands = merges ordered.merge_set.members in
-    AreQuiet o ordered.merge_set commands none_lost
-    × MergesComeInTurn o ordered commands none_lost
-    × ((run o commands none_lost).replies ≡ map (λ name. Done) ordered.merge_set.members)
+    → ListsInTurn o ordered names
+    → CanBeMergedAs o ordered names
+
+-- and so none of their merges is refused in the order of this list
+abbrev pub UnrefusedLaw : Type 0
+UnrefusedLaw = (o : Office) (ordered : OrderedMergeSet) (names : List Name) → CanBeMergedAs o ordered names → is_order_refused o names ≡ false
 
 -- the members that stand, with the same pairs
 abbrev pub standing_in_turn : Office → OrderedMergeSet → OrderedMergeSet

@@ -7,11 +7,11 @@ use Rattle.clr_needs.specs.Covers.{Entry}
 use Rattle.clr_needs.specs.Settings.{AreAmong}
 use Rattle.clr_steps.specs.Names.{same_name}
 use Rattle.clr_steps.specs.Offices.{Office}
-use Rattle.clr_steps.specs.Quiet.{MergeSet}
+use Rattle.clr_steps.specs.Quiet.{MergeSet, is_member}
 use Rattle.clr_clearance.specs.MergeSets.{AreMergeable, rows_with, setting_by_position, setting_of}
 use Rattle.clr_ordered_needs.specs.Covers.{AreCovered}
 use Rattle.clr_ordered_needs.specs.Positions.{order_at}
-use Rattle.clr_ordered_needs.specs.Turns.{AreInTurn, is_earlier}
+use Rattle.clr_ordered_needs.specs.Turns.{AreInTurn, ListsAll, is_earlier}
 
 -- a merge set, and pairs of names of which the first goes before the second
 pub record OrderedMergeSet : Type 0 where
@@ -51,3 +51,9 @@ KeepsRulesInTurn o ordered = (names : List Name) → AreAmong (setting_of o orde
 -- who goes before another is listed before it, and both are members
 abbrev pub AreListedInTurn : OrderedMergeSet → Type 0
 AreListedInTurn ordered = (m n : Name) → goes_before ordered m n ≡ true → is_earlier same_name ordered.merge_set.members m n ≡ true
+
+-- a list of exactly the members, each once, in which who goes before another stands before it
+pub record ListsInTurn (o : Office) (ordered : OrderedMergeSet) (names : List Name) : Type 0 where
+  pub lists : ListsAll (setting_of o ordered.merge_set) names
+  pub in_turn : (m n : Name) → goes_before ordered m n ≡ true → is_member ordered.merge_set m ≡ true → is_member ordered.merge_set n ≡ true
+      → is_earlier same_name names m n ≡ true

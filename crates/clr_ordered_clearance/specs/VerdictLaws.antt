@@ -1,5 +1,5 @@
 -- What a clear verdict promises where some members go before others, and how one comes about need by need.
-use Rattle.std.specs.Prelude.{◌≡◌, ◌↔◌, ℕ, ◌<◌, Bool, true, false, ◌&&◌, List, [], Option, Some, Contains, filter, is_some, map, slice_get}
+use Rattle.std.specs.Prelude.{◌≡◌, ◌↔◌, ℕ, ◌<◌, Bool, true, false, ◌&&◌, List, [], Option, Some, Contains, filter, is_some, slice_get}
 use Rattle.clr_workspaces.specs.Marks.{Name}
 use Rattle.clr_workspaces.specs.Workspaces.{Workspace}
 use Rattle.clr_needs.specs.declared.needs.Need.{Need}
@@ -8,7 +8,6 @@ use Rattle.clr_needs.specs.Needs.{AreTouchedNeeds, IsPossible}
 use Rattle.clr_needs.specs.Settings.{Setting, AreAmong, Lived}
 use Rattle.clr_steps.specs.declared.commands.Command.{Command}
 use Rattle.clr_steps.specs.declared.commands.Reply.{Reply}
-use Rattle.clr_steps.specs.declared.commands.Reply.TheVariants.{Done}
 use Rattle.clr_steps.specs.Names.{has}
 use Rattle.clr_steps.specs.Offices.{Office, workspace}
 use Rattle.clr_steps.specs.Quiet.{MergeSet, is_member}
@@ -19,15 +18,15 @@ use Rattle.clr_clearance.specs.ClearedRuns.{IsQuietStart}
 use Rattle.clr_clearance.specs.Headline.{Headline, RunsAreCleared}
 use Rattle.clr_clearance.specs.Laws.{StaysFree}
 use Rattle.clr_clearance.specs.MergeSets.{AgreesWith, RootHolds, rows_with, setting_of}
-use Rattle.clr_clearance.specs.Plans.{merges, standing}
+use Rattle.clr_clearance.specs.Plans.{standing}
 use Rattle.clr_clearance.specs.Runs.{AreQuiet}
 use Rattle.clr_clearance.specs.Safety.{Safe}
 use Rattle.clr_clearance.specs.Verdicts.{IsVerdict}
 use Rattle.clr_ordered_needs.specs.Covers.{AreCovered}
 use Rattle.clr_ordered_needs.specs.Turns.{Order}
 use Rattle.clr_ordered_clearance.specs.Headlines.{HeadlineInTurn}
-use Rattle.clr_ordered_clearance.specs.Laws.{none_lost, without_order}
-use Rattle.clr_ordered_clearance.specs.MergeSets.{AreListedInTurn, CoversInTurn, KeepsRulesInTurn, MembersBreakNoMoreInTurn, OrderedMergeSet}
+use Rattle.clr_ordered_clearance.specs.Laws.{CanBeMergedAs, without_order}
+use Rattle.clr_ordered_clearance.specs.MergeSets.{AreListedInTurn, CoversInTurn, KeepsRulesInTurn, ListsInTurn, MembersBreakNoMoreInTurn, OrderedMergeSet}
 use Rattle.clr_ordered_clearance.specs.Runs.{IsClearedRunInTurn, IsQuietStartInTurn}
 use Rattle.clr_ordered_clearance.specs.Safety.{SafeInTurn}
 use Rattle.clr_ordered_clearance.specs.Turns.{MergesComeInTurn}
@@ -47,12 +46,6 @@ pub record StaysFreeInTurn (o : Office) (ordered : OrderedMergeSet) : Type 0 whe
       → workspace o name ≡ Some w
       → AgreesWith (rows_with o ordered.merge_set names) w.base w.current
 
--- the merges of the members as they are listed are quiet, come in turn, and are all done
-pub record CanBeMergedAsListed (o : Office) (ordered : OrderedMergeSet) : Type 0 where
-  pub quiet : AreQuiet o ordered.merge_set (merges ordered.merge_set.members) none_lost
-  pub in_turn : MergesComeInTurn o ordered (merges ordered.merge_set.members) none_lost
-  pub are_done : (run o (merges ordered.merge_set.members) none_lost).replies ≡ map (λ name. Done) ordered.merge_set.members
-
 -- a run of quiet commands in which merges come in turn, and in which those answered OutOfMemory are lost, is a cleared one
 abbrev pub RunsAreClearedInTurn : Office → OrderedMergeSet → Type 0
 RunsAreClearedInTurn o ordered = (commands : List Command) (replies : List Reply) (left : Office)
@@ -61,12 +54,13 @@ RunsAreClearedInTurn o ordered = (commands : List Command) (replies : List Reply
     → run o commands (lost_in replies) ≡ record { replies = replies; office = left }
     → IsClearedRunInTurn o ordered commands replies left
 
--- all that a clear verdict promises
+-- all that a clear verdict promises: of the merges as the members are listed, and as any other list in turn has them, too
 pub record IsClearedInTurn (o : Office) (ordered : OrderedMergeSet) : Type 0 where
   pub free : StaysFreeInTurn o ordered
   pub safe : SafeInTurn o ordered
   pub headline : HeadlineInTurn o ordered
-  pub listed : CanBeMergedAsListed o ordered
+  pub listed : CanBeMergedAs o ordered ordered.merge_set.members
+  pub lists : (names : List Name) → ListsInTurn o ordered names → CanBeMergedAs o ordered names
   pub runs : RunsAreClearedInTurn o ordered
 
 abbrev pub ClearedInTurnLaw : Type 0

@@ -2,7 +2,7 @@
 
 ghost use Rattle.clr_ordered_clearance.specs.Laws.{BrokenOrderLaw, ClearedRunInTurnLaw, CoveredInTurnLaw, EveryOrderLaw, HeadlineInTurnLaw};
 ghost use Rattle.clr_ordered_clearance.specs.Laws.{LastingInTurnLaw, ListedMergesLaw, NumberInTurnLaw, OneMoreInTurnLaw, RootHeldInTurnLaw};
-ghost use Rattle.clr_ordered_clearance.specs.Laws.{SafeInTurnLaw, UncoveredOrderLaw};
+ghost use Rattle.clr_ordered_clearance.specs.Laws.{SafeInTurnLaw, UncoveredOrderLaw, UnrefusedLaw};
 
 /// Where entries cover the members under an order, the root with the changes over it of members that
 /// have come in turn breaks no need but those that it breaks with fewer of them. Where every rule
@@ -43,10 +43,12 @@ pub fn covers_in_turn_keep_the_headline()
     ensures { HeadlineInTurnLaw }
 {}
 
-/// Where entries cover the members under an order, and who goes before another is listed before it,
-/// the merges of the members as they are listed are quiet, come in turn, and are all done.
+/// Let entries cover the members under an order, and let a list have exactly the members, each once, and who goes
+/// before another before it. The merges of the members as this list has them are quiet, come in turn, and are all
+/// done. So none of them is answered by a conflict or a broken rule.
 pub fn listed_members_can_be_merged()
-    ensures { ListedMergesLaw }
+    ensures listed { ListedMergesLaw }
+    ensures unrefused { UnrefusedLaw }
 {}
 
 /// After a list of quiet commands in which merges come in turn, some entries cover the members that

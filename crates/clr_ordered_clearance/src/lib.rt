@@ -10,7 +10,8 @@
 //! - `covers_in_turn_keep_the_headline`: in every list of quiet commands in which merges come in turn,
 //!   no merge of a member meets a conflict or breaks a rule, and the root breaks nothing new.
 //!   `merge_sets_covered_in_turn_are_safe` says more of each office on the way.
-//! - `listed_members_can_be_merged`: members that are listed as they go can be merged as listed.
+//! - `listed_members_can_be_merged`: members can be merged as any list has them in which who goes before
+//!   another stands before it, and then no merge is refused.
 //!   `clearances_in_turn_last`: afterwards those that still stand are covered again.
 //! - `members_covered_in_turn_stay_free`, `numbers_stand_for_names_in_turn`,
 //!   `without_order_is_every_order`: without commands between merges, by position, and where no member

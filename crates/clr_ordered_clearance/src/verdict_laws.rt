@@ -6,8 +6,9 @@ ghost use Rattle.clr_ordered_clearance.specs.VerdictLaws.{ClearedWithoutOrderLaw
 /// A verdict under an order is clear exactly where the entries cover the members under the order and
 /// who goes before another is listed before it. Then all is promised: the root with the changes over
 /// it of members that have come in turn breaks no need but those that it breaks with fewer of them;
-/// the members are safe, as the headline says; they can be merged as they are listed; and every run
-/// of quiet commands in which merges come in turn is a cleared one.
+/// the members are safe, as the headline says; they can be merged as they are listed, and as every other
+/// list of them has them in which who goes before another stands before it; and every run of quiet
+/// commands in which merges come in turn is a cleared one.
 pub fn clear_verdicts_in_turn_promise_all()
     ensures clear { ClearInTurnLaw }
     ensures cleared { ClearedInTurnLaw }

@@ -1,21 +1,17 @@
 -- What plans in the order of members are, and what they promise.
 use Rattle.std.proofs.Common.{◌≡◌, ◌∙◌, ◌<◌, ℕ, zero, suc, true, false, List, [], ◌∷◌, ◌++◌, Some, None, inl, inr, Contains}
 use Rattle.std.proofs.Common.{length, map, take, drop, refl, sym, ap, subst, arith}
-use Rattle.std.specs.List.{list_any}
 use Rattle.std.proofs.lemmas.Bool.{false≢true, true≢false}
 use Rattle.std.proofs.lemmas.List.{length-map}
 use Rattle.clr_rules.proofs.Elements.{Among, among, among_either, contained}
-use Rattle.clr_workspaces.specs.Marks.{Name}
 use Rattle.clr_needs.specs.declared.needs.Need.{Need}
 use Rattle.clr_needs.specs.Members.{AreApart}
-use Rattle.clr_steps.specs.declared.commands.Reply.TheVariants.{Done}
 use Rattle.clr_steps.specs.Offices.{Office}
 use Rattle.clr_steps.specs.Quiet.{MergeSet}
 use Rattle.clr_clearance.specs.declared.verdicts.Verdict.{Verdict}
 use Rattle.clr_clearance.specs.declared.verdicts.Verdict.TheVariants as verdict
 use Rattle.clr_clearance.specs.MergeSets.{AreMergeable, change_sets, setting_by_position}
 use Rattle.clr_clearance.specs.Plans.{IsBlocked, is_order_refused, members_at, of_conflict, of_shared, of_unpicked}
-use Rattle.clr_clearance.specs.Safety.{is_clash}
 use Rattle.clr_clearance.specs.Verdicts.{first_conflict, member_fault, names_fault}
 use Rattle.clr_clearance.proofs.ClearLemmas.{faultless, mergeable_of, neither, no_member_fault}
 use Rattle.clr_clearance.proofs.PlanLemmas as plans
@@ -27,6 +23,7 @@ use Rattle.clr_ordered_clearance.specs.Laws.{without_order}
 use Rattle.clr_ordered_clearance.specs.MergeSets.{AreListedInTurn, CoversInTurn, OrderedMergeSet, position_goes_before}
 use Rattle.clr_ordered_clearance.specs.Verdicts.{IsVerdictInTurn}
 use Rattle.clr_ordered_clearance.proofs.ClearedLemmas.{cleared_in_turn}
+use Rattle.clr_ordered_clearance.proofs.ListedLemmas.{unrefused}
 use Rattle.clr_ordered_clearance.proofs.NumberLemmas.{every_order}
 use Rattle.clr_ordered_clearance.proofs.VerdictLemmas.{clear_in_turn}
 use Rattle.clr_cert.specs.declared.certificates.Certificate.{Certificate}
@@ -211,15 +208,11 @@ module _ (o : Office) (s : MergeSet) where
   promise_in_order plan.OutOfMemory h = tt
 
   -- members that can be merged as they are listed aren't refused
-  none_clashes : (names : List Name) → list_any is_clash (map (λ (name : Name). Done) names) ≡ false
-  none_clashes [] = refl
-  none_clashes (n ∷ ns) = none_clashes ns
-
   not_refused : (c : Certificate) → IsClearanceInOrder o s c → is_order_refused o s.members ≡ false
   not_refused c h =
       let cleared = cleared_in_turn o (ordered_merge_set_of c) (entries_in c.entries) (clear_of c h) in
       subst (λ (t : MergeSet). is_order_refused o t.members ≡ false) h.merge_set
-      (ap (list_any is_clash) cleared.listed.are_done ∙ none_clashes (merge_set_of c).members)
+      (unrefused o (ordered_merge_set_of c) (merge_set_of c).members cleared.listed)
 
   -- in a mergeable set no other test fails
   blocked_refuses : (order : List ℕ) (cause : Verdict) → AreMergeable o s → IsBlockedInOrder o s order cause → is_order_refused o s.members ≡ true

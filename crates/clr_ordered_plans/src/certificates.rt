@@ -1,4 +1,4 @@
-//! Lists that a plan in order keeps: names of members, who goes before whom, and first positions.
+//! Lists that a plan in order keeps: who goes before whom, and first positions.
 
 ghost use Rattle.std.specs.Prelude.{◌≡◌, IfOk, map};
 ghost use Rattle.std.specs.List.{range_with_len};
@@ -7,19 +7,8 @@ ghost use Rattle.clr_ordered_plans.specs.Listed.{precedence_of};
 use clr_cert::{Precedence, Precedences};
 use clr_member_changes::member_name;
 use clr_order_answers::Pair;
-use clr_rows::{Names, Words};
+use clr_rows::Words;
 use std::alloc::{AllocError, Global};
-
-/// Returns the names of members, as they are given.
-pub(crate) fn names(alloc: Global, members: &[&str]) -> Result<Names, AllocError>
-    ensures { IfOk result (λ names. names ≡ map (λ name. name.now) members.now) }
-{
-    let mut list = Vec::with_capacity(alloc, members.len())?;
-    for name in members {
-        list.push(Words::from_str(alloc, name)?)?;
-    }
-    Ok(Names::new(list))
-}
 
 /// Returns the precedence of a pair of members: the names of the two.
 fn precedence(alloc: Global, members: &[&str], pair: Pair) -> Result<Precedence, AllocError>
@@ -30,8 +19,9 @@ fn precedence(alloc: Global, members: &[&str], pair: Pair) -> Result<Precedence,
     Ok(Precedence { earlier, later })
 }
 
-/// Returns the precedences of some pairs of members.
-pub(crate) fn precedences(
+/// Returns the precedences of some pairs of members, in their order: of each pair the names of the two, of which the first goes before the
+/// second. A position past the last member has the empty name. It fails only for want of memory.
+pub fn precedences_of_pairs(
     alloc: Global,
     members: &[&str],
     pairs: &[Pair],

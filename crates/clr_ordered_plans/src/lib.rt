@@ -15,6 +15,7 @@
 //!   before.
 //! - `certificate_of_order` is the plan of members that are named in another order, as one that was
 //!   found by a search. `names_in_order` gives their names.
+//! - `precedences_of_pairs`: exactly the names of pairs of members, as a certificate has them.
 #![tactic(auto)]
 
 mod certificates;
@@ -22,5 +23,6 @@ mod found_orders;
 mod listed_plans;
 mod ordered_plans;
 
+pub use certificates::precedences_of_pairs;
 pub use found_orders::{certificate_of_order, names_in_order};
 pub use ordered_plans::{plan_changes_in_order, plan_in_order};

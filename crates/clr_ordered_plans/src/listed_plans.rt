@@ -4,11 +4,11 @@ ghost use Rattle.std.specs.Prelude.{IfOk, map};
 ghost use Rattle.clr_merge_sets.specs.MergeSetNames.{merge_set};
 ghost use Rattle.clr_ordered_plans.specs.Listed.{IsPlanOfListed};
 
-use crate::certificates::{first_positions, names, precedences};
+use crate::certificates::{first_positions, precedences_of_pairs};
 use clr_cert::Certificate;
 use clr_clearance::Verdict;
 use clr_listed_covers::ListedCover;
-use clr_merge_sets::Plan;
+use clr_merge_sets::{Plan, owned_names};
 use clr_rows::Words;
 use std::alloc::{AllocError, Global};
 
@@ -25,8 +25,8 @@ pub(crate) fn plan_of_listed(
     match listed {
         ListedCover::Covered { pairs, entries } => Ok(Plan::Cleared(Certificate {
             root: Words::from_str(alloc, root)?,
-            members: names(alloc, members)?,
-            before: precedences(alloc, members, pairs.as_slice())?,
+            members: owned_names(alloc, members)?,
+            before: precedences_of_pairs(alloc, members, pairs.as_slice())?,
             entries,
         })),
         ListedCover::Broken { need, count } => Ok(Plan::Blocked {

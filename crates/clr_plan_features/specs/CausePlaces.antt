@@ -1,6 +1,6 @@
 -- The place of a cause.
 use Rattle.std.specs.Prelude.{◌≡◌, List, [], ◌∷◌, Option, Some, None, option_map, string_bytes}
-use Rattle.std.specs.Option.{option_and_then}
+use Rattle.std.specs.Option.{option_and_then, option_or}
 use Rattle.clr_rows.specs.declared.places.Place.{Place}
 use Rattle.clr_rows.specs.declared.places.Shape.{Shape}
 use Rattle.clr_rows.specs.declared.places.Shape.TheVariants.{Bare, At, Line, Chain}
@@ -32,6 +32,15 @@ place_of_mark (mark.Ring ring) rows = Some ring.place
 place_of_mark mark.Link rows = None
 place_of_mark (mark.Near d) rows = place_between_rows rows
 place_of_mark mark.Nothing rows = None
+
+-- the middle of the first of some rows, if it has one
+abbrev pub middle_of_first : List CauseRow → Option Place
+middle_of_first [] = None
+middle_of_first (r ∷ rows) = middle_place r.row.shape
+
+-- where to look for a cause: where a map marks it, or else the middle of its first row
+abbrev pub place_to_look : Cause → Option Place
+place_to_look c = option_or (place_of_mark c.mark c.rows.items) (middle_of_first c.rows.items)
 
 -- the place of a cause, with what a map says there
 abbrev pub place_of_cause : Cause → Option MarkedPlace

@@ -32,19 +32,39 @@ fn avoid_set(labels: &mut Labels, scene: &MapScene<'_>, set: &ChangeSet) -> Resu
     Ok(())
 }
 
+/// Notes the spots of what is in the root.
+fn avoid_root(labels: &mut Labels, scene: &MapScene<'_>) -> Result<(), AllocError> {
+    for (_, row) in scene.field.rows.iter() {
+        avoid_row(labels, scene, Some(row))?;
+    }
+    Ok(())
+}
+
+/// Notes the spots of what the designs change.
+fn avoid_designs(labels: &mut Labels, scene: &MapScene<'_>) -> Result<(), AllocError> {
+    for at in scene.field.designs.order() {
+        if let Some(set) = scene.field.designs.changes(*at) {
+            avoid_set(labels, scene, set)?;
+        }
+    }
+    Ok(())
+}
+
 /// Notes the spots that labels should leave free, if the map has room enough for it to matter.
 pub(crate) fn avoid_rows(labels: &mut Labels, scene: &MapScene<'_>) -> Result<(), AllocError> {
     if scene.detail.is_fine() {
-        for (_, row) in scene.field.rows.iter() {
-            avoid_row(labels, scene, Some(row))?;
-        }
+        avoid_root(labels, scene)?;
     }
     if scene.changes.is_fine() {
-        for at in scene.field.designs.order() {
-            if let Some(set) = scene.field.designs.changes(*at) {
-                avoid_set(labels, scene, set)?;
-            }
-        }
+        avoid_designs(labels, scene)?;
+    }
+    Ok(())
+}
+
+/// Takes the areas of the outlines of the frames of the design at a position.
+fn take_frames_of(labels: &mut Labels, scene: &MapScene<'_>, at: usize) -> Result<(), AllocError> {
+    for frame in &frames_of(scene, at)? {
+        labels.take(*frame)?;
     }
     Ok(())
 }
@@ -55,9 +75,7 @@ pub(crate) fn take_frames(labels: &mut Labels, scene: &MapScene<'_>) -> Result<(
         return Ok(());
     }
     for at in scene.field.designs.order() {
-        for frame in &frames_of(scene, *at)? {
-            labels.take(*frame)?;
-        }
+        take_frames_of(labels, scene, *at)?;
     }
     Ok(())
 }

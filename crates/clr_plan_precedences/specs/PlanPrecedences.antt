@@ -4,19 +4,14 @@ use Rattle.clr_workspaces.specs.Marks.{Name}
 use Rattle.clr_steps.specs.Offices.{Office}
 use Rattle.clr_steps.specs.Quiet.{MergeSet}
 use Rattle.clr_cert.specs.declared.certificates.Precedence.{Precedence}
-use Rattle.clr_member_changes.specs.Names.{member_name}
 use Rattle.clr_merge_sets.specs.declared.plans.Plan.{Plan}
 use Rattle.clr_merge_sets.specs.declared.plans.Plan.TheVariants as plan
-use Rattle.clr_order_answers.specs.declared.pairs.Pair.{Pair}
 use Rattle.clr_scene_orders.specs.declared.scene_orders.SceneOrder.{SceneOrder}
 use Rattle.clr_scene_orders.specs.declared.scene_orders.SceneOrder.TheVariants as scene_order
 use Rattle.clr_merge_orders.specs.declared.merge_orders.MergeOrder.{MergeOrder}
 use Rattle.clr_merge_orders.specs.declared.merge_orders.MergeOrder.TheVariants as merge_order
 use Rattle.clr_merge_orders.specs.MergeOrders.{IsFoundOrder}
-
--- the names of a pair
-abbrev pub precedence_of : List Name → Pair → Precedence
-precedence_of members p = record { earlier = member_name members p.earlier; later = member_name members p.later }
+use Rattle.clr_ordered_plans.specs.Listed.{precedence_of}
 
 -- who goes before whom in the order that is said of a scene, if one is
 abbrev pub precedences_in_scene : List Name → SceneOrder → Option (List Precedence)

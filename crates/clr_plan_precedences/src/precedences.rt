@@ -1,43 +1,18 @@
 //! Which members go before which.
 
-ghost use Rattle.std.specs.Prelude.{◌≡◌, map, IfOk};
+ghost use Rattle.std.specs.Prelude.{◌≡◌, IfOk, map};
 ghost use Rattle.clr_merge_sets.specs.MemberChanges.{AreMembers, set_of};
 ghost use Rattle.clr_merge_orders.specs.MergeOrders.{IsFoundOrder};
-ghost use Rattle.clr_plan_precedences.specs.PlanPrecedences.{ArePrecedencesOfPlan, precedence_of, precedences_in, precedences_in_scene};
+ghost use Rattle.clr_plan_precedences.specs.PlanPrecedences.{ArePrecedencesOfPlan, precedences_in, precedences_in_scene};
 
-use clr_cert::{Precedence, Precedences};
+use clr_cert::Precedences;
 use clr_engine::Office;
-use clr_member_changes::{MemberChanges, member_name};
+use clr_member_changes::MemberChanges;
 use clr_merge_orders::{MergeOrder, order_of_changes};
 use clr_merge_sets::Plan;
-use clr_order_answers::Pair;
-use clr_rows::Words;
+use clr_ordered_plans::precedences_of_pairs;
 use clr_scene_orders::SceneOrder;
 use std::alloc::{AllocError, Global};
-
-/// Returns the names of a pair of members.
-fn precedence_of(alloc: Global, members: &[&str], pair: Pair) -> Result<Precedence, AllocError>
-    ensures { IfOk result (λ p. p ≡ precedence_of (map (λ name. name.now) members.now) pair) }
-{
-    let earlier = Words::from_str(alloc, member_name(members, pair.earlier as usize))?;
-    let later = Words::from_str(alloc, member_name(members, pair.later as usize))?;
-    Ok(Precedence { earlier, later })
-}
-
-/// Returns the names of some pairs of members, in their order.
-fn precedences_of_pairs(
-    alloc: Global,
-    members: &[&str],
-    pairs: &[Pair],
-) -> Result<Precedences, AllocError>
-    ensures { IfOk result (λ before. before ≡ map (precedence_of (map (λ name. name.now) members.now)) pairs.now) }
-{
-    let mut list = Vec::with_capacity(alloc, pairs.len())?;
-    for pair in pairs {
-        list.push(precedence_of(alloc, members, *pair)?)?;
-    }
-    Ok(Precedences::new(list))
-}
 
 /// Returns who goes before whom in the order of a scene, if one was found.
 fn precedences_in_scene(

@@ -2,6 +2,8 @@
 use Rattle.std.proofs.Common.{◌≡◌, ◌∙◌, ◌<◌, ◌≤◌, ◌==◌, ◌||◌, ◌⊎◌, ℕ, zero, suc, Bool, true, false, cond, not, List, [], ◌∷◌, ◌++◌, Option, Some, None, inl, inr}
 use Rattle.std.proofs.Common.{Contains, if◌then◌else◌, length, slice_get, take, refl, sym, ap, subst, arith}
 use Rattle.std.specs.List.{list_any}
+use Rattle.std.specs.List.Sorted.{IsStrictlySortedBy}
+use Rattle.std.specs.declared.cmp.Ordering.TheVariants.{Less}
 use Rattle.std.proofs.lemmas.Bool.{cases_Bool, false≢true, true≢false, or_cases, or_left, or_right}
 use Rattle.std.proofs.lemmas.List.{take_all}
 use Rattle.std.proofs.lemmas.List.FromFn.{length-range_with_len}
@@ -9,15 +11,17 @@ use Rattle.std.proofs.lemmas.Map.Keys.{any_passes_from_place}
 use Rattle.std.proofs.lemmas.Option.{slice_get_within}
 use Rattle.clr_rows.specs.Contents.{Changes, Content}
 use Rattle.clr_rules.specs.declared.rules.Rule.{Rule}
-use Rattle.clr_rules.proofs.Elements.{Among, contained, some_of}
+use Rattle.clr_rules.proofs.Elements.{Among, among, contained, each_of, not_both, not_itself, some_of}
 use Rattle.clr_needs.specs.declared.needs.Need.{Need}
 use Rattle.clr_needs.specs.Covers.{IsBlocker}
 use Rattle.clr_needs.specs.Members.{setting}
 use Rattle.clr_needs.specs.Needs.{IsPossible}
+use Rattle.clr_needs.specs.Orders.{need_cmp}
 use Rattle.clr_needs.specs.Picks.{Blocks}
 use Rattle.clr_needs.specs.Settings.{Setting, Lived}
 use Rattle.clr_needs.specs.Settings as settings
 use Rattle.clr_needs.proofs.BlockerLaws.{blocker_below, member_below}
+use Rattle.clr_needs.proofs.NeedOrder.{need_total}
 use Rattle.clr_needs.proofs.NeedSubjects.{subjects_once}
 use Rattle.clr_needs.proofs.PartPositions.{below_member}
 use Rattle.clr_order_search.specs.declared.open_needs.OpenNeed.{OpenNeed}
@@ -28,7 +32,7 @@ use Rattle.clr_ordered_needs.specs.Helpers.{IsHelper}
 use Rattle.clr_ordered_needs.specs.States.{IsBrokenWith, IsOpen}
 use Rattle.clr_ordered_needs.specs.Turns.{ListsAll, is_earlier}
 use Rattle.clr_order_answers.specs.declared.pairs.Pair.{Pair}
-use Rattle.clr_order_answers.specs.Answers.{AreAllHelped, IsUnhelpedAt}
+use Rattle.clr_order_answers.specs.Answers.{AreAllHelped, AreHelpedTo, IsUnhelpedAt}
 use Rattle.clr_order_answers.specs.Pairs.{AreInOrder, ArePairsFor}
 use Rattle.clr_order_knots.specs.OpenNeeds.{AreWithin}
 use Rattle.clr_order_knots.proofs.Lists.{contained_at, once_behind}
@@ -38,7 +42,7 @@ use Rattle.clr_open_needs.proofs.HelperLaws.{helper_below}
 use Rattle.clr_scene_orders.specs.declared.scene_orders.SceneOrder.{SceneOrder}
 use Rattle.clr_scene_orders.specs.declared.scene_orders.SceneOrder.TheVariants as scene_order
 use Rattle.clr_scene_orders.specs.SceneOrders.{AreHelped, EachListBreaks, IsBrokenOnTheWay, IsFinal, IsFinalAt, IsOrderBy, IsSceneOrder}
-use Rattle.clr_scene_orders.specs.SceneOrders.{order_by}
+use Rattle.clr_scene_orders.specs.SceneOrders.{IsUnhelped, order_by}
 use Rattle.clr_scene_orders.proofs.Blocked.{touched_is_blocked}
 use Rattle.clr_scene_orders.proofs.Covering.{contained_of, covering_entries, each_covered, none_covered, pair_by}
 use Rattle.clr_scene_orders.proofs.Sides.{blocks_of, has_same, helps_of, is_broken_with, is_open, need_at, of_blocks, of_helps, opens, sides_at, sides_differ}
@@ -70,6 +74,21 @@ earlier_by_place (z ∷ zs) once (suc early) (suc late) x y e f less =
     by : (b : Bool) → is_earlier (λ m n. m == n) zs x y ≡ true → cond b (settings.has (λ m n. m == n) zs y) (is_earlier (λ m n. m == n) zs x y) ≡ true
     by true more = has_same zs y ∙ has_at zs late y f
     by false more = more
+
+-- in a list that rises, a need that comes before another stands before it
+earlier_place : (ns : List Need) → IsStrictlySortedBy need_cmp ns → (j at : ℕ) (m n : Need) → slice_get ns j ≡ Some m → slice_get ns at ≡ Some n
+    → need_cmp m n ≡ Less → j < at
+unfolding IsStrictlySortedBy
+earlier_place [] rises j at m n e f before = absurd (cc)
+earlier_place (x ∷ xs) rises zero zero m n e f before =
+    let one : m ≡ n = cc in absurd (not_itself need_total n (subst (λ k. need_cmp k n ≡ Less) one before))
+earlier_place (x ∷ xs) rises (suc j) zero m n e f before =
+    let one : x ≡ n = cc in
+    absurd (not_both need_total m n before (subst (λ k. need_cmp k m ≡ Less) one
+    (each_of (λ k. need_cmp x k ≡ Less) m xs rises.0 (among m xs (contained_of xs j m e)))))
+earlier_place (x ∷ xs) rises zero (suc at) m n e f before = omega arith
+earlier_place (x ∷ xs) rises (suc j) (suc at) m n e f before =
+    let rest = earlier_place xs rises.1 j at m n e f before in omega (arith, rest)
 
 module _ (rules : List Rule) (root : Content) (sets : List Changes) where
   abbrev c : Setting ℕ
@@ -138,15 +157,28 @@ module _ (rules : List Rule) (root : Content) (sets : List Changes) where
 
     -- members help each need ---------------------------------------------------------------------------------------
 
-    pub are_helped : AreAllHelped sides → AreHelped c
-    are_helped all n is none =
-        let (at, side, e, has_sides) = side_of n is in
+    -- the need has a helper where its sides have one
+    is_helped : (n : Need) → IsOpenNeed c n → (side : OpenNeed) → HasSides c n side → ¬ (side.helpers.items ≡ []) → ¬ (IsUnhelped c n)
+    is_helped n is side has_sides some none =
         let o = opens c n is in
-        all side at (slice_get_within sides at side e) e (empty side.helpers.items (λ x h. none x (o.first, o.second, o.possible, helps_of c n o side has_sides x h)))
+        some (empty side.helpers.items (λ x h. none x (o.first, o.second, o.possible, helps_of c n o side has_sides x h)))
       where
         empty : (xs : List ℕ) → ((x : ℕ) → has xs x ≡ true → ⊥) → xs ≡ []
         empty [] none = refl
         empty (x ∷ xs) none = absurd (none x (or_left (x == x) (has xs x) (itself x)))
+
+    pub are_helped : AreAllHelped sides → AreHelped c
+    are_helped all n is none =
+        let (at, side, e, has_sides) = side_of n is in
+        is_helped n is side has_sides (all side at (slice_get_within sides at side e) e) none
+
+    -- each open need that comes before one has a helper, where those that stand before it have one
+    lesser_helped : (at : ℕ) (n : Need) → slice_get found.needs.items at ≡ Some n → AreHelpedTo sides at → (m : Need) → need_cmp m n ≡ Less
+        → IsOpenNeed c m → ¬ (IsUnhelped c m)
+    lesser_helped at n e all m before is none =
+        let (j, f) = contained_at found.needs.items m ((are.needs.exactly m).1 is) in
+        let (side, g, has_sides) = sides_at c found.needs.items sides are.sides j m f in
+        is_helped m is side has_sides (all side j (earlier_place found.needs.items are.needs.ascending j at m n f e before) g) none
 
     -- no order works ---------------------------------------------------------------------------------------------------
 
@@ -199,6 +231,7 @@ module _ (rules : List Rule) (root : Content) (sets : List Changes) where
                   (subst (λ l. IsHelper c w.need l o.second x) once.0 (subst (λ m. IsHelper c w.need a m x) once.1 helps)) in
                   false≢true (sym (ap (λ xs. has xs x) (no_helpers side unhelped f)) ∙ h)
                   );
+              least = lesser_helped at w.need w.there unhelped.first;
             }
           where
             no_helpers : (side : OpenNeed) → IsUnhelpedAt sides at → slice_get sides at ≡ Some side → side.helpers.items ≡ []
@@ -223,9 +256,9 @@ module _ (rules : List Rule) (root : Content) (sets : List Changes) where
 
   -- the law ------------------------------------------------------------------------------------------------------------------
 
-  pub final_breaks : (n : Need) (members : List ℕ) → IsFinal c n members → EachListBreaks c
-  final_breaks n members final order lists =
-      let o = opens c n final.is_open in (
+  pub final_breaks : (n : Need) → IsOpenNeed c n → IsUnhelped c n → EachListBreaks c
+  final_breaks n is unhelped order lists =
+      let o = opens c n is in (
         length order,
         n,
         o.first,
@@ -233,7 +266,7 @@ module _ (rules : List Rule) (root : Content) (sets : List Changes) where
         is_open c n o,
         record {
           blockers = λ y h. all y ∙ lists.members y ∙ below_member rules root sets y (blocker_below rules root sets n o.first o.second o.possible y h);
-          helpers = λ x h. absurd (final.unhelped x (o.first, o.second, o.possible, h));
+          helpers = λ x h. absurd (unhelped x (o.first, o.second, o.possible, h));
         },
       )
     where

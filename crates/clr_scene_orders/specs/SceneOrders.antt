@@ -1,9 +1,11 @@
 -- What is said of the orders of a setting's members, by position.
 use Rattle.std.specs.Prelude.{◌≡◌, ℕ, ◌==◌, ◌&&◌, Bool, true, List, ◌∷◌, ◌++◌, Option, Some, length, slice_get, take}
 use Rattle.std.specs.List.{list_any}
+use Rattle.std.specs.declared.cmp.Ordering.TheVariants.{Less}
 use Rattle.clr_needs.specs.declared.needs.Need.{Need}
 use Rattle.clr_needs.specs.Covers.{Entry}
 use Rattle.clr_needs.specs.Needs.{IsPossible}
+use Rattle.clr_needs.specs.Orders.{need_cmp}
 use Rattle.clr_needs.specs.Picks.{Blocks}
 use Rattle.clr_needs.specs.Settings.{Setting, Lived}
 use Rattle.clr_order_search.specs.declared.open_needs.OpenNeed.{OpenNeed}
@@ -38,11 +40,12 @@ pub record IsOrderBy (c : Setting ℕ) (order : List ℕ) (pairs : List Pair) : 
 abbrev pub IsUnhelped : Setting ℕ → Need → Type 0
 IsUnhelped c n = (x : ℕ) → ¬ (IsHelperOf c n x)
 
--- an open need that no member helps, and exactly the members that block it
+-- the least open need that no member helps, and exactly the members that block it
 pub record IsFinal (c : Setting ℕ) (n : Need) (members : List ℕ) : Type 0 where
   pub is_open : IsOpenNeed c n
   pub blockers : Blocks c n members
   pub unhelped : IsUnhelped c n
+  pub least : (m : Need) → need_cmp m n ≡ Less → IsOpenNeed c m → ¬ (IsUnhelped c m)
 
 -- some first members of a list break an open need
 abbrev pub IsBrokenOnTheWay : Setting ℕ → List ℕ → Type 0
@@ -68,7 +71,7 @@ AreStuck c members = (found : OpenNeeds) × AreOpenNeeds c found × IsCause foun
 abbrev pub AreTooMany : Setting ℕ → List ℕ → Type 0
 AreTooMany c members = (found : OpenNeeds) × AreOpenNeeds c found × IsLargeKnotLeft found.sides.items (length c.members) members
 
--- an open need that no member helps; or else an order with its pairs, where no knot is too large; or that there is none, and the members that show it; or a
+-- the least open need that no member helps; or else an order with its pairs, where no knot is too large; or that there is none, and the members that show it; or a
 -- knot that is too large
 abbrev pub IsSceneOrder : Setting ℕ → SceneOrder → Type 0
 IsSceneOrder c (scene_order.Order order pairs) = AreHelped c × AreKnotsFew c × IsOrderBy c order.items pairs.items

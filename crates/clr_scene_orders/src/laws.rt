@@ -2,7 +2,8 @@
 
 ghost use Rattle.clr_scene_orders.specs.Laws.{FinalLaw};
 
-/// Each list of all members breaks a touched need that nothing covers and no member helps.
+/// Where no member helps a touched need that nothing covers, each list of all members breaks such a need
+/// on the way.
 pub fn final_needs_break()
     ensures { FinalLaw }
 {}

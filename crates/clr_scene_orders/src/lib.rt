@@ -1,6 +1,6 @@
 //! Orders in which the members of a scene can be merged one after another.
 //!
-//! - `order_scene` [`IsSceneOrder`] names an open need that no member helps, with its blockers, if
+//! - `order_scene` [`IsSceneOrder`] names the least open need that no member helps, with its blockers, if
 //!   there is one. Else it gives an order of all members with pairs of which the first goes before
 //!   the second: under these pairs every touched need is covered, and without any of them one isn't.
 //!   Or it says that each list of all members breaks an open need on the way, with members that show

@@ -18,7 +18,7 @@ pub enum SceneOrder {
     /// An order of all members, and pairs of which the first goes before the second in it. Under
     /// these pairs every touched need is covered, and without any of them one isn't.
     Order { order: Vec<u16>, pairs: Vec<Pair> },
-    /// A touched need that nothing covers and no member helps, and exactly the members that block it.
+    /// The least touched need that nothing covers and no member helps, and exactly the members that block it.
     Final { need: Need, members: Vec<u16> },
     /// Each list of all members breaks an open need on the way. Either each of these members alone
     /// blocks an open need that only others of them help, or open needs join these and leave them no

@@ -1,8 +1,6 @@
 pub mod Actions
 pub mod Among
 pub mod Answers
-pub mod Keys
-pub mod Laws
 pub mod Making
 pub mod Remedies
 pub mod Trials

@@ -17,6 +17,8 @@ use Rattle.clr_plan.specs.OrderedPlans.{IsExactInOrder, IsPlanInOrder, PromisesI
 use Rattle.clr_plan.specs.Plans.{IsPlan}
 use Rattle.clr_merge_sets.specs.Plans.{is_cleared, is_out_of_memory}
 use Rattle.clr_plan.specs.Promises.{IsExact, Promises}
+use Rattle.clr_tips.specs.declared.splits.Piece.{Piece}
+use Rattle.clr_tips.specs.declared.splits.Split.{Split}
 use Rattle.clr_work_orders.specs.declared.actions.Action.{Action}
 use Rattle.clr_work_orders.specs.declared.actions.Action.TheVariants as action
 use Rattle.clr_work_orders.specs.declared.answers.Answer.{Answer}
@@ -61,34 +63,56 @@ pub record TellsAnswerInOrder (o : Office) (s : MergeSet) (told : Answer) : Type
 abbrev pub saving : Name → Command
 saving ws = command.Mark ws (codes "before_trial")
 
--- a savepoint was set in a workspace, and then an edit was made there; neither was refused
-pub record IsEdited (o : Office) (ws : Name) (edit : Edit) (next : Office) : Type 0 where
+-- a savepoint was set in a workspace, and then edits were made there; neither was refused
+pub record IsEdited (o : Office) (ws : Name) (edits : List Edit) (next : Office) : Type 0 where
   pub saved : Office
   pub mark : step o (saving ws) ≡ answer Done saved
-  pub apply : step saved (command.Apply ws (edit ∷ [])) ≡ answer Done next
+  pub apply : step saved (command.Apply ws edits) ≡ answer Done next
 
 -- a command is refused
 abbrev pub IsRefused : Office → Command → Type 0
 IsRefused o c = (reply : Reply) × (refusal o c ≡ Some reply)
 
--- no savepoint can be set in a workspace, or the edit can't be made behind it
-abbrev pub CannotEdit : Office → Name → Edit → Type 0
-CannotEdit o ws edit =
-    IsRefused o (saving ws) ⊎ ((saved : Office) × (step o (saving ws) ≡ answer Done saved) × IsRefused saved (command.Apply ws (edit ∷ [])))
+-- no savepoint can be set in a workspace, or the edits can't be made behind it
+abbrev pub CannotEdit : Office → Name → List Edit → Type 0
+CannotEdit o ws edits =
+    IsRefused o (saving ws) ⊎ ((saved : Office) × (step o (saving ws) ≡ answer Done saved) × IsRefused saved (command.Apply ws edits))
+
+-- what is told of some members, where another one splits a line too, if there is another
+abbrev pub TellsOther : Office → MergeSet → MergeSet → Option Piece → Answer → Type 0
+TellsOther o s part None told = TellsAnswer o part told
+TellsOther o s part (Some piece) told =
+    (ws : Name) × (slice_get s.members piece.member ≡ Some ws) × (next : Office) × IsEdited o ws piece.edits next × TellsAnswer next part told
+
+-- the other member can't split its line
+abbrev pub CannotOther : Office → MergeSet → Option Piece → Type 0
+CannotOther o s None = ⊥
+CannotOther o s (Some piece) =
+    (slice_get s.members piece.member ≡ None) ⊎ ((ws : Name) × (slice_get s.members piece.member ≡ Some ws) × CannotEdit o ws piece.edits)
+
+-- lines can't be split in a workspace, or then not by the other member
+abbrev pub CannotSplit : Office → MergeSet → Name → Split → Type 0
+CannotSplit o s ws split =
+    CannotEdit o ws split.first.edits ⊎ ((mid : Office) × IsEdited o ws split.first.edits mid × CannotOther mid s split.other)
 
 -- what is told of an action: the plan of the member that goes first and then those of an order, merged in this order; that of the members of the order but the
--- one that is left out; or that of the order in the office in which one made an edit
+-- one that is left out; or that of the order in the office in which one made an edit, or in which one or two split lines
 abbrev pub IsTrialAnswer : Office → MergeSet → List ℕ → Action → Answer → Type 0
 IsTrialAnswer o s order (action.GoFirst at) told = TellsAnswerInOrder o (merge_set_of_part s (at ∷ order)) told
 IsTrialAnswer o s order (action.LeaveOut at) told = TellsAnswer o (merge_set_of_part s (positions_without order at)) told
 IsTrialAnswer o s order (action.Make at edit) told =
-    (ws : Name) × (slice_get s.members at ≡ Some ws) × (next : Office) × IsEdited o ws edit next × TellsAnswer next (merge_set_of_part s order) told
+    (ws : Name) × (slice_get s.members at ≡ Some ws) × (next : Office) × IsEdited o ws (edit ∷ []) next × TellsAnswer next (merge_set_of_part s order) told
+IsTrialAnswer o s order (action.Split split) told =
+    (ws : Name) × (slice_get s.members split.first.member ≡ Some ws) × (mid : Office) × IsEdited o ws split.first.edits mid
+    × TellsOther mid s (merge_set_of_part s order) split.other told
 
--- an action can't be tried: it is on no member, or the edit can't be made
+-- an action can't be tried: it is on no member, or the edits can't be made
 abbrev pub CannotTry : Office → MergeSet → Action → Type 0
 CannotTry o s (action.GoFirst at) = ⊥
 CannotTry o s (action.LeaveOut at) = ⊥
-CannotTry o s (action.Make at edit) = (slice_get s.members at ≡ None) ⊎ ((ws : Name) × (slice_get s.members at ≡ Some ws) × CannotEdit o ws edit)
+CannotTry o s (action.Make at edit) = (slice_get s.members at ≡ None) ⊎ ((ws : Name) × (slice_get s.members at ≡ Some ws) × CannotEdit o ws (edit ∷ []))
+CannotTry o s (action.Split split) =
+    (slice_get s.members split.first.member ≡ None) ⊎ ((ws : Name) × (slice_get s.members split.first.member ≡ Some ws) × CannotSplit o s ws split)
 
 -- a trial of an action: its words are those of the action, and what is told is what the planner answers of it among the members of an order
 pub record IsTrial (o : Office) (s : MergeSet) (order : List ℕ) (trial : Trial) : Type 0 where

@@ -3,13 +3,14 @@
 ghost use Rattle.std.specs.Prelude.{◌≡◌, ◌++◌, IfOk, OnOk, map, string_bytes};
 ghost use Rattle.std.specs.List.{flat_map};
 ghost use Rattle.clr_plan_answers.specs.Answers.{then_text};
-ghost use Rattle.clr_work_orders.specs.Actions.{action_text, brought_text, edit_text};
+ghost use Rattle.clr_work_orders.specs.Actions.{action_text, brought_text, edit_text, other_text, piece_text, split_text};
 
 use clr_change::Edit;
 use clr_member_changes::member_name;
 use clr_phrases::At;
 use clr_plan_sentences::add_label;
 use clr_rows::{Schema, Shape, Words};
+use clr_tips::{Piece, Split, copy_edit};
 use std::alloc::{AllocError, Global};
 
 /// Something that may clear the members of an order. Members are numbered by position.
@@ -21,27 +22,19 @@ pub enum Action {
     LeaveOut(usize),
     /// A member makes an edit; the member is given by its position.
     Make(usize, Edit),
-}
-
-/// Returns a copy of an edit.
-pub(crate) fn copy_edit(edit: &Edit) -> Result<Edit, AllocError>
-    ensures { IfOk result (λ copy. copy ≡ edit.now) }
-{
-    match edit {
-        Edit::Insert(cell, row) => Ok(Edit::Insert(*cell, row.copy()?)),
-        Edit::Update(cell, row) => Ok(Edit::Update(*cell, row.copy()?)),
-        Edit::Delete(cell) => Ok(Edit::Delete(*cell)),
-    }
+    /// Two lines are split at one place, by one member or by two.
+    Split(Split),
 }
 
 /// Returns a copy of an action.
-pub(crate) fn copy_action(action: &Action) -> Result<Action, AllocError>
+pub(crate) fn copy_action(alloc: Global, action: &Action) -> Result<Action, AllocError>
     ensures { IfOk result (λ copy. copy ≡ action.now) }
 {
     match action {
         Action::GoFirst(member) => Ok(Action::GoFirst(*member)),
         Action::LeaveOut(member) => Ok(Action::LeaveOut(*member)),
         Action::Make(member, edit) => Ok(Action::Make(*member, copy_edit(edit)?)),
+        Action::Split(split) => Ok(Action::Split(split.copy(alloc)?)),
     }
 }
 
@@ -87,6 +80,57 @@ fn add_edit(text: &mut String, schema: &Schema, name: &str, edit: &Edit) -> Resu
     }
 }
 
+/// Adds the node that a member brings where lines are split, as `, with node 12 in East`, or nothing where it brings none.
+fn add_piece(
+    text: &mut String,
+    schema: &Schema,
+    names: &[&str],
+    piece: &Piece,
+) -> Result<(), AllocError>
+    ensures { OnOk result (string_bytes text.new ≡ string_bytes text.old ++ piece_text schema.now (map (λ name. name.now) names.now) piece.now) }
+{
+    match piece.node {
+        Some(cell) => {
+            text.push_str(", with ")?;
+            add_label(text, schema, cell)?;
+            text.push_str(" in ")?;
+            text.push_str(member_name(names, piece.member))
+        }
+        None => Ok(()),
+    }
+}
+
+/// Adds the node that another member brings where lines are split, if there is another and it brings one.
+fn add_other(
+    text: &mut String,
+    schema: &Schema,
+    names: &[&str],
+    other: &Option<Piece>,
+) -> Result<(), AllocError>
+    ensures { OnOk result (string_bytes text.new ≡ string_bytes text.old ++ other_text schema.now (map (λ name. name.now) names.now) other.now) }
+{
+    match other {
+        Some(piece) => add_piece(text, schema, names, piece),
+        None => Ok(()),
+    }
+}
+
+/// Adds where two lines are split, and who brings a node there, as `with both split at (5.000, 2.000), with node 12 in East`.
+fn add_split(
+    text: &mut String,
+    schema: &Schema,
+    names: &[&str],
+    split: &Split,
+) -> Result<(), AllocError>
+    ensures { OnOk result (string_bytes text.new ≡ string_bytes text.old ++ split_text schema.now (map (λ name. name.now) names.now) split.now) }
+{
+    let place = At(split.place);
+    text.push_str("with both split at ")?;
+    write!(text, "{place}")?;
+    add_piece(text, schema, names, &split.first)?;
+    add_other(text, schema, names, &split.other)
+}
+
 /// Adds members that are merged behind another, one after another, as `, then Extension, then Bypass`.
 fn add_followers(text: &mut String, names: &[&str], order: &[usize]) -> Result<(), AllocError>
     ensures { OnOk result (string_bytes text.new ≡ string_bytes text.old ++ flat_map (then_text (map (λ name. name.now) names.now)) order.now) }
@@ -122,6 +166,7 @@ fn action_string(
         Action::Make(member, edit) => {
             add_edit(&mut text, schema, member_name(names, *member), edit)?;
         }
+        Action::Split(split) => add_split(&mut text, schema, names, split)?,
     }
     Ok(text)
 }

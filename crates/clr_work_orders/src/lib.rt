@@ -6,7 +6,6 @@
 //!   over the office that it leaves; of each member that helps these, and no other, with what `plan_in_order` answers if it goes first;
 //!   behind each no stands its own cause; its last lines are those of the plan, and so is its answer; and the office is as before.
 //! - `try_remedies` [`tried`, `back`]: the trials alone, of a plan that is given. `among_words`: among whom they are made.
-//! - `tips_differ`, `tips_are_free`: no two workspaces are told one key for the rows that they are to bring, and each such key is free.
 //! - `limits_of_orders`: the limit of what is told and the savepoint's name, as literals.
 #![tactic(auto)]
 
@@ -14,9 +13,9 @@ mod actions;
 mod among;
 mod answers;
 mod bringing;
-mod keys;
 mod laws;
 mod remedies;
+mod split_trials;
 mod trial_lines;
 mod trials;
 mod undoings;
@@ -25,6 +24,6 @@ mod work_orders;
 pub use actions::Action;
 pub use among::among_words;
 pub use answers::Answer;
-pub use laws::{limits_of_orders, tips_are_free, tips_differ};
+pub use laws::limits_of_orders;
 pub use trials::{Trial, try_remedies};
 pub use work_orders::{WorkOrder, work_order};

@@ -3,11 +3,11 @@
 ghost use Rattle.std.specs.Prelude.{◌≡◌, ◌++◌, IfOk, OnOk, map};
 ghost use Rattle.std.specs.Option.{option_copied};
 ghost use Rattle.clr_clash_helpers.specs.Helpers.{AreHelpersIn};
-ghost use Rattle.clr_serving_rows.specs.NeedPlaces.{IsPlaceIn};
+ghost use Rattle.clr_whereabouts.specs.declared.needs.Whereabouts.{Whereabouts};
+ghost use Rattle.clr_whereabouts.specs.Whereabouts.{IsWhereabouts};
 ghost use Rattle.clr_merge_sets.specs.MemberChanges.{AreMembers, set_of};
-ghost use Rattle.clr_work_orders.specs.Remedies.{AreForCause, AreRemedies, IsPlaceOfCause, for_cause, for_need, leaving_out, server_of};
+ghost use Rattle.clr_work_orders.specs.Remedies.{AreForCause, AreRemedies, IsPlaceOfCause, for_cause, for_need, leaving_out, server_of, splitting};
 ghost use Rattle.clr_work_orders.specs.declared.actions.Action.TheVariants as action;
-ghost use Rattle.clr_phrases.specs.declared.meetings.Meeting.{Meeting as Met};
 
 use crate::actions::Action;
 use crate::bringing::add_serving;
@@ -19,8 +19,11 @@ use clr_member_changes::MemberChanges;
 use clr_needs::Need;
 use clr_plan::Plan;
 use clr_plan_sentences::Setting;
+use clr_rows::Place;
 use clr_rules::Side;
-use clr_serving_rows::{need_place, rule_of, server_changes, server_side};
+use clr_serving_rows::{rule_of, server_changes, server_side};
+use clr_tips::{Split, splits_of};
+use clr_whereabouts::need_whereabouts;
 use std::alloc::{AllocError, Global};
 
 /// Returns the side whose rows serve a need, if any can.
@@ -33,6 +36,40 @@ fn side_of<'a>(office: &'a Office, need: &Need) -> Option<&'a Side>
     }
 }
 
+/// Adds that lines are split, in each of these ways.
+fn add_splits(alloc: Global, list: &mut Vec<Action>, splits: &[Split]) -> Result<(), AllocError>
+    ensures { OnOk result (list.new.items ≡ list.old.items ++ map action.Split splits.now) }
+{
+    for split in splits {
+        list.push(Action::Split(split.copy(alloc)?))?;
+    }
+    Ok(())
+}
+
+/// Adds the ways to split the lines of a need at a place near where they cross, if one is told.
+fn add_splitting(
+    setting: Setting<'_>,
+    list: &mut Vec<Action>,
+    need: &Need,
+    near: Option<Place>,
+) -> Result<(), AllocError>
+    ensures { OnOk result (AreMembers setting.entry.office.now (set_of setting.entry.members.now) setting.entry.members.now
+        → list.new.items ≡ list.old.items ++ splitting setting.entry.office.now (set_of setting.entry.members.now)
+        setting.entry.members.now.changes.items need.now near) }
+{
+    let side = side_of(setting.office, need);
+    let splits = splits_of(
+        setting.alloc,
+        setting.office,
+        setting.members,
+        need,
+        side,
+        near,
+    )?;
+    add_splits(setting.alloc, list, splits.as_slice())?;
+    Ok(())
+}
+
 /// Adds what may serve a need that nothing covers, or take it away.
 fn add_for_need(
     setting: Setting<'_>,
@@ -41,12 +78,19 @@ fn add_for_need(
     order: &[usize],
 ) -> Result<(), AllocError>
     ensures { OnOk result (AreMembers setting.entry.office.now (set_of setting.entry.members.now) setting.entry.members.now
-        → (place : Met) × IsPlaceIn setting.entry.office.now (set_of setting.entry.members.now) need.now place
+        → (places : Whereabouts) × IsWhereabouts setting.entry.office.now (set_of setting.entry.members.now) need.now places
         × (list.new.items ≡ list.old.items ++ for_need setting.entry.office.now (set_of setting.entry.members.now)
-        setting.entry.members.now.changes.items order.now place need.now)) }
+        setting.entry.members.now.changes.items order.now places need.now)) }
 {
-    let place = need_place(setting.office, setting.members, need);
-    add_serving(setting, list, side_of(setting.office, need), place, order)?;
+    let places = need_whereabouts(setting.office, setting.members, need);
+    add_serving(
+        setting,
+        list,
+        side_of(setting.office, need),
+        places.meeting,
+        order,
+    )?;
+    add_splitting(setting, list, need, places.near)?;
     let changes = server_changes(setting.alloc, setting.office, setting.members, need)?;
     add_keeping(list, setting.members, changes.as_slice())?;
     add_giving_up(list, setting.members, need.first)?;
@@ -61,9 +105,9 @@ fn add_for_cause(
     cause: &Verdict,
 ) -> Result<(), AllocError>
     ensures { OnOk result (AreMembers setting.entry.office.now (set_of setting.entry.members.now) setting.entry.members.now
-        → (place : Met) × IsPlaceOfCause setting.entry.office.now (set_of setting.entry.members.now) cause.now place
+        → (places : Whereabouts) × IsPlaceOfCause setting.entry.office.now (set_of setting.entry.members.now) cause.now places
         × (list.new.items ≡ list.old.items ++ for_cause setting.entry.office.now (set_of setting.entry.members.now)
-        setting.entry.members.now.changes.items order.now place cause.now)) }
+        setting.entry.members.now.changes.items order.now places cause.now)) }
 {
     match cause {
         Verdict::Conflict { member, cell, .. } => {

@@ -10,16 +10,18 @@ ghost use Rattle.clr_work_orders.specs.Actions.{action_text};
 ghost use Rattle.clr_work_orders.specs.Making.{AddsTrial, IsActionTried, IsBack, IsDone, IsEditJudged, IsEditTried};
 ghost use Rattle.clr_work_orders.specs.Trials.{AreTrials, AreTrialsOf};
 
-use crate::actions::{Action, action_words, copy_action, copy_edit};
+use crate::actions::{Action, action_words, copy_action};
 use crate::among::{order_of, positions_behind, positions_without};
 use crate::answers::{Answer, answer_at, answer_in_order};
 use crate::remedies::plan_remedies;
+use crate::split_trials::try_split;
 use clr_change::{Edit, Edits};
 use clr_engine::Office;
 use clr_member_changes::MemberChanges;
 use clr_plan::Plan;
 use clr_rows::Words;
 use clr_steps::{Command, Reply};
+use clr_tips::{copy_edit, copy_edits};
 use std::alloc::{AllocError, Global};
 
 /// The savepoint to which a trial goes back. Where a workspace has one of this name, no edit is tried in it.
@@ -45,7 +47,11 @@ fn is_done(office: &mut Office, command: &Command) -> Result<bool, AllocError>
 }
 
 /// Sets a savepoint in a workspace, or answers that none can be set.
-fn set_savepoint(alloc: Global, office: &mut Office, ws: &str) -> Result<bool, AllocError>
+pub(crate) fn set_savepoint(
+    alloc: Global,
+    office: &mut Office,
+    ws: &str,
+) -> Result<bool, AllocError>
     ensures { IfOk result (λ done. IsDone office.old (command.Mark ws.now SAVEPOINT.now) done office.new) }
 {
     let command = Command::Mark {
@@ -55,15 +61,18 @@ fn set_savepoint(alloc: Global, office: &mut Office, ws: &str) -> Result<bool, A
     is_done(office, &command)
 }
 
-/// Makes an edit in a workspace, or answers that it can't be made.
-fn make_edit(alloc: Global, office: &mut Office, ws: &str, edit: &Edit) -> Result<bool, AllocError>
-    ensures { IfOk result (λ done. IsDone office.old (command.Apply ws.now (edit.now ∷ [])) done office.new) }
+/// Makes edits in a workspace, or answers that they can't be made.
+pub(crate) fn make_edits(
+    alloc: Global,
+    office: &mut Office,
+    ws: &str,
+    edits: &Edits,
+) -> Result<bool, AllocError>
+    ensures { IfOk result (λ done. IsDone office.old (command.Apply ws.now edits.now) done office.new) }
 {
-    let mut edits = Vec::new(alloc);
-    edits.push(copy_edit(edit)?)?;
     let command = Command::Apply {
         ws: Words::from_str(alloc, ws)?,
-        edits: Edits::new(edits),
+        edits: copy_edits(alloc, edits)?,
     };
     is_done(office, &command)
 }
@@ -92,7 +101,7 @@ fn drop_savepoint(alloc: Global, office: &mut Office, ws: &str) -> Result<bool, 
 
 /// Sets a workspace back to the savepoint, which goes. Fails where one of these isn't done, which is for
 /// want of memory: the savepoint stands, and no child was made after it.
-fn go_back(alloc: Global, office: &mut Office, ws: &str) -> Result<(), AllocError>
+pub(crate) fn go_back(alloc: Global, office: &mut Office, ws: &str) -> Result<(), AllocError>
     ensures { OnOk result (IsBack office.old ws.now SAVEPOINT.now office.new) }
 {
     if !roll_back(alloc, office, ws)? {
@@ -104,28 +113,59 @@ fn go_back(alloc: Global, office: &mut Office, ws: &str) -> Result<(), AllocErro
     Ok(())
 }
 
-/// Makes an edit, and answers what is told then of the members in an order; or none where it can't be made.
-fn judge_edit(
+/// Makes edits, and answers what is told then of the members in an order; or none where they can't be made.
+fn judge_edits(
     alloc: Global,
     office: &mut Office,
     root: &str,
     names: &[&str],
     order: &[usize],
     ws: &str,
-    edit: &Edit,
+    edits: &Edits,
 ) -> Result<Option<Answer>, AllocError>
-    ensures { IfOk result (λ told. IsEditJudged office.old ws.now edit.now
+    ensures { IfOk result (λ told. IsEditJudged office.old ws.now edits.now
         (merge_set_of_part (merge_set root.now (map (λ name. name.now) names.now)) order.now) told office.new) }
 {
-    if !make_edit(alloc, office, ws, edit)? {
+    if !make_edits(alloc, office, ws, edits)? {
         return Ok(None);
     }
     let answer = answer_at(alloc, office, root, names, order)?;
     Ok(Some(answer))
 }
 
-/// Tries an edit of one of the members behind a savepoint: what is told with it of the members in an order, or none
-/// where it can't be made. The office is as before, unless memory runs out.
+/// Tries edits of one of the members behind a savepoint: what is told with them of the members in an order, or none
+/// where they can't be made. The office is as before, unless memory runs out.
+pub(crate) fn try_edits(
+    alloc: Global,
+    office: &mut Office,
+    root: &str,
+    names: &[&str],
+    order: &[usize],
+    ws: &str,
+    edits: &Edits,
+) -> Result<Option<Answer>, AllocError>
+    ensures told { IfOk result (IsEditTried office.old ws.now edits.now (merge_set_of_part (merge_set root.now (map (λ name. name.now) names.now)) order.now)) }
+    ensures back { IfOk result (λ told. office.new ≡ office.old) }
+{
+    let _sound = office.len();
+    if !set_savepoint(alloc, office, ws)? {
+        return Ok(None);
+    }
+    let told = judge_edits(alloc, office, root, names, order, ws, edits)?;
+    go_back(alloc, office, ws)?;
+    Ok(told)
+}
+
+/// Returns a list of one edit alone.
+fn one_edit(alloc: Global, edit: &Edit) -> Result<Edits, AllocError>
+    ensures { IfOk result (λ edits. edits ≡ edit.now ∷ []) }
+{
+    let mut list = Vec::new(alloc);
+    list.push(copy_edit(edit)?)?;
+    Ok(Edits::new(list))
+}
+
+/// Tries an edit of one of the members, as `try_edits` does.
 fn try_edit(
     alloc: Global,
     office: &mut Office,
@@ -135,15 +175,12 @@ fn try_edit(
     ws: &str,
     edit: &Edit,
 ) -> Result<Option<Answer>, AllocError>
-    ensures told { IfOk result (IsEditTried office.old ws.now edit.now (merge_set_of_part (merge_set root.now (map (λ name. name.now) names.now)) order.now)) }
+    ensures told { IfOk result (IsEditTried office.old ws.now (edit.now ∷ [])
+        (merge_set_of_part (merge_set root.now (map (λ name. name.now) names.now)) order.now)) }
     ensures back { IfOk result (λ told. office.new ≡ office.old) }
 {
-    let _sound = office.len();
-    if !set_savepoint(alloc, office, ws)? {
-        return Ok(None);
-    }
-    let told = judge_edit(alloc, office, root, names, order, ws, edit)?;
-    go_back(alloc, office, ws)?;
+    let edits = one_edit(alloc, edit)?;
+    let told = try_edits(alloc, office, root, names, order, ws, &edits)?;
     Ok(told)
 }
 
@@ -175,6 +212,7 @@ fn try_action(
             Some(ws) => try_edit(alloc, office, root, names, order, ws, edit),
             None => Ok(None),
         },
+        Action::Split(split) => try_split(alloc, office, root, names, order, split),
     }
 }
 
@@ -193,7 +231,7 @@ fn trial_of(
 {
     Ok(Trial {
         words: action_words(alloc, office.schema(), names, order, action)?,
-        action: copy_action(action)?,
+        action: copy_action(alloc, action)?,
         answer,
     })
 }
@@ -240,10 +278,10 @@ fn try_all(
 }
 
 /// Tries what may clear members that this plan says are blocked, each remedy by itself, and returns what `plan` answers of each;
-/// nothing is tried of any other plan. A remedy is that a member which helps goes first, that a member is left out, or that a row is brought
-/// or given up. It is tried among the members in the order of the plan alone, and with the one that goes first. One that can't be tried isn't
-/// told, nor is an edit in a workspace that has a savepoint `before_trial` or as many savepoints as there may be. The office is left as it
-/// was, unless memory runs out.
+/// nothing is tried of any other plan. A remedy is that a member which helps goes first, that a member is left out, that a row is brought
+/// or given up, or that lines are split. It is tried among the members in the order of the plan alone, and with the one that goes first.
+/// One that can't be tried isn't told, nor is an edit in a workspace that has a savepoint `before_trial` or as many savepoints as there
+/// may be. The office is left as it was, unless memory runs out.
 pub fn try_remedies(
     alloc: Global,
     office: &mut Office,

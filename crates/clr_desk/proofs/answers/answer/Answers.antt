@@ -20,12 +20,13 @@ returns-in-Ok-put-clause-answers g c =
     let office = c.args.office.now in
     let second = c.args.second.now in
     let layers = c.args.layers.now in
-    let within : IsDeskAnswerWithin ask office second layers (Ok x) = c.in-Ok.ensures in
+    let designs = c.args.designs.now in
+    let within : IsDeskAnswerWithin ask office second layers designs (Ok x) = c.in-Ok.ensures in
     let short : is_too_long office ≡ false = le-ltb _ (length office) c.if-office-gt-MOST_INPUT_BYTES.false in
     let short_too : is_too_long second ≡ false = le-ltb _ (length second) c.if-second-gt-MOST_INPUT_BYTES.false in
     let short_layers : list_any is_too_long_layer layers ≡ false = sym c.is_any_too_long.ensures ∙ c.if-is_any_too_long.false in
     let none : (is_too_long office || is_too_long second || list_any is_too_long_layer layers) ≡ false = λ i. short i || short_too i || short_layers i in
-    let answered = subst (λ b. IsDeskAnswerIf b ask office second layers (Ok x)) (sym none) within in
+    let answered = subst (λ b. IsDeskAnswerIf b ask office second layers designs (Ok x)) (sym none) within in
     (x, answered, sym c.status-status.ensures, record { text = search rules; notes = search rules; text_sink = search rules; notes_sink = search rules })
 
 pub returns-in-Err-clause-answers : goal.returns-in-Err-clause-answers
@@ -34,10 +35,11 @@ returns-in-Err-clause-answers g c =
     let office = c.args.office.now in
     let second = c.args.second.now in
     let layers = c.args.layers.now in
+    let designs = c.args.designs.now in
     let short : is_too_long office ≡ false = le-ltb _ (length office) c.if-office-gt-MOST_INPUT_BYTES.false in
     let short_too : is_too_long second ≡ false = le-ltb _ (length second) c.if-second-gt-MOST_INPUT_BYTES.false in
     let short_layers : list_any is_too_long_layer layers ≡ false = sym c.is_any_too_long.ensures ∙ c.if-is_any_too_long.false in
     let none : (is_too_long office || is_too_long second || list_any is_too_long_layer layers) ≡ false = λ i. short i || short_too i || short_layers i in
-    fault_answered (IsDeskAnswerTo ask office second layers) (IsDeskAnswerWithin ask office second layers)
+    fault_answered (IsDeskAnswerTo ask office second layers designs) (IsDeskAnswerWithin ask office second layers designs)
     (record { text_held = _; text_holds = _; text_failed = _; notes_held = None; notes_hold = None; notes_failed = _ }) c.in-Err.fault
-    (untorn office second layers ask) (λ print is. subst (λ b. IsDeskAnswerIf b ask office second layers print) (sym none) is) c.in-Err.ensures
+    (untorn office second layers designs ask) (λ print is. subst (λ b. IsDeskAnswerIf b ask office second layers designs print) (sym none) is) c.in-Err.ensures

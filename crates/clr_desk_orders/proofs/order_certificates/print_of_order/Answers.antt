@@ -1,6 +1,6 @@
 use Rattle.std.proofs.Common.{◌≡◌, Some, map, rules, sym}
 use Rattle.clr_merge_sets.specs.MergeSetNames.{merge_set}
-use Rattle.clr_desk_orders.specs.MergeOrders.{order_in}
+use Rattle.clr_merge_orders.specs.MergeOrders.{order_in}
 use Rattle.clr_desk_orders.specs.OrderCertificates.{of_none}
 use Rattle.clr_desk_orders.proofs.FoundOrders.{certificate_printed}
 use Rattle.clr_desk_orders.proofs.order_certificates.print_of_order.Goals as goal

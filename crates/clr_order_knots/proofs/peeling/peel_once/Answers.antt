@@ -1,6 +1,6 @@
 use Rattle.std.proofs.Common.{◌≡◌, ◌∙◌, ◌&&◌, ◌++◌, ◌<◌, ◌≤◌, ap, arith, false, get_or, length, not, refl, subst}
 use Rattle.std.specs.List.{filter}
-use Rattle.clr_order_knots.specs.declared.sides.Side.TheVariants as side
+use Rattle.clr_order_knots.specs.declared.sides.NeedSide.TheVariants as side
 use Rattle.clr_order_knots.specs.Members.{AreThose, Tells, is_on, needs_at}
 use Rattle.clr_order_knots.specs.Places.{keeps, passes_at}
 use Rattle.clr_order_knots.proofs.Lists.{has_filtered}

@@ -1,0 +1,4 @@
+pub mod Inquiries
+pub mod Listed
+pub mod Members
+pub mod Reach

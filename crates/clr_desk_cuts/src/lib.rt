@@ -1,0 +1,20 @@
+//! Tables that are held against the cut of an office text.
+//!
+//! - `answer_reach`: reads a table one record at a time, writes the rows that the cut lacks, and says how many rows it
+//!   read and printed. Where the source tells its bytes, the pass was over all rows of the table, and what is written
+//!   is just the layer of the rows that the cut lacks (`IsReachAnswer`).
+#![tactic(auto)]
+
+mod ends;
+mod inquiries;
+mod listed;
+mod members;
+mod opening;
+mod options;
+mod passing;
+mod reach;
+
+pub use clr_reach::Aim;
+pub use ends::ReachEnd;
+pub use options::ReachOptions;
+pub use reach::answer_reach;

@@ -1,0 +1,5 @@
+mod AgainLemmas
+mod HintLemmas
+mod MadeLemmas
+mod MovedLemmas
+mod TurnLemmas

@@ -1,0 +1,89 @@
+//! Designs of layers that are made in an opened office, one after another.
+
+ghost use Rattle.std.specs.Prelude.{IfOk};
+ghost use Rattle.clr_rows.specs.Schemas.{FitsSchema};
+ghost use Rattle.clr_desk_designs.specs.Made.{AreAllMade, IsContentMade, IsDesignMade};
+
+use crate::design_names::{named_print, named_text};
+use crate::layered_designs::LayeredDesign;
+use crate::made_designs::MadeDesigns;
+use clr_designs::{edit_counts_line, make_design};
+use clr_desk_layers::{print_of_fault, print_of_refusal, removal, removal_in};
+use clr_engine::Office;
+use clr_layer_changes::{LayerOptions, edits_between, wanted_content};
+use clr_rows::Sheet;
+use std::alloc::{AllocError, Global};
+
+/// Makes the design that has a content, and returns how much it changes, or why it can't be made.
+fn make_content(
+    alloc: Global,
+    office: &mut Office,
+    may_remove: bool,
+    name: &str,
+    content: &Sheet,
+) -> Result<MadeDesigns, AllocError>
+    requires { FitsSchema office.old.schema content.now }
+    ensures { IfOk result (λ made. IsContentMade may_remove office.old name.now content.now made office.new) }
+{
+    let edits = edits_between(alloc, office.live(), content)?;
+    let edits = edits.as_slice();
+    if let Some(cell) = removal_in(may_remove, edits) {
+        let print = removal(alloc, office.schema(), cell)?;
+        return Ok(MadeDesigns::Refused(print));
+    }
+    let line = edit_counts_line(alloc, edits)?;
+    let note = named_text(alloc, name, line.as_slice())?;
+    if let Some(reply) = make_design(alloc, office, name, content)? {
+        let print = print_of_refusal(alloc, office.schema(), &reply)?;
+        return Ok(MadeDesigns::Refused(print));
+    }
+    Ok(MadeDesigns::Made(note))
+}
+
+/// Makes a design of layers, and returns how much it changes, or why it can't be made.
+fn make_layered(
+    alloc: Global,
+    office: &mut Office,
+    taken: &Sheet,
+    options: LayerOptions,
+    may_remove: bool,
+    design: &LayeredDesign,
+) -> Result<MadeDesigns, AllocError>
+    ensures { IfOk result (λ made. IsDesignMade taken.now options may_remove office.old design.now made office.new) }
+{
+    let name = design.name.as_str();
+    let layers = design.layers.as_slice();
+    let live = office.live();
+    match wanted_content(alloc, office.schema(), live, taken, options, layers)? {
+        Ok(content) => make_content(alloc, office, may_remove, name, &content),
+        Err(faulty) => {
+            let print = print_of_fault(alloc, layers, &faulty)?;
+            Ok(MadeDesigns::Refused(print))
+        }
+    }
+}
+
+/// Makes designs of layers, each over the office that those before it left, and returns how much each changes, or why the first can't be made that can't.
+/// A row without a key gets none at which a content has a row.
+pub(crate) fn make_in_turn(
+    alloc: Global,
+    office: &mut Office,
+    taken: &Sheet,
+    options: LayerOptions,
+    may_remove: bool,
+    designs: &[LayeredDesign],
+) -> Result<MadeDesigns, AllocError>
+    ensures { IfOk result (λ made. AreAllMade taken.now options may_remove office.old designs.now made office.new) }
+{
+    let mut notes = Vec::new(alloc);
+    for design in designs {
+        match make_layered(alloc, office, taken, options, may_remove, design)? {
+            MadeDesigns::Made(note) => notes.extend_from_slice(note.as_slice())?,
+            MadeDesigns::Refused(print) => {
+                let named = named_print(alloc, design.name.as_str(), print)?;
+                return Ok(MadeDesigns::Refused(named));
+            }
+        }
+    }
+    Ok(MadeDesigns::Made(notes))
+}

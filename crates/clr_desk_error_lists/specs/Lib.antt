@@ -1,0 +1,2 @@
+pub mod ErrorFeatures
+pub mod ErrorLines

@@ -1,0 +1,4 @@
+pub mod Certificates
+pub mod Choices
+pub mod InOrder
+pub mod Orders

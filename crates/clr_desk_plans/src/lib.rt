@@ -1,0 +1,19 @@
+//! The answers of the second program that say of designs whether they can be merged: certificates, choices, orders and work orders.
+//!
+//! - `answer_certificate`: the records of a certificate by which the members are safe, and nothing else, or the lines of the plan as notes
+//!   (`IsCertificatePrint`).
+//! - `answer_keep`: the certificate of the members taken, each of which is cleared with those taken before it, and as notes who they are and, of each
+//!   other, the plan that isn't cleared (`IsChoicePrint`).
+//! - `answer_in_order`: what is asked of members in an order (`IsInOrderPrint`), by `clr_desk_orders`.
+//! - `answer_work_order`: a work order that ends with the lines of the plan (`IsOrderPrint`).
+#![tactic(auto)]
+
+mod certificates;
+mod choices;
+mod in_order;
+mod orders;
+
+pub use certificates::answer_certificate;
+pub use choices::answer_keep;
+pub use in_order::answer_in_order;
+pub use orders::answer_work_order;

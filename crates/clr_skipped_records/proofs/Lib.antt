@@ -1,0 +1,3 @@
+mod SoundLemmas
+mod SplitLemmas
+mod WalkLemmas

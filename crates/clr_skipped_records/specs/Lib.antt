@@ -1,0 +1,3 @@
+pub mod SkippedRecords
+pub mod SoundRecords
+pub mod Splits

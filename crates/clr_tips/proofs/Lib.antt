@@ -1,0 +1,2 @@
+pub mod FreeKeys
+pub mod KeyLemmas
