@@ -1,7 +1,9 @@
+mod CutMarkLemmas
 mod LayerReportLemmas
 mod OneAgain
 mod OneAnswer
 mod OneChoice
+mod OneCut
 mod OneDeskAnswer
 mod OnePrint
 mod PlaceLemmas

@@ -15,6 +15,9 @@ use Rattle.clr_desk_designs.specs.declared.layered_designs.LayeredDesign.{Layere
 use Rattle.clr_desk_plans.specs.Certificates.{IsCertificatePrint}
 use Rattle.clr_desk_merges.specs.Checks.{IsCheckPrint}
 use Rattle.clr_desk_plans.specs.Choices.{IsChoicePrint}
+use Rattle.clr_desk_board.specs.Boards.{IsBoardPrint}
+use Rattle.clr_desk.specs.CutMarks.{IsMarkedAlike}
+use Rattle.clr_desk.specs.Databases.{IsDatabaseAnswer}
 use Rattle.clr_desk_clashes.specs.Clashes.{IsClashesPrint}
 use Rattle.clr_desk_formats.specs.Formats.{IsFormatPrint}
 use Rattle.clr_desk.specs.Geographic.{IsGeographicAnswer}
@@ -36,9 +39,10 @@ abbrev pub IsDeskAnswerWithin : DeskAsk → List ℕ → List ℕ → List Given
 IsDeskAnswerWithin (ask.Certificate root names) office second layers designs print =
     IsPrintoutIn (IsHinted (IsCertificatePrint root names) (root ∷ names)) (opened_in office) print
 IsDeskAnswerWithin ask.Check office certificate layers designs print = IsPrintoutOfCase IsCheckPrint (case_of office certificate) print
-IsDeskAnswerWithin (ask.Merge names) office certificate layers designs print = IsPrintoutOfCase (IsHintedMerge names) (case_of office certificate) print
+IsDeskAnswerWithin (ask.Merge names) office certificate layers designs print =
+    IsMarkedAlike (IsPrintoutOfCase (IsHintedMerge names) (case_of office certificate)) office print
 IsDeskAnswerWithin ask.Format office second layers designs print = IsPrintoutIn IsFormatPrint (opened_in office) print
-IsDeskAnswerWithin ask.Accept office second layers designs print = IsPrintoutOfDraft IsAcceptPrint (draft_in office) print
+IsDeskAnswerWithin ask.Accept office second layers designs print = IsMarkedAlike (IsPrintoutOfDraft IsAcceptPrint (draft_in office)) office print
 IsDeskAnswerWithin ask.Mended office second layers designs print = IsPrintoutOfDraft (IsMendedPrint (known_in office)) (draft_in office) print
 IsDeskAnswerWithin ask.Errors office second layers designs print = IsPrintoutOfDraft (IsErrorsPrint (known_in office)) (draft_in office) print
 IsDeskAnswerWithin (ask.Keep root names) office second layers designs print =
@@ -52,11 +56,14 @@ IsDeskAnswerWithin (ask.Map root names) office second layers designs print =
     IsPrintoutIn (IsHinted (IsMapPrint root names) (root ∷ names)) (opened_in office) print
 IsDeskAnswerWithin (ask.Report root names) office second layers designs print =
     IsPrintoutIn (IsHinted (IsReportPrint root names) (root ∷ names)) (opened_in office) print
+IsDeskAnswerWithin (ask.Board root names) office second layers designs print =
+    IsPrintoutIn (IsHinted (IsBoardPrint root names) (root ∷ names)) (opened_in office) print
 IsDeskAnswerWithin (ask.WorkOrder root names) office second layers designs print =
     IsPrintoutIn (IsHinted (IsOrderPrint root names) (root ∷ names)) (opened_in office) print
 IsDeskAnswerWithin (ask.WhyLayers asked) office second layers designs print = IsLayersWhy asked office layers print
 IsDeskAnswerWithin (ask.Geographic asked) office second layers designs print = IsGeographicAnswer asked office second layers designs print
 IsDeskAnswerWithin (ask.Skipping asked file) office second layers designs print = IsGeographicAnswer asked office second layers designs print
+IsDeskAnswerWithin (ask.Database asked) office second layers designs print = IsDatabaseAnswer asked office second print
 
 -- what is answered, where it is given whether a text is too long
 abbrev pub IsDeskAnswerIf : Bool → DeskAsk → List ℕ → List ℕ → List GivenLayer → List LayeredDesign → PrintoutOrFault → Type 0

@@ -1,5 +1,9 @@
 -- What is printed in the texts of geographic information systems, and of such texts.
-use Rattle.std.specs.Prelude.{ℕ, Bool, true, false, List, [], ◌∷◌}
+use Rattle.std.specs.Prelude.{◌≡◌, ℕ, Bool, true, false, List, [], ◌∷◌, ◌&&◌, not, codes}
+use Rattle.clr_workspaces.specs.Marks.{Name}
+use Rattle.clr_cut_texts.specs.Marks.{is_cut_text}
+use Rattle.clr_desk.specs.CutMarks.{IsMarkedAlike, IsNotedCut}
+use Rattle.clr_desk_edits.specs.Cuts.{IsCutAnswer}
 use Rattle.clr_office_reading.specs.Offices.{known_in}
 use Rattle.clr_office_texts.specs.Drafts.{draft_in, opened_in}
 use Rattle.clr_desk_command_line.specs.declared.asks.GeographicAsk.{GeographicAsk}
@@ -16,7 +20,7 @@ use Rattle.clr_desk_designs.specs.declared.layered_designs.LayeredDesign.{Layere
 use Rattle.clr_desk_command_line.specs.declared.asks.DesignAsk.{DesignAsk}
 use Rattle.clr_desk_command_line.specs.declared.asks.DesignsAsk.{DesignsAsk}
 use Rattle.clr_desk_pages.specs.Features.{IsFeaturesAnswer}
-use Rattle.clr_desk_layers.specs.Layers.{IsLayerPrint}
+use Rattle.clr_desk_layers.specs.Layers.{IsLayerPrint, unfit_print}
 use Rattle.clr_desk_prints.specs.NameHints.{IsHinted}
 use Rattle.clr_desk_prints.specs.Printing.{IsPrintoutIn, PrintoutOrFault}
 
@@ -32,29 +36,61 @@ design_options design = options_of design.first_key design.is_rounded
 abbrev pub folder_options : DesignsAsk → LayerOptions
 folder_options designs = options_of designs.first_key designs.is_rounded
 
+-- cuts ---------------------------------------------------------------------------------------------
+
+-- a design over a cut, or of layers that were copied from one, removes no row: a row that isn't in its layers is in the network
+abbrev pub may_remove_over : (may_remove : Bool) → (text : List ℕ) → Bool
+may_remove_over may_remove text = may_remove && not (is_cut_text text)
+
+-- rows of layers in place of those of their tables would take out of a cut what the layers lack
+abbrev pub cut_word : List ℕ
+cut_word = codes "13 Cut"
+
+abbrev pub first_table : List GivenLayer → Name
+first_table [] = []
+first_table (layer ∷ layers) = layer.table
+
+abbrev pub IsPrintIf : Bool → Type 0 → Type 0 → Type 0
+IsPrintIf true one other = one
+IsPrintIf false one other = other
+
+abbrev pub IsUnlessCut : (PrintoutOrFault → Type 0) → (text : List ℕ) → List GivenLayer → PrintoutOrFault → Type 0
+IsUnlessCut IsPrint text layers print = IsPrintIf (is_cut_text text) (print ≡ unfit_print cut_word (first_table layers)) (IsPrint print)
+
 -- what is to be printed for what is asked of an office text, a second one, which is that of the office from which layers were copied, layers, and designs
 abbrev pub IsGeographicAnswer : GeographicAsk → List ℕ → List ℕ → List GivenLayer → List LayeredDesign → PrintoutOrFault → Type 0
 IsGeographicAnswer (ask.Features root names system) office second layers designs print = IsFeaturesAnswer root names system (opened_in office) print
 IsGeographicAnswer (ask.Layer table workspace) office second layers designs print =
-    IsPrintoutIn (IsHinted (IsLayerPrint table workspace) (workspace ∷ [])) (opened_in office) print
+    IsNotedCut (IsPrintoutIn (IsHinted (IsLayerPrint table workspace) (workspace ∷ [])) (opened_in office)) office print
 IsGeographicAnswer (ask.Office tables rounded) office second layers designs print =
-    IsPrintoutIn (IsOfficePrint (options_of 1 rounded) layers) (opened_in office) print
+    IsUnlessCut (IsPrintoutIn (IsOfficePrint (options_of 1 rounded) layers) (opened_in office)) office layers print
 IsGeographicAnswer (ask.AcceptedOffice tables rounded) office second layers designs print =
-    IsPrintoutOfDraft (IsAcceptedOfficePrint (options_of 1 rounded) layers) (draft_in office) print
+    IsUnlessCut (IsPrintoutOfDraft (IsAcceptedOfficePrint (options_of 1 rounded) layers) (draft_in office)) office layers print
+IsGeographicAnswer (ask.Cut tables rounded) office second layers designs print = IsCutAnswer rounded layers office print
 IsGeographicAnswer (ask.ErrorFeatures system) office second layers designs print = IsErrorFeaturesAnswer (known_in office) system (draft_in office) print
 IsGeographicAnswer (ask.Design design) office second layers designs print =
-    IsPrintoutIn (IsDesignPrint design.name (design_options design) design.may_remove layers) (opened_in office) print
+    let may_remove = may_remove_over design.may_remove office in
+    IsMarkedAlike (IsPrintoutIn (IsDesignPrint design.name (design_options design) may_remove layers) (opened_in office)) office print
 IsGeographicAnswer (ask.DesignSince design) office copied layers designs print =
-    IsPrintoutIn (IsDesignSincePrint copied design.name (design_options design) design.may_remove layers) (opened_in office) print
+    let may_remove = may_remove_over (may_remove_over design.may_remove office) copied in
+    IsMarkedAlike (IsPrintoutIn (IsDesignSincePrint copied design.name (design_options design) may_remove layers) (opened_in office)) office print
 IsGeographicAnswer (ask.DesignScript design) office second layers designs print =
-    IsPrintoutIn (IsDesignScriptPrint design.name (design_options design) design.may_remove layers) (opened_in office) print
+    let may_remove = may_remove_over design.may_remove office in
+    IsPrintoutIn (IsDesignScriptPrint design.name (design_options design) may_remove layers) (opened_in office) print
 IsGeographicAnswer (ask.DesignAgain design) office second layers designs print =
-    IsPrintoutIn (IsHinted (IsAgainPrint false design.name (design_options design) design.may_remove layers) (design.name ∷ [])) (opened_in office) print
+    let may_remove = may_remove_over design.may_remove office in
+    IsMarkedAlike (IsPrintoutIn (IsHinted (IsAgainPrint false design.name (design_options design) may_remove layers) (design.name ∷ []))
+    (opened_in office)) office print
 IsGeographicAnswer (ask.DesignAnew design) office copied layers designs print =
-    IsPrintoutIn (IsHinted (IsDesignAnewPrint copied design.name (design_options design) design.may_remove layers) (design.name ∷ [])) (opened_in office) print
+    let may_remove = may_remove_over (may_remove_over design.may_remove office) copied in
+    IsMarkedAlike (IsPrintoutIn (IsHinted (IsDesignAnewPrint copied design.name (design_options design) may_remove layers) (design.name ∷ []))
+    (opened_in office)) office print
 IsGeographicAnswer (ask.DesignAgainScript design) office second layers designs print =
-    IsPrintoutIn (IsHinted (IsAgainPrint true design.name (design_options design) design.may_remove layers) (design.name ∷ [])) (opened_in office) print
+    let may_remove = may_remove_over design.may_remove office in
+    IsPrintoutIn (IsHinted (IsAgainPrint true design.name (design_options design) may_remove layers) (design.name ∷ [])) (opened_in office) print
 IsGeographicAnswer (ask.Designs asked) office second layers designs print =
-    IsPrintoutIn (IsDesignsPrint (folder_options asked) asked.may_remove designs) (opened_in office) print
+    let may_remove = may_remove_over asked.may_remove office in
+    IsMarkedAlike (IsPrintoutIn (IsDesignsPrint (folder_options asked) may_remove designs) (opened_in office)) office print
 IsGeographicAnswer (ask.DesignsSince asked) office copied layers designs print =
-    IsPrintoutIn (IsDesignsSincePrint copied (folder_options asked) asked.may_remove designs) (opened_in office) print
+    let may_remove = may_remove_over (may_remove_over asked.may_remove office) copied in
+    IsMarkedAlike (IsPrintoutIn (IsDesignsSincePrint copied (folder_options asked) may_remove designs) (opened_in office)) office print

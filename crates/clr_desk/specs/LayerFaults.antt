@@ -18,6 +18,7 @@ use Rattle.clr_desk.specs.GivenLayers.{office_count}
 abbrev pub are_rounded : GeographicAsk → Bool
 are_rounded (geographic.Office tables rounded) = rounded
 are_rounded (geographic.AcceptedOffice tables rounded) = rounded
+are_rounded (geographic.Cut tables rounded) = rounded
 are_rounded (geographic.Design design) = design.is_rounded
 are_rounded (geographic.DesignSince design) = design.is_rounded
 are_rounded (geographic.DesignScript design) = design.is_rounded

@@ -1,4 +1,6 @@
 pub mod Answers
+pub mod CutMarks
+pub mod Databases
 pub mod FaultPlaces
 pub mod Geographic
 pub mod GivenLayers

@@ -10,11 +10,12 @@ use Rattle.clr_desk_prints.specs.Printing.{PrintoutOrFault}
 use Rattle.clr_desk.specs.Answers.{IsDeskAnswerTo}
 
 -- what is asked has an answer that its definition tells whole; of clashes, orders, errors, faults, sentences, pictures, pages, features and layers it
--- leaves something open, and of the designs of a folder nothing is said here
+-- leaves something open, and of cuts, of the designs of a folder and of databases nothing is said here
 abbrev pub is_whole_layer : GeographicAsk → Bool
 is_whole_layer (geographic.Features root names system) = false
 is_whole_layer (geographic.Layer table workspace) = false
 is_whole_layer (geographic.ErrorFeatures system) = false
+is_whole_layer (geographic.Cut tables rounded) = false
 is_whole_layer (geographic.Designs asked) = false
 is_whole_layer (geographic.DesignsSince asked) = false
 is_whole_layer _ = true
@@ -28,8 +29,10 @@ is_whole ask.Errors = false
 is_whole (ask.WorkOrder root names) = false
 is_whole (ask.Map root names) = false
 is_whole (ask.Report root names) = false
+is_whole (ask.Board root names) = false
 is_whole (ask.Geographic asked) = is_whole_layer asked
 is_whole (ask.Skipping asked file) = is_whole_layer asked
+is_whole (ask.Database asked) = false
 is_whole _ = true
 
 -- no plan, verdict or merge found no memory: the status isn't the one that says so

@@ -7,9 +7,12 @@ ghost use Rattle.clr_process_io.specs.declared.faults.RunFault.TheVariants as ru
 ghost use Rattle.clr_desk.specs.Answers.{IsDeskAnswer, IsDeskAnswerTo, IsDeskAnswerWithin, is_too_long_layer};
 ghost use Rattle.clr_desk_prints.specs.Printing.{IsMadePrintout};
 
+use crate::cut_marks::marked;
+use crate::databases::answer_database;
 use crate::geographic::answer_geographic;
 use crate::layer_whys::answer_layers_why;
 use crate::whys::answer_why;
+use clr_desk_board::answer_board;
 use clr_desk_clashes::answer_clashes;
 use clr_desk_command_line::DeskAsk;
 use clr_desk_designs::LayeredDesign;
@@ -40,9 +43,12 @@ fn answer_texts(
             answer_certificate(alloc, office, root.as_str(), names.as_slice())
         }
         DeskAsk::Check => answer_check(alloc, office, second),
-        DeskAsk::Merge(names) => answer_merge(alloc, office, second, names.as_slice()),
+        DeskAsk::Merge(names) => {
+            let answer = answer_merge(alloc, office, second, names.as_slice());
+            marked(alloc, office, answer)
+        }
         DeskAsk::Format => answer_format(alloc, office),
-        DeskAsk::Accept => answer_accept(alloc, office),
+        DeskAsk::Accept => marked(alloc, office, answer_accept(alloc, office)),
         DeskAsk::Mended => answer_mended(alloc, office),
         DeskAsk::Errors => answer_errors(alloc, office),
         DeskAsk::Keep(root, names) => answer_keep(alloc, office, root.as_str(), names.as_slice()),
@@ -63,6 +69,7 @@ fn answer_texts(
         DeskAsk::WhyLayers(asked) => answer_layers_why(alloc, asked, office, layers),
         DeskAsk::Geographic(ask) => answer_geographic(alloc, ask, office, second, layers, designs),
         DeskAsk::Skipping(ask, _) => answer_geographic(alloc, ask, office, second, layers, designs),
+        DeskAsk::Database(ask) => answer_database(alloc, ask, office, second),
         DeskAsk::Map(root, names) => answer_map(alloc, office, root.as_str(), names.as_slice()),
         DeskAsk::Report(root, names) => answer_report(
             alloc,
@@ -70,6 +77,7 @@ fn answer_texts(
             root.as_str(),
             names.as_slice(),
         ),
+        DeskAsk::Board(root, names) => answer_board(alloc, office, root.as_str(), names.as_slice()),
         DeskAsk::WorkOrder(root, names) => {
             answer_work_order(alloc, office, root.as_str(), names.as_slice())
         }

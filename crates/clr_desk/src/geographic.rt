@@ -1,22 +1,32 @@
 //! What is printed in the texts of geographic information systems, and of such texts.
 
-ghost use Rattle.std.specs.Prelude.{◌≡◌};
-ghost use Rattle.clr_desk.specs.Geographic.{IsGeographicAnswer, design_options, folder_options, options_of};
-ghost use Rattle.clr_desk_prints.specs.Printing.{IsMadePrintout};
+ghost use Rattle.std.specs.Prelude.{◌≡◌, ◌∷◌, [], IfOk};
+ghost use Rattle.clr_office_texts.specs.Drafts.{draft_in, opened_in};
+ghost use Rattle.clr_desk.specs.CutMarks.{IsNotedCut};
+ghost use Rattle.clr_desk.specs.Geographic.{IsGeographicAnswer, IsUnlessCut, cut_word, first_table, options_of};
+ghost use Rattle.clr_desk_errors.specs.Accepting.{IsPrintoutOfDraft};
+ghost use Rattle.clr_desk_layers.specs.Designs.{IsAcceptedOfficePrint, IsOfficePrint};
+ghost use Rattle.clr_desk_layers.specs.Layers.{IsLayerPrint, unfit_print};
+ghost use Rattle.clr_desk_prints.specs.NameHints.{IsHinted};
+ghost use Rattle.clr_desk_prints.specs.Printing.{IsMadePrintout, IsPrintoutIn, printed};
 
-use clr_desk_command_line::{DesignAsk, DesignsAsk, GeographicAsk};
-use clr_desk_designs::{
-    LayeredDesign, answer_design_again, answer_design_anew, answer_designs, answer_designs_since,
+use crate::cut_marks::noted;
+use crate::designs_over::{
+    again_script, design_again, design_anew, design_of, design_script, design_since, designs_of,
+    designs_since,
 };
+use clr_cut_texts::is_cut;
+use clr_desk_command_line::GeographicAsk;
+use clr_desk_designs::LayeredDesign;
+use clr_desk_edits::answer_cut;
 use clr_desk_error_lists::answer_error_features;
 use clr_desk_layers::{
-    GivenLayer, LayerOptions, answer_accepted_office, answer_design, answer_design_script,
-    answer_design_since, answer_layer, answer_office,
+    GivenLayer, LayerOptions, answer_accepted_office, answer_layer, answer_office, unfit_print,
 };
 use clr_desk_pages::answer_geojson;
 use clr_desk_prints::Print;
 use clr_office::RunFault;
-use std::alloc::Global;
+use std::alloc::{AllocError, Global};
 
 /// Returns that layers of an office are read so: their rows get keys from 1 on, and coordinates are rounded or not.
 fn office_options(rounded: bool) -> LayerOptions
@@ -28,24 +38,64 @@ fn office_options(rounded: bool) -> LayerOptions
     }
 }
 
-/// Returns how the layers of a design are read.
-fn design_options(design: &DesignAsk) -> LayerOptions
-    ensures { result ≡ design_options design.now }
+/// Returns the layer of a table, and as a last note that it is one of a cut, where the text is marked so.
+#[tactic(auto, using(crate::proofs::CutMarkLemmas::noted_made))]
+fn layer_of_text(
+    alloc: Global,
+    office: &[u8],
+    table: &str,
+    workspace: &str,
+) -> Result<Print, RunFault>
+    ensures { IsMadePrintout (IsNotedCut (IsPrintoutIn (IsHinted (IsLayerPrint table.now workspace.now) (workspace.now ∷ [])) (opened_in office.now))
+        office.now) result }
 {
-    LayerOptions {
-        first_key: design.first_key,
-        rounded: design.is_rounded,
-    }
+    let answer = answer_layer(alloc, office, table, workspace);
+    noted(alloc, office, answer)
 }
 
-/// Returns how the layers of the designs of a folder are read.
-fn folder_options(designs: &DesignsAsk) -> LayerOptions
-    ensures { result ≡ folder_options designs.now }
+/// Returns what is printed where the rows of layers can't take the place of those of a cut.
+fn print_of_cut(alloc: Global, layers: &[GivenLayer]) -> Result<Print, AllocError>
+    ensures { IfOk result (λ p. printed p ≡ unfit_print cut_word (first_table layers.now)) }
 {
-    LayerOptions {
-        first_key: designs.first_key,
-        rounded: designs.is_rounded,
+    let name = match layers {
+        [first, ..] => first.table.as_str(),
+        [] => "",
+    };
+    unfit_print(alloc, b"13 Cut", name.as_bytes())
+}
+
+/// Returns the office of layers, unless they would take rows out of a cut.
+#[tactic(auto, using(crate::proofs::CutMarkLemmas::made_over_cut, crate::proofs::CutMarkLemmas::made_over_whole))]
+fn office_of_text(
+    alloc: Global,
+    office: &[u8],
+    rounded: bool,
+    layers: &[GivenLayer],
+) -> Result<Print, RunFault>
+    ensures { IsMadePrintout (IsUnlessCut (IsPrintoutIn (IsOfficePrint (options_of 1 rounded) layers.now) (opened_in office.now)) office.now layers.now)
+        result }
+{
+    if is_cut(alloc, office)? {
+        return Ok(print_of_cut(alloc, layers)?);
     }
+    answer_office(alloc, office, office_options(rounded), layers)
+}
+
+/// Returns the same with its errors accepted.
+#[tactic(auto, using(crate::proofs::CutMarkLemmas::made_over_cut, crate::proofs::CutMarkLemmas::made_over_whole))]
+fn accepted_office_of_text(
+    alloc: Global,
+    office: &[u8],
+    rounded: bool,
+    layers: &[GivenLayer],
+) -> Result<Print, RunFault>
+    ensures { IsMadePrintout (IsUnlessCut (IsPrintoutOfDraft (IsAcceptedOfficePrint (options_of 1 rounded) layers.now) (draft_in office.now)) office.now
+        layers.now) result }
+{
+    if is_cut(alloc, office)? {
+        return Ok(print_of_cut(alloc, layers)?);
+    }
+    answer_accepted_office(alloc, office, office_options(rounded), layers)
 }
 
 /// Returns what is printed for what is asked of an office text, of a second one, of layers and of designs in the texts of geographic information
@@ -69,66 +119,23 @@ pub(crate) fn answer_geographic(
             system.as_ref(),
         ),
         GeographicAsk::Layer(table, workspace) => {
-            answer_layer(alloc, office, table.as_str(), workspace.as_str())
+            layer_of_text(alloc, office, table.as_str(), workspace.as_str())
         }
-        GeographicAsk::Office(_, rounded) => {
-            answer_office(alloc, office, office_options(*rounded), layers)
-        }
+        GeographicAsk::Office(_, rounded) => office_of_text(alloc, office, *rounded, layers),
         GeographicAsk::AcceptedOffice(_, rounded) => {
-            answer_accepted_office(alloc, office, office_options(*rounded), layers)
+            accepted_office_of_text(alloc, office, *rounded, layers)
         }
+        GeographicAsk::Cut(_, rounded) => answer_cut(alloc, office, *rounded, layers),
         GeographicAsk::ErrorFeatures(system) => {
             answer_error_features(alloc, office, system.as_ref())
         }
-        GeographicAsk::Design(design) => {
-            let (name, options) = (design.name.as_str(), design_options(design));
-            answer_design(alloc, office, name, options, design.may_remove, layers)
-        }
-        GeographicAsk::DesignSince(design) => {
-            let (name, options) = (design.name.as_str(), design_options(design));
-            let may_remove = design.may_remove;
-            answer_design_since(alloc, office, second, name, options, may_remove, layers)
-        }
-        GeographicAsk::DesignScript(design) => {
-            let (name, options) = (design.name.as_str(), design_options(design));
-            answer_design_script(alloc, office, name, options, design.may_remove, layers)
-        }
-        GeographicAsk::DesignAgain(design) => {
-            let (name, options) = (design.name.as_str(), design_options(design));
-            answer_design_again(
-                alloc,
-                office,
-                name,
-                false,
-                options,
-                design.may_remove,
-                layers,
-            )
-        }
-        GeographicAsk::DesignAnew(design) => {
-            let (name, options) = (design.name.as_str(), design_options(design));
-            let may_remove = design.may_remove;
-            answer_design_anew(alloc, office, second, name, options, may_remove, layers)
-        }
-        GeographicAsk::DesignAgainScript(design) => {
-            let (name, options) = (design.name.as_str(), design_options(design));
-            answer_design_again(
-                alloc,
-                office,
-                name,
-                true,
-                options,
-                design.may_remove,
-                layers,
-            )
-        }
-        GeographicAsk::Designs(asked) => {
-            let options = folder_options(asked);
-            answer_designs(alloc, office, options, asked.may_remove, designs)
-        }
-        GeographicAsk::DesignsSince(asked) => {
-            let options = folder_options(asked);
-            answer_designs_since(alloc, office, second, options, asked.may_remove, designs)
-        }
+        GeographicAsk::Design(design) => design_of(alloc, office, design, layers),
+        GeographicAsk::DesignSince(design) => design_since(alloc, office, second, design, layers),
+        GeographicAsk::DesignScript(design) => design_script(alloc, office, design, layers),
+        GeographicAsk::DesignAgain(design) => design_again(alloc, office, design, layers),
+        GeographicAsk::DesignAnew(design) => design_anew(alloc, office, second, design, layers),
+        GeographicAsk::DesignAgainScript(design) => again_script(alloc, office, design, layers),
+        GeographicAsk::Designs(asked) => designs_of(alloc, office, asked, designs),
+        GeographicAsk::DesignsSince(asked) => designs_since(alloc, office, second, asked, designs),
     }
 }

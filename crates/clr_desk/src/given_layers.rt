@@ -13,9 +13,9 @@ fn layered_tables(ask: &GeographicAsk) -> &[Words]
     ensures { result.now ≡ layered_tables ask.now }
 {
     match ask {
-        GeographicAsk::Office(tables, _) | GeographicAsk::AcceptedOffice(tables, _) => {
-            tables.as_slice()
-        }
+        GeographicAsk::Office(tables, _)
+        | GeographicAsk::AcceptedOffice(tables, _)
+        | GeographicAsk::Cut(tables, _) => tables.as_slice(),
         GeographicAsk::Design(design)
         | GeographicAsk::DesignSince(design)
         | GeographicAsk::DesignScript(design)

@@ -19,7 +19,9 @@ fn are_rounded(ask: &GeographicAsk) -> bool
     ensures { result ≡ are_rounded ask.now }
 {
     match ask {
-        GeographicAsk::Office(_, rounded) | GeographicAsk::AcceptedOffice(_, rounded) => *rounded,
+        GeographicAsk::Office(_, rounded)
+        | GeographicAsk::AcceptedOffice(_, rounded)
+        | GeographicAsk::Cut(_, rounded) => *rounded,
         GeographicAsk::Design(design)
         | GeographicAsk::DesignSince(design)
         | GeographicAsk::DesignScript(design)

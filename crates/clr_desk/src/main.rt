@@ -24,11 +24,13 @@
 //!   (`IsOrderPrint`); of `map` a page of vector graphics whose title begins with the word for what the plan says, which it shows, and whose
 //!   description ends with the lines of the plan, with the plan's status (`IsMapPrint`); of `report` a page of hypertext that
 //!   begins with that word and that picture, and ends with the command of `clr_office` and the lines of the plan (`IsReportPrint`); of
+//!   `board` a page of hypertext that says of each member how it stands, each clash with who helps it, and who goes before whom (`IsBoardPrint`); of
 //!   `geojson` the features of a plan, with the plan's status, and of `layer` the layer of a table; of `office` the text of the office whose LIVE
 //!   has the rows of layers, of `design` that of the office with one more design that has them, or with one that is brought again, or the script
-//!   that does so, and of `designs` that of the office with several, or why there is none (`IsGeographicAnswer`); of `accept` the text of the same
-//!   office with just its broken needs as known, of `mended` the known needs that aren't broken any more, and of `errors` the broken needs of LIVE,
-//!   whether known or not, with status 0 only where all are known.
+//!   that does so, of `designs` that of the office with several, or why there is none, and of `cut` that of a cut with the rows of layers
+//!   (`IsGeographicAnswer`); of `accept` the text of the same office with just its broken needs as known, of `mended` the known needs that aren't
+//!   broken any more, and of `errors` the broken needs of LIVE, whether known or not, with status 0 only where all are known; of `edits` the edits that
+//!   take LIVE of one office to LIVE of another, as CSV or as a transaction in SQL, and of `propose` SQL that proposes a cut (`IsDatabaseAnswer`).
 //! - `fault_place` [`place`]: the file, the line and the column of the fault of the office text or the certificate, and nothing of any other.
 //! - `take_layers` [`layers`, `offices`]: each table that is asked for with the text in its place.
 //! - `faults_of_layers` [`faults`]: all that is wrong with layers, each fault with its file, line and column (`AreLayerFaults`). `degrees_of_layers`
@@ -45,6 +47,9 @@
 #![tactic(auto)]
 
 mod answers;
+mod cut_marks;
+mod databases;
+mod designs_over;
 mod fault_places;
 mod geographic;
 mod given_layers;

@@ -8,7 +8,8 @@ use Rattle.clap.specs.Faults.{fault_of, is_simple_and_free}
 use Rattle.clap.proofs.OnLiterals.{clap_on_literals}
 use Rattle.clr_command_line.proofs.Entering.{AllAsk, IsAsking, asked_of, asks_something, known_by_names, labels, simple_if_free}
 use Rattle.clr_desk_command_line.specs.declared.asks.Asked.{Asked}
-use Rattle.clr_desk_command_line.specs.Asks.{ask_by_name, asked_by_name, asked_of_office, geographic_asked, imports_asked, is_readable, members_ask, pictures_ask, reads_layers}
+use Rattle.clr_desk_command_line.specs.Asks.{ask_of_texts, asked_by_name, asked_of_office, geographic_asked, imports_asked, is_readable, members_ask, pictures_ask, reads_values}
+use Rattle.clr_desk_command_line.specs.Databases.{database_asked}
 use Rattle.clr_desk_command_line.specs.Program.{certificates, choices, cuts, exports, groups, imports, old_errors, pictures, program, tellings}
 
 -- the groups of subcommands, written out
@@ -16,9 +17,9 @@ unfoldable all_groups : ⊤
 unfolding certificates choices tellings pictures exports imports old_errors cuts
 all_groups = tt
 
--- something is asked, or layers are read
+-- something is asked, or more values are read
 abbrev known : Text → List Row → Option (Unit {0})
-known name rows = if reads_layers name then Some (tt {0}) else option_map (λ asked. tt {0}) (asked_by_name name rows)
+known name rows = if reads_values name then Some (tt {0}) else option_map (λ asked. tt {0}) (asked_by_name name rows)
 
 abbrev subcommands : List Shape
 subcommands = fold (λ (all : List Shape) (group : List Shape). all ++ group) [] groups
@@ -28,7 +29,7 @@ names = map (λ (s : Shape). s.name) subcommands
 
 -- whatever is found, something is asked by each name
 all_known : (rows : List Row) → list_all (λ name. is_some (known name rows)) names ≡ true
-unfolding all_groups ask_by_name asked_by_name asked_of_office geographic_asked imports_asked members_ask pictures_ask
+unfolding all_groups ask_of_texts asked_by_name asked_of_office database_asked geographic_asked imports_asked members_ask pictures_ask
 all_known rows = refl
 
 both : (a b : Bool) → (a && b) ≡ true → (a ≡ true) × (b ≡ true)
@@ -71,7 +72,7 @@ pub something_is_asked : (words : List Text) (name : Text) (rows : List Row) →
     → is_readable (Some (name, rows)) ≡ true → is_some (asked_by_name name rows) ≡ true
 something_is_asked words name rows e found readable =
     let some = ap (λ o. is_some (asked_of known o)) (sym found) ∙ asks_something known program program_asks words e in
-    either (reads_layers name) (asked_by_name name rows) some readable
+    either (reads_values name) (asked_by_name name rows) some readable
 
 found_if : (found : Option (Text × List Row)) → is_some (asked_of known found) ≡ true → is_some found ≡ true
 found_if None e = absurd cc

@@ -1,3 +1,4 @@
 mod GivenLemmas
 mod Known
 mod LayerLemmas
+mod OriginLemmas

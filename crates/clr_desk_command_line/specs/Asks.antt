@@ -13,16 +13,18 @@ use Rattle.clr_desk_command_line.specs.declared.asks.Asked.{Asked}
 use Rattle.clr_desk_command_line.specs.declared.asks.Asked.TheVariants.{OfTexts, Reach}
 use Rattle.clr_desk_command_line.specs.declared.asks.DeskAsk.{DeskAsk}
 use Rattle.clr_desk_command_line.specs.declared.asks.DeskAsk.TheVariants.{Certificate, Check, Merge, Format, Accept, Mended, Errors, Keep, Clashes, Why}
-use Rattle.clr_desk_command_line.specs.declared.asks.DeskAsk.TheVariants.{Geographic, InOrder, Map, Report, Skipping, WhyLayers, WorkOrder}
+use Rattle.clr_desk_command_line.specs.declared.asks.DeskAsk.TheVariants.{Board, Database, Geographic, InOrder, Map, Report, Skipping, WhyLayers, WorkOrder}
+use Rattle.clr_desk_command_line.specs.declared.asks.DatabaseAsk.{DatabaseAsk}
 use Rattle.clr_desk_command_line.specs.declared.asks.DesignAsk.{DesignAsk}
 use Rattle.clr_desk_command_line.specs.declared.asks.DesignsAsk.{DesignsAsk}
 use Rattle.clr_desk_command_line.specs.declared.asks.GeographicAsk.{GeographicAsk}
 use Rattle.clr_desk_command_line.specs.declared.asks.GeographicAsk.TheVariants.{Features, Layer, Office, AcceptedOffice, ErrorFeatures}
-use Rattle.clr_desk_command_line.specs.declared.asks.GeographicAsk.TheVariants.{Design, DesignSince, DesignScript}
+use Rattle.clr_desk_command_line.specs.declared.asks.GeographicAsk.TheVariants.{Cut, Design, DesignSince, DesignScript}
 use Rattle.clr_desk_command_line.specs.declared.asks.GeographicAsk.TheVariants.{DesignAgain, DesignAnew, DesignAgainScript, Designs, DesignsSince}
 use Rattle.clr_desk_command_line.specs.declared.asks.OrderAsk.{OrderAsk}
 use Rattle.clr_desk_command_line.specs.declared.asks.OrderAsk.TheVariants as order
 use Rattle.clr_desk_command_line.specs.declared.asks.TextKind.TheVariants as kind
+use Rattle.clr_desk_command_line.specs.Databases.{database_asked}
 
 -- the value that is given, or another
 abbrev pub given_or : Text → Text → List Row → Text
@@ -63,13 +65,14 @@ abbrev pub order_ask : (is_certificate : Bool) → OrderAsk
 order_ask true = order.OrderCertificate
 order_ask false = order.Order
 
--- the plan of members of a root in words, as a picture or as a page
+-- the plan of members of a root in words, as a picture or as a page, or how they all stand
 unfoldable pub pictures_ask : Text → Text → List Text → Option DeskAsk
 pictures_ask name root names =
     if bytes_eq name (codes "words") then Some (WorkOrder root names)
     else (if bytes_eq name (codes "map") then Some (Map root names)
     else (if bytes_eq name (codes "report") then Some (Report root names)
-    else None))
+    else (if bytes_eq name (codes "board") then Some (Board root names)
+    else None)))
 
 -- what is asked of members of a root
 unfoldable pub members_ask : Text → List Row → Text → List Text → Option DeskAsk
@@ -158,6 +161,11 @@ office_of_layers rows layers =
 abbrev pub office_ask : List Row → Option (GeographicAsk × List Text)
 office_ask rows = option_and_then (office_of_layers rows) (layers_ask rows)
 
+-- a cut with the rows of these tables
+abbrev pub cut_ask : List Row → Option (GeographicAsk × List Text)
+cut_ask rows =
+    option_map (λ layers. (Cut layers.0 (is_set (codes "round") rows), given_value (codes "OFFICE") rows ∷ layers.1)) (layers_ask rows)
+
 -- yes or no, as a text says it
 abbrev pub choice_in : Text → Option Bool
 choice_in text = if bytes_eq text (codes "yes") then Some true else (if bytes_eq text (codes "no") then Some false else None)
@@ -244,7 +252,8 @@ unfoldable pub geographic_asked : Text → List Row → Option (GeographicAsk ×
 geographic_asked name rows =
     if bytes_eq name (codes "geojson") then Some (features_of rows)
     else (if bytes_eq name (codes "layer") then Some (layer_ask rows)
-    else imports_asked name rows)
+    else (if bytes_eq name (codes "cut") then cut_ask rows
+    else imports_asked name rows))
 
 -- what a subcommand asks for ------------------------------------------------------------------
 
@@ -269,14 +278,22 @@ abbrev pub or_others_asked : Option DeskAsk → Text → List Row → Option (De
 or_others_asked (Some ask) name rows = Some (ask, database_of rows)
 or_others_asked None name rows = or_members_asked (geographic_asked name rows) name rows
 
--- what a subcommand asks for, and its files
-unfoldable pub ask_by_name : Text → List Row → Option (DeskAsk × List Text)
-ask_by_name name rows =
+-- what a subcommand of texts alone asks for, and its files
+unfoldable pub ask_of_texts : Text → List Row → Option (DeskAsk × List Text)
+ask_of_texts name rows =
     if bytes_eq name (codes "check") then Some (Check, database_and (codes "CERT") rows)
     else (if bytes_eq name (codes "merge") then Some (merge_ask rows)
     else (if bytes_eq name (codes "errors") then Some (errors_of rows)
     else (if bytes_eq name (codes "why") then why_ask rows
     else or_others_asked (asked_of_office name) name rows)))
+
+abbrev pub or_texts_asked : Option (DatabaseAsk × List Text) → Text → List Row → Option (DeskAsk × List Text)
+or_texts_asked (Some asked) name rows = Some (Database asked.0, asked.1)
+or_texts_asked None name rows = ask_of_texts name rows
+
+-- what a subcommand asks for, and its files: for a database, or of texts alone
+abbrev pub ask_by_name : Text → List Row → Option (DeskAsk × List Text)
+ask_by_name name rows = or_texts_asked (database_asked name rows) name rows
 
 -- what `reach` asks for, and its file
 abbrev pub reach_of : List Row → Asked × List Text
@@ -304,9 +321,14 @@ ask_of found = option_and_then (λ p. asked_by_name p.0 p.1) found
 -- a subcommand reads layers
 abbrev pub reads_layers : Text → Bool
 reads_layers name =
-    bytes_eq name (codes "office") || bytes_eq name (codes "design") || bytes_eq name (codes "designs") || bytes_eq name (codes "why")
+    (bytes_eq name (codes "office") || bytes_eq name (codes "design"))
+    || (bytes_eq name (codes "designs") || (bytes_eq name (codes "why") || bytes_eq name (codes "cut")))
 
--- where a subcommand reads layers, each layer, the first key and the choice can be read, no script is asked for where there is none, and records are to
--- be skipped of one layer alone
+-- a subcommand reads more of its values than clap does: it reads layers, or the dialect and the origin of a database
+abbrev pub reads_values : Text → Bool
+reads_values name = reads_layers name || (bytes_eq name (codes "edits") || bytes_eq name (codes "propose"))
+
+-- where a subcommand does, each layer, the first key, the choice, the dialect and the origin can be read, no script is asked for where there is none, and
+-- records are to be skipped of one layer alone
 abbrev pub is_readable : Option (Text × List Row) → Bool
-is_readable found = option_map_or (λ p. not (reads_layers p.0) || is_some (asked_by_name p.0 p.1)) found true
+is_readable found = option_map_or (λ p. not (reads_values p.0) || is_some (asked_by_name p.0 p.1)) found true

@@ -59,6 +59,9 @@ map = over_members (codes "map")
 abbrev pub report : App
 report = over_members (codes "report")
 
+abbrev pub board : App
+board = over_members (codes "board")
+
 -- the option with the name of a system of coordinates
 abbrev pub system : Rule
 system = option (codes "crs")
@@ -110,6 +113,20 @@ reach_of_table = with_rule (with_rule (with_rule (new_app (codes "reach")) (valu
 abbrev pub reach : App
 reach = with_rule (with_rule reach_of_table (flag (codes "groups"))) round
 
+-- the options of SQL
+abbrev pub with_database : App → App
+with_database app = with_rule (with_rule (with_rule app (option (codes "sql"))) system) (option (codes "origin"))
+
+-- layers that are put into a cut
+abbrev pub cut : App
+cut = with_rule (with_rule (with_rule (new_app (codes "cut")) (value (codes "OFFICE"))) layers) round
+
+abbrev pub propose : App
+propose = with_database (with_rule (new_app (codes "propose")) (value (codes "OFFICE")))
+
+abbrev pub edits : App
+edits = with_database (with_rule (with_rule (new_app (codes "edits")) (value (codes "OLD"))) (value (codes "NEW")))
+
 -- the program without its subcommands
 abbrev pub bare : App
 bare = demanding (codes "clr_desk")
@@ -128,9 +145,9 @@ choices = keep.top ∷ clashes.top ∷ order.top ∷ []
 unfoldable pub tellings : List Shape
 tellings = why.top ∷ words.top ∷ []
 
--- plans as pictures and pages
+-- plans and designs as pictures and pages
 unfoldable pub pictures : List Shape
-pictures = map.top ∷ report.top ∷ []
+pictures = map.top ∷ report.top ∷ board.top ∷ []
 
 -- plans and tables for other systems
 unfoldable pub exports : List Shape
@@ -144,9 +161,9 @@ imports = office.top ∷ design.top ∷ designs.top ∷ []
 unfoldable pub old_errors : List Shape
 old_errors = errors.top ∷ accept.top ∷ mended.top ∷ []
 
--- cuts of networks
+-- cuts of networks, and the way back into a database
 unfoldable pub cuts : List Shape
-cuts = reach.top ∷ []
+cuts = reach.top ∷ propose.top ∷ cut.top ∷ edits.top ∷ []
 
 abbrev pub groups : List (List Shape)
 groups = certificates ∷ choices ∷ tellings ∷ pictures ∷ exports ∷ imports ∷ old_errors ∷ cuts ∷ []

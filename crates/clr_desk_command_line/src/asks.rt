@@ -1,6 +1,7 @@
 //! What can be asked.
 
-use clr_rows::{Names, Words};
+use clr_rows::{Names, Place, Words};
+use clr_sql::Dialect;
 
 /// A kind of text that the program reads.
 #[derive(Clone, Copy, Debug, Drop)]
@@ -79,6 +80,9 @@ pub enum GeographicAsk {
     Designs(DesignsAsk),
     /// The office with the designs of a folder, whose layers were copied from LIVE of a second office text.
     DesignsSince(DesignsAsk),
+    /// The cut of a network into which the rows of layers are put: the tables of the layers, in the order of their files, and whether coordinates finer
+    /// than a millimetre are rounded.
+    Cut(Names, bool),
 }
 
 /// What is asked of orders in which members can be merged.
@@ -130,10 +134,35 @@ pub enum DeskAsk {
     Map(Words, Names),
     /// The plan of these children of a root as a page with its picture: the root, and the children, or none for all.
     Report(Words, Names),
+    /// These children of a root, each with how it stands to the others, on one page: the root, and the children, or none for all.
+    Board(Words, Names),
     /// What is asked in the texts of geographic information systems.
     Geographic(GeographicAsk),
     /// The same of the records of a layer that have no fault; the others go into the file of this name.
     Skipping(GeographicAsk, Words),
+    /// What is asked for a database.
+    Database(DatabaseAsk),
+}
+
+/// SQL for a database.
+#[derive(Debug, Drop)]
+pub struct SqlAsk {
+    pub dialect: Dialect,
+    /// The name of the reference system of its coordinates, as it was given.
+    pub system: Option<Words>,
+    /// Where the place (0, 0) of the office is in that system, in millimetres.
+    pub origin: Place,
+}
+
+/// What is asked for a database.
+#[derive(Debug, Drop)]
+pub enum DatabaseAsk {
+    /// The edits that take LIVE of an office text to LIVE of a second one, as CSV.
+    Edits,
+    /// The same as SQL.
+    SqlEdits(SqlAsk),
+    /// SQL that proposes a cut for the designs of an office text.
+    Proposal(SqlAsk),
 }
 
 /// A table that is held against a cut, as it is read from a stream.

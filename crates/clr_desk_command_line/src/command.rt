@@ -21,10 +21,11 @@ ghost use Rattle.clr_desk_command_line.specs.Program.{
 };
 
 use crate::helps::{
-    ABOUT, ACCEPT_PRINTS, CERTIFICATE_PRINTS, CHECK_PRINTS, CLASHES_PRINTS, DESIGN_PRINTS,
-    DESIGNS_PRINTS, ERRORS_PRINTS, FORMAT_PRINTS, GEOJSON_PRINTS, KEEP_PRINTS, LAYER_PRINTS,
-    MAP_PRINTS, MENDED_PRINTS, MERGE_PRINTS, OFFICE_PRINTS, ORDER_PRINTS, REACH_PRINTS,
-    REPORT_PRINTS, STATUSES, WHY_PRINTS, WORDS_PRINTS,
+    ABOUT, ACCEPT_PRINTS, BOARD_PRINTS, CERTIFICATE_PRINTS, CHECK_PRINTS, CLASHES_PRINTS,
+    CUT_PRINTS, DESIGN_PRINTS, DESIGNS_PRINTS, EDITS_PRINTS, ERRORS_PRINTS, FORMAT_PRINTS,
+    GEOJSON_PRINTS, KEEP_PRINTS, LAYER_PRINTS, MAP_PRINTS, MENDED_PRINTS, MERGE_PRINTS,
+    OFFICE_PRINTS, ORDER_PRINTS, PROPOSE_PRINTS, REACH_PRINTS, REPORT_PRINTS, STATUSES, WHY_PRINTS,
+    WORDS_PRINTS,
 };
 use clap::Command;
 use clr_command_line::{
@@ -82,6 +83,12 @@ const SYSTEM: Argument<'static> = Argument::ValueOption(
     "crs",
     "EPSG:N",
     "The reference system of the coordinates",
+);
+
+const ORIGIN: Argument<'static> = Argument::ValueOption(
+    "origin",
+    "X,Y",
+    "Where the place (0, 0) of the office is, in whole metres [default: 0,0]",
 );
 
 /// The arguments of a subcommand over an office text and designs of a root.
@@ -189,7 +196,7 @@ const TELLINGS: &[Subcommand<'static>] = &[
     },
 ];
 
-/// The subcommands that draw plans.
+/// The subcommands that draw plans and designs.
 const PICTURES: &[Subcommand<'static>] = &[
     Subcommand {
         name: "map",
@@ -201,6 +208,12 @@ const PICTURES: &[Subcommand<'static>] = &[
         name: "report",
         about: "Tells the plan of designs in one page, an HTML file with its picture",
         prints: REPORT_PRINTS,
+        arguments: OVER_MEMBERS,
+    },
+    Subcommand {
+        name: "board",
+        about: "Tells how all designs stand in one page, an HTML file with a small map of each",
+        prints: BOARD_PRINTS,
         arguments: OVER_MEMBERS,
     },
 ];
@@ -313,28 +326,83 @@ const OLD_ERRORS: &[Subcommand<'static>] = &[
     },
 ];
 
-/// The subcommands about cuts.
-const CUTS: &[Subcommand<'static>] = &[Subcommand {
-    name: "reach",
-    about: "Prints the rows of a table that a cut of the network lacks",
-    prints: REACH_PRINTS,
-    arguments: &[
-        Argument::Value(
-            "CUT",
-            "The file of an office text with the designs and some of the rows, which is JSON",
-        ),
-        Argument::Value(
-            "TABLE",
-            "The table, whose rows are read from standard input",
-        ),
-        DESIGNS,
-        Argument::Flag(
-            "groups",
-            "Print also what ties designs to one another, for groups of designs",
-        ),
-        ROUND,
-    ],
-}];
+/// The subcommands about cuts, and about the database that they are of.
+const CUTS: &[Subcommand<'static>] = &[
+    Subcommand {
+        name: "reach",
+        about: "Prints the rows of a table that a cut of the network lacks",
+        prints: REACH_PRINTS,
+        arguments: &[
+            Argument::Value(
+                "CUT",
+                "The file of an office text with the designs and some of the rows, which is JSON",
+            ),
+            Argument::Value(
+                "TABLE",
+                "The table, whose rows are read from standard input",
+            ),
+            DESIGNS,
+            Argument::Flag(
+                "groups",
+                "Print also what ties designs to one another, for groups of designs",
+            ),
+            ROUND,
+        ],
+    },
+    Subcommand {
+        name: "propose",
+        about: "Prints SQL that proposes a cut of the network around designs",
+        prints: PROPOSE_PRINTS,
+        arguments: &[
+            Argument::Value(
+                "OFFICE",
+                "The file of an office text with the tables, the rules and the designs, which is JSON",
+            ),
+            Argument::ValueOption(
+                "sql",
+                "DIALECT",
+                "The database, postgis or spatialite [default: postgis]",
+            ),
+            SYSTEM,
+            ORIGIN,
+        ],
+    },
+    Subcommand {
+        name: "cut",
+        about: "Puts the rows of layers into a cut of the network, and prints the cut",
+        prints: CUT_PRINTS,
+        arguments: &[
+            Argument::Value(
+                "OFFICE",
+                "The file of an office text with the designs, which is JSON, or of a cut",
+            ),
+            LAYERS,
+            ROUND,
+        ],
+    },
+    Subcommand {
+        name: "edits",
+        about: "Prints the edits that take one office's rows to another's, each with the row as it was",
+        prints: EDITS_PRINTS,
+        arguments: &[
+            Argument::Value(
+                "OLD",
+                "The file of the office text that was planned over, which is JSON",
+            ),
+            Argument::Value(
+                "NEW",
+                "The file of the office text that the merges left, which is JSON",
+            ),
+            Argument::ValueOption(
+                "sql",
+                "DIALECT",
+                "Print SQL for this database, postgis or spatialite",
+            ),
+            SYSTEM,
+            ORIGIN,
+        ],
+    },
+];
 
 /// Returns the command line without its subcommands.
 fn bare_command<'a>(alloc: Global) -> Result<Command<'a>, AllocError>
@@ -392,7 +460,7 @@ fn with_old_errors<'a>(alloc: Global, command: Command<'a>) -> Result<Command<'a
     with_subcommands(alloc, command, OLD_ERRORS)
 }
 
-/// Returns the command with the subcommands about cuts.
+/// Returns the command with the subcommands about cuts, and about the database that they are of.
 fn with_cuts<'a>(alloc: Global, command: Command<'a>) -> Result<Command<'a>, AllocError>
     ensures { IfOk result (λ c. app_of c ≡ with_group (app_of command.entry) cuts) }
 {

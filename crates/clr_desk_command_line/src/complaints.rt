@@ -4,9 +4,31 @@ use clap::ArgMatches;
 use clr_rows::GREATEST_KEY;
 use std::alloc::{AllocError, Global};
 
-/// Returns what is wrong with the words of a subcommand that reads layers: that a layer has no `=`, or else that a choice is neither yes nor no, that the
-/// script of a design is asked for that has none, that records of several layers are to be skipped, or else that the first key is none.
+/// Returns what is wrong with the words of a subcommand for databases: that no dialect has the name, or else that the origin is no place. Other subcommands
+/// have neither.
+fn database_complaint(alloc: Global, matches: &ArgMatches) -> Result<Option<String>, AllocError> {
+    let dialect = matches.get_str("sql").unwrap_or("postgis");
+    if dialect != "postgis" && dialect != "spatialite" {
+        let text = format!(in alloc;
+            "invalid value '{dialect}' for '--sql <DIALECT>': it is neither postgis nor spatialite"
+        )?;
+        return Ok(Some(text));
+    }
+    let Some(origin) = matches.get_str("origin") else {
+        return Ok(None);
+    };
+    let text = format!(in alloc;
+        "invalid value '{origin}' for '--origin <X,Y>': it isn't two whole numbers of metres with a comma between them"
+    )?;
+    Ok(Some(text))
+}
+
+/// Returns what is wrong with the words of a subcommand: what `database_complaint` says, or else that a layer has no `=`, or else that a choice is neither
+/// yes nor no, that the script of a design is asked for that has none, that records of several layers are to be skipped, or else that the first key is none.
 pub(crate) fn complaint(alloc: Global, matches: &ArgMatches) -> Result<String, AllocError> {
+    if let Some(text) = database_complaint(alloc, matches)? {
+        return Ok(text);
+    }
     for word in matches.get_strs("TABLE=FILE").unwrap_or(&[]) {
         if !word.contains('=') {
             return format!(in alloc; "invalid value '{word}' for '<TABLE=FILE>...': it has no '='");

@@ -5,6 +5,7 @@ ghost use Rattle.clap.specs.Words.{found_of, rows_of};
 ghost use Rattle.clr_desk_command_line.specs.Asks.{
   can_skip,
   choice_in,
+  cut_ask,
   design_as,
   design_ask,
   design_ask_with,
@@ -112,6 +113,22 @@ pub(crate) fn office(
     } else {
         Ok(None)
     }
+}
+
+/// Returns what `cut` asks for, and its files, or nothing where a layer can't be read.
+pub(crate) fn cut(
+    alloc: Global,
+    matches: &ArgMatches,
+) -> Result<Option<GeographicAskAndFiles>, AllocError>
+    ensures { IfOk result (λ r. cut_ask (rows_of (found_of matches.now)) ≡ option_map (λ p. (p.0, p.1.items)) r) }
+{
+    let Some((tables, files)) = layers(alloc, matches)? else {
+        return Ok(None);
+    };
+    let ask = GeographicAsk::Cut(Names::new(tables), is_set(matches, "round"));
+    let mut all = Vec::new(alloc);
+    all.push(given_or(alloc, matches, "OFFICE", "")?)?;
+    Ok(Some((ask, append_files(all, files)?)))
 }
 
 /// Returns the choice that a text is, if it is yes or no.

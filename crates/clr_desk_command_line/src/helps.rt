@@ -109,6 +109,15 @@ and 1 where they aren't.
 Example:
   clr_desk report office.json Renewal Extension Bypass > plan.html";
 
+pub(crate) const BOARD_PRINTS: &str =
+    "It prints one HTML file that needs nothing beside it, about all designs at once: how each stands (it can go now,
+goes after others, clashes, is in conflict, or is refused alone), the clashes with their causes and what would help, who
+goes before whom, the old errors by rule, and each design with a small map. Without names it takes all children of the
+root. The status is 0 where all designs can go now, and 1 where they can't.
+
+Example:
+  clr_desk board office.json > board.html";
+
 pub(crate) const GEOJSON_PRINTS: &str =
     "It prints what the plan is about as GeoJSON, for a geographic information system: the rows of the root, what
 each design adds, changes and removes, which rows the cause names, and the place of the cause. Coordinates are in
@@ -197,3 +206,32 @@ is, and 2 where a row can't be read.
 
 Example:
   clr_desk reach cut.json main < main.csv > more.csv";
+
+pub(crate) const PROPOSE_PRINTS: &str =
+    "It prints SQL, by index conditions alone, which proposes a cut around the designs: rows that they change, rows near what
+they bring or take away, and what serves these. psql or sqlite3 runs it, and writes the rows of each table into a file
+TABLE.csv, as `clr_desk office` reads them. The proposal isn't trusted: a pass of `clr_desk reach` over each table shows
+whether it is a cut. The status is 0.
+
+Example:
+  clr_desk propose designs.json --sql postgis --crs EPSG:25832 > propose.sql";
+
+pub(crate) const CUT_PRINTS: &str =
+    "It prints the office text with the rows of the layers put into LIVE, marked as a cut, and nothing else, with status 0.
+A row stands in place of the one with its key, and no row goes; each row has a key. What a design removes it still
+removes, also where its row isn't put in yet. Rules may be broken: a cut that isn't whole may lack rows that serve.
+Where a layer can't be read it prints nothing, and on standard error the line that says so, with status 2.
+
+Example:
+  clr_desk cut designs.json main=main.csv valve=valve.csv > cut.json";
+
+pub(crate) const EDITS_PRINTS: &str =
+    "It prints the edits that take LIVE of the first office to LIVE of the second as CSV, and before each the row as it
+was. With --sql it prints one transaction, which psql or sqlite3 runs with the file OLD in the variable CUT and the
+merged designs in DESIGNS. It locks the tables, leads each through `clr_desk reach`, and looks whether each row of OLD
+is still there as it was; then it makes the edits. Where a row is stale or came meanwhile, nothing is written. How many
+rows are added, changed and removed stands on standard error. The status is 0, and 1 where the offices don't have the
+same tables.
+
+Example:
+  clr_desk edits cut.json new.json --sql postgis --crs EPSG:25832 > back.sql";

@@ -5,7 +5,7 @@ ghost use Rattle.clap.specs.Words.{found_of, rows_of};
 ghost use Rattle.clr_desk_command_line.specs.Asks.{features_of, geographic_asked, imports_asked, layer_ask};
 
 use crate::asks::GeographicAsk;
-use crate::design_reading::{GeographicAskAndFiles, design, designs, office};
+use crate::design_reading::{GeographicAskAndFiles, cut, design, designs, office};
 use crate::values::{given_or, given_value, root};
 use clap::ArgMatches;
 use clr_command_line::{database, names};
@@ -68,6 +68,7 @@ pub(crate) fn geographic_ask(
     match name {
         "geojson" => Ok(Some(features(alloc, matches)?)),
         "layer" => Ok(Some(layer(alloc, matches)?)),
+        "cut" => cut(alloc, matches),
         _ => imports_ask(alloc, name, matches),
     }
 }

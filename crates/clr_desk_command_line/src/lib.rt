@@ -2,24 +2,29 @@
 //!
 //! - `ask_of` [`asks`, `takes`]: what is asked, and the files, are what `clap`'s definition of a
 //!   simple command finds in the words. Words that the command takes, in which each layer, the first
-//!   key and the choice can be read where a subcommand has them, are refused only where there is no memory, but for
-//!   the script of a design that has none, and for records of several layers that are to be skipped. Texts of
+//!   key, the choice, the dialect and the origin can be read where a subcommand has them, are refused only where there is
+//!   no memory, but for the script of a design that has none, and for records of several layers that are to be skipped. Texts of
 //!   help, usage and refusals are tested only.
 #![tactic(auto)]
 
 mod asks;
 mod command;
 mod complaints;
+mod database_reading;
 mod design_reading;
 mod helps;
 mod layer_reading;
 mod named_layers;
+mod origins;
 mod reading;
 mod values;
 mod why_reading;
 
 pub use asks::{
-    Asked, DesignAsk, DesignsAsk, DeskAsk, GeographicAsk, LayersAsk, OrderAsk, ReachAsk, TextKind,
+    Asked, DatabaseAsk, DesignAsk, DesignsAsk, DeskAsk, GeographicAsk, LayersAsk, OrderAsk,
+    ReachAsk, SqlAsk, TextKind,
 };
 pub use clr_command_line::AskFault;
+pub use clr_sql::Dialect;
+pub use origins::{MOST_ORIGIN_METRES, limit_of_origins};
 pub use reading::ask_of;

@@ -6,6 +6,7 @@ ghost use Rattle.clr_command_line.specs.Asks.{IsMemory, database_of};
 ghost use Rattle.clr_desk_command_line.specs.Asks.{
   ask_of,
   ask_by_name,
+  ask_of_texts,
   asked_by_name,
   asked_of_office,
   certificate_ask,
@@ -21,9 +22,11 @@ ghost use Rattle.clr_desk_command_line.specs.Asks.{
   or_members_asked,
   order_ask,
   or_others_asked,
+  or_texts_asked,
   pictures_ask,
   reach_of,
 };
+ghost use Rattle.clr_desk_command_line.specs.Databases.{database_asked};
 ghost use Rattle.clr_desk_command_line.specs.Program.{program};
 ghost use Rattle.clr_desk_command_line.specs.declared.asks.DeskAsk.{DeskAsk};
 ghost use Rattle.clr_desk_command_line.specs.declared.asks.DeskAsk.TheVariants.{Errors, Geographic};
@@ -32,6 +35,7 @@ ghost use Rattle.clr_desk_command_line.specs.declared.asks.GeographicAsk.TheVari
 use crate::asks::{Asked, DeskAsk, GeographicAsk, OrderAsk, ReachAsk};
 use crate::command::whole_command;
 use crate::complaints::complaint;
+use crate::database_reading::database_ask;
 use crate::layer_reading::geographic_ask;
 use crate::values::{given_or, given_value, root};
 use crate::why_reading::{AskAndFiles, why};
@@ -77,7 +81,7 @@ fn order_ask(is_certificate: bool) -> OrderAsk
     }
 }
 
-/// Returns the plan of members of a root in words, as a picture or as a page, if a subcommand of this name asks it.
+/// Returns the plan of members of a root in words, as a picture or as a page, or how they all stand, if a subcommand of this name asks it.
 #[tactic(auto, unfolding(crate::specs::Asks::pictures_ask))]
 fn pictures_ask(name: &str, root: Words, names: Names) -> Option<DeskAsk>
     ensures { result ≡ pictures_ask name.now root names }
@@ -86,6 +90,7 @@ fn pictures_ask(name: &str, root: Words, names: Names) -> Option<DeskAsk>
         "words" => Some(DeskAsk::WorkOrder(root, names)),
         "map" => Some(DeskAsk::Map(root, names)),
         "report" => Some(DeskAsk::Report(root, names)),
+        "board" => Some(DeskAsk::Board(root, names)),
         _ => None,
     }
 }
@@ -220,15 +225,15 @@ fn over_office_or_others(
     }
 }
 
-/// Returns what a subcommand asks for of texts, and its files, or nothing where no such subcommand has the name, or where its layers or its first
-/// key can't be read.
-#[tactic(auto, unfolding(crate::specs::Asks::ask_by_name))]
-fn ask_of_subcommand(
+/// Returns what a subcommand asks for of texts alone, and its files, or nothing where no such subcommand has the name, or where its layers or its
+/// first key can't be read.
+#[tactic(auto, unfolding(crate::specs::Asks::ask_of_texts))]
+fn ask_of_texts(
     alloc: Global,
     name: &str,
     matches: &ArgMatches,
 ) -> Result<Option<AskAndFiles>, AllocError>
-    ensures { IfOk result (λ r. ask_by_name name.now (rows_of (found_of matches.now)) ≡ option_map (λ p. (p.0, p.1.items)) r) }
+    ensures { IfOk result (λ r. ask_of_texts name.now (rows_of (found_of matches.now)) ≡ option_map (λ p. (p.0, p.1.items)) r) }
 {
     match name {
         "check" => Ok(Some((DeskAsk::Check, database_with(alloc, matches, "CERT")?))),
@@ -236,6 +241,21 @@ fn ask_of_subcommand(
         "errors" => Ok(Some(errors(alloc, matches)?)),
         "why" => why(alloc, matches),
         _ => over_office_or_others(alloc, name, matches),
+    }
+}
+
+/// Returns what a subcommand asks for, for a database or of texts alone, and its files, or nothing where no such subcommand has the name, or where one of
+/// its values can't be read.
+fn ask_of_subcommand(
+    alloc: Global,
+    name: &str,
+    matches: &ArgMatches,
+) -> Result<Option<AskAndFiles>, AllocError>
+    ensures { IfOk result (λ r. ask_by_name name.now (rows_of (found_of matches.now)) ≡ option_map (λ p. (p.0, p.1.items)) r) }
+{
+    match database_ask(alloc, name, matches)? {
+        Some((ask, files)) => Ok(Some((DeskAsk::Database(ask), files))),
+        None => ask_of_texts(alloc, name, matches),
     }
 }
 
@@ -296,16 +316,18 @@ fn refusal(alloc: Global, matches: &ArgMatches) -> Result<AskFault, AllocError> 
 /// Returns what the words of a command line ask for, with the program's name first, and the names of the files that it is asked of: that of the office text,
 /// and then that of the script, the certificate or the office that was copied, and those of the layers, where there are some. The subcommands are `check DB
 /// CERT`, `merge DB CERT NAME..`, `format DB`, `accept DB`, `mended DB`, `errors DB [--geojson] [--crs SYSTEM]`, `why DB [TABLE=FILE..] [--script FILE]
-/// [--certificate FILE] [--round]`, `certificate`, `keep`, `clashes`, `order`, `words`, `map` and `report`, each with `DB [--under ROOT] NAME..`, of which
-/// `certificate` and `keep` take `--in-order` and `order` takes `--certificate`, `geojson DB [--under ROOT] [--crs SYSTEM] NAME..`, `layer DB TABLE [--in
+/// [--certificate FILE] [--round]`, `certificate`, `keep`, `clashes`, `order`, `words`, `map`, `report` and `board`, each with `DB [--under ROOT] NAME..`, of
+/// which `certificate` and `keep` take `--in-order` and `order` takes `--certificate`, `geojson DB [--under ROOT] [--crs SYSTEM] NAME..`, `layer DB TABLE [--in
 /// WORKSPACE]`, `office SCHEMA TABLE=FILE.. [--round] [--accept] [--skip BAD]`, `design DB NAME TABLE=FILE.. [--base COPIED] [--removes CHOICE] [--again]
-/// [--script] [--keys N] [--round]`, `designs DB FOLDER [--base COPIED] [--removes CHOICE] [--keys N] [--round]`, whose designs aren't among the files, and
-/// `reach CUT TABLE NAME.. [--groups] [--round]`, which reads the table from a stream. There are none or more names, and one or more layers, but for `why` none
-/// or more. The root, and the workspace of a layer, is LIVE where none is given; N is 1, and CHOICE is `yes`.
+/// [--script] [--keys N] [--round]`, `designs DB FOLDER [--base COPIED] [--removes CHOICE] [--keys N] [--round]`, whose designs aren't among the files,
+/// `reach CUT TABLE NAME.. [--groups] [--round]`, which reads the table from a stream, `cut OFFICE TABLE=FILE.. [--round]`, and `propose OFFICE` and `edits OLD
+/// NEW`, both with `[--sql DIALECT] [--crs SYSTEM] [--origin X,Y]`. There are none or more names, and one or more layers, but for `why` none or more. The root,
+/// and the workspace of a layer, is LIVE where none is given; N is 1, CHOICE is `yes`, the origin is (0, 0), and `propose` is for `postgis`.
 ///
 /// Fails with `Refused` where the words name no subcommand or another count of values than it has, where a layer has no `=`, N is no key, CHOICE is neither
-/// `yes` nor `no`, both COPIED and a script are asked for, or both BAD and several layers are given; or where they ask for help, as `help`, `--help` and `-h`,
-/// or for the version, as `--version` and `-V`; and with `OutOfMemory` for want of memory, which may come in place of any other answer.
+/// `yes` nor `no`, both COPIED and a script are asked for, or both BAD and several layers are given; where DIALECT is neither `postgis` nor `spatialite`, or X
+/// or Y is no whole number of metres of at most `MOST_ORIGIN_METRES`; or where they ask for help, as `help`, `--help` and `-h`, or for the version, as `--version`
+/// and `-V`; and with `OutOfMemory` for want of memory, which may come in place of any other answer.
 pub fn ask_of<'a>(alloc: Global, words: &'a [&'a str]) -> Result<(Asked, Vec<Words>), AskFault>
     ensures asks { IfOk result (λ r. ask_of (subcommand_of program (map (λ s. s.now) words.entry.now)) ≡ Some (r.0, r.1.items)) }
     ensures takes { takes program (map (λ s. s.now) words.entry.now) ≡ true

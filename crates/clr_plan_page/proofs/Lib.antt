@@ -1,4 +1,2 @@
 mod DesignLemmas
-mod ErrorLemmas
 mod ReasonLemmas
-mod SectionLemmas

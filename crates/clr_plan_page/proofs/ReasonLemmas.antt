@@ -20,13 +20,14 @@ use Rattle.clr_plan_sentences.specs.Causes.{IsCause}
 use Rattle.clr_plan_sentences.specs.declared.told_rows.CauseWords.{CauseWords}
 use Rattle.clr_work_orders.specs.declared.trials.Trial.{Trial}
 use Rattle.clr_work_orders.specs.Among.{among_text}
-use Rattle.clr_plan_page.specs.Causes.{AreBlocked, cause_shown, trials_shown}
+use Rattle.clr_page_parts.specs.Causes.{cause_shown}
+use Rattle.clr_plan_page.specs.Causes.{AreBlocked, trials_shown}
 use Rattle.clr_plan_page.specs.Clashes.{TellsClashes, is_lost}
 use Rattle.clr_plan_page.specs.Designs.{AreDesigns, designs_shown}
 use Rattle.clr_plan_page.specs.Needs.{needs_shown}
 use Rattle.clr_plan_page.specs.Reasons.{AreReasons, IsWhy}
-use Rattle.clr_plan_page.specs.Shown.{Adds, Shown, Heading, said}
-use Rattle.clr_plan_page.proofs.SectionLemmas.{in_a_row}
+use Rattle.clr_page_parts.specs.Shown.{Adds, Shown, Heading, said}
+use Rattle.clr_page_parts.proofs.SectionLemmas.{in_a_row}
 
 -- a cause, and then what was tried
 pub blocked_told : (o : Office) (s : MergeSet) (sets : List Changes) (order : List ℕ) (v : Verdict) (among : List ℕ) (trials : List Trial)

@@ -1,5 +1,5 @@
 -- Why members are blocked, and what was tried to help, as a report tells it.
-use Rattle.std.specs.Prelude.{◌≡◌, ◌++◌, ◌==◌, ℕ, Bool, true, false, List, [], ◌∷◌, codes, length, map, if◌then◌else◌}
+use Rattle.std.specs.Prelude.{◌≡◌, ◌++◌, ◌==◌, ℕ, Bool, true, false, List, [], ◌∷◌, codes, length, if◌then◌else◌}
 use Rattle.std.specs.List.{flat_map}
 use Rattle.clr_rows.specs.Contents.{Changes}
 use Rattle.clr_steps.specs.Offices.{Office}
@@ -7,25 +7,12 @@ use Rattle.clr_steps.specs.Quiet.{MergeSet}
 use Rattle.clr_clearance.specs.Plans.{members_at}
 use Rattle.clr_clearance.specs.declared.verdicts.Verdict.{Verdict}
 use Rattle.clr_plan_sentences.specs.declared.told_rows.CauseWords.{CauseWords}
-use Rattle.clr_plan_sentences.specs.declared.told_rows.RowWords.{RowWords}
 use Rattle.clr_plan_sentences.specs.Causes.{IsCause}
 use Rattle.clr_work_orders.specs.declared.answers.Answer.{Answer}
 use Rattle.clr_work_orders.specs.declared.trials.Trial.{Trial}
 use Rattle.clr_work_orders.specs.Among.{among_text}
-use Rattle.clr_plan_page.specs.Shown.{Shown, Heading, Table, said}
-
--- the cause -------------------------------------------------------------------------------------
-
--- a row that a cause names: its table and key, where it stands, and its values and its place
-abbrev pub cause_row : RowWords → List (List ℕ)
-cause_row row = row.label ∷ row.standing ∷ row.words ∷ []
-
-abbrev pub cause_heads : List (List ℕ)
-cause_heads = codes "Row" ∷ codes "Stands" ∷ codes "Values and place, in metres" ∷ []
-
--- why, the rows that the cause names, in their order, and where they meet
-abbrev pub cause_shown : CauseWords → List Shown
-cause_shown cause = said cause.reason ++ Table cause_heads (map cause_row cause.rows) ∷ [] ++ said cause.place
+use Rattle.clr_page_parts.specs.Causes.{cause_shown}
+use Rattle.clr_page_parts.specs.Shown.{Shown, Heading, Table, said}
 
 -- what was tried --------------------------------------------------------------------------------
 

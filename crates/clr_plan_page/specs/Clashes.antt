@@ -13,7 +13,7 @@ use Rattle.clr_merge_clashes.specs.MergeClashes.{FindsClashes}
 use Rattle.clr_merge_sets.specs.MergeSetNames.{merge_set}
 use Rattle.clr_phrases.specs.Lists.{names_text}
 use Rattle.clr_plan_sentences.specs.Causes.{reason_text}
-use Rattle.clr_plan_page.specs.Shown.{Shown, Heading, Paragraph, Table}
+use Rattle.clr_page_parts.specs.Shown.{Shown, Heading, Paragraph, Table}
 
 -- the designs of a set
 abbrev pub set_names : List Name → MergeClash → List Name

@@ -11,13 +11,13 @@ use Rattle.clr_workspaces.specs.Marks.{Name}
 use Rattle.clr_steps.specs.Offices.{Office}
 use Rattle.clr_steps.specs.Quiet.{MergeSet}
 use Rattle.clr_clearance.specs.MergeSets.{change_sets}
-use Rattle.clr_member_changes.specs.declared.counts.Counts.{Counts}
 use Rattle.clr_member_changes.specs.Counts.{counts_of}
 use Rattle.clr_member_changes.specs.Names.{member_name}
 use Rattle.clr_phrases.specs.Rows.{row_words}
 use Rattle.clr_plan_sentences.specs.Labels.{cell_label}
 use Rattle.clr_plan_page.specs.Clashes.{TellsClashes}
-use Rattle.clr_plan_page.specs.Shown.{Shown, Fold, Heading}
+use Rattle.clr_page_parts.specs.Counts.{counts_text}
+use Rattle.clr_page_parts.specs.Shown.{Shown, Fold, Heading}
 
 -- a row is added where none stood, and removed where none stands afterwards
 abbrev pub becomes_text : Change → List ℕ
@@ -43,9 +43,6 @@ change_heads = codes "Row" ∷ codes "Is" ∷ codes "Before" ∷ codes "After" �
 -- the first 400 changes of a design, in the order of their cells
 abbrev pub change_rows : List TableDef → Changes → List (List (List ℕ))
 change_rows tables set = map (change_row tables) (take 400 (finite.entries set)) ++ more_rows (length (finite.keys set))
-
-abbrev pub counts_text : Counts → List ℕ
-counts_text counts = decimal counts.added ++ codes " added, " ++ decimal counts.changed ++ codes " changed, " ++ decimal counts.removed ++ codes " removed"
 
 -- the design at a position with what it changes: its name, how many rows it adds, changes and removes, and the changes
 abbrev pub design_shown : List TableDef → List Name → ℕ × Changes → Shown

@@ -6,7 +6,7 @@ use Rattle.clr_workspaces.specs.Marks.{Name}
 use Rattle.clr_steps.specs.Offices.{Office}
 use Rattle.clr_plan_sentences.specs.declared.served_needs.NeedWords.{NeedWords}
 use Rattle.clr_plan_sentences.specs.ServedNeeds.{told_need}
-use Rattle.clr_plan_page.specs.Shown.{Shown, Paragraph, Table}
+use Rattle.clr_page_parts.specs.Shown.{Shown, Paragraph, Table}
 
 -- the rule of a need, the rows that ask, and the rows that serve it until when
 abbrev pub need_row : NeedWords → List (List ℕ)

@@ -11,7 +11,7 @@ use Rattle.clr_order_sentences.specs.OrderSentences.{AreOrderSentences}
 use Rattle.clr_work_orders.specs.declared.trials.Trial.{Trial}
 use Rattle.clr_plan_page.specs.Causes.{AreBlocked}
 use Rattle.clr_plan_page.specs.Needs.{needs_shown}
-use Rattle.clr_plan_page.specs.Shown.{Shown, Heading, said}
+use Rattle.clr_page_parts.specs.Shown.{Shown, Heading, said}
 
 -- of a plan of members that make these changes: what serves each need, or the cause with what was tried; nothing of any other plan
 abbrev pub AreReasons : Office → MergeSet → List Changes → Plan → List Trial → List Shown → Type 0

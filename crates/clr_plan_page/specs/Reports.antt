@@ -1,6 +1,5 @@
 -- What the report of a plan tells.
 use Rattle.std.specs.Prelude.{◌≡◌, ◌==◌, ℕ, List, [], ◌∷◌, ◌++◌, codes, length, map, if◌then◌else◌}
-use Rattle.std.specs.List.{flat_map}
 use Rattle.std.specs.Str.{bytes_eq}
 use Rattle.clr_rows.specs.declared.tables.TableDef.{TableDef}
 use Rattle.clr_rows.specs.Names.{live_name}
@@ -18,17 +17,14 @@ use Rattle.clr_html.specs.Pages.{html_page_text}
 use Rattle.clr_work_orders.specs.declared.trials.Trial.{Trial}
 use Rattle.clr_work_orders.specs.Trials.{AreTrialsOf}
 use Rattle.clr_plan_map.specs.Maps.{IsMap, plan_word}
+use Rattle.clr_page_parts.specs.Commands.{word_text, words_text}
+use Rattle.clr_page_parts.specs.OldErrors.{old_errors_shown}
 use Rattle.clr_plan_page.specs.Designs.{AreDesigns}
-use Rattle.clr_plan_page.specs.OldErrors.{old_errors_shown}
 use Rattle.clr_plan_page.specs.Reasons.{IsWhy}
-use Rattle.clr_plan_page.specs.Shown.{Shown, Heading, Lines, Paragraph, Picture, Verdict, section_shown}
+use Rattle.clr_page_parts.specs.Shown.{Shown, Heading, Lines, Paragraph, Picture, Verdict, section_shown}
 use Rattle.clr_plan_page.specs.declared.feet.TheConstants.{PLAN, PLANUNDER}
 
 -- the command ----------------------------------------------------------------------------------
-
--- a word of a command, behind a space
-abbrev pub word_text : List ℕ → List ℕ
-word_text word = codes " " ++ word
 
 -- what is asked, of an office whose file is called DB
 abbrev pub under_text : Name → List ℕ
@@ -36,7 +32,7 @@ under_text root = if bytes_eq root live_name then PLAN.now else PLANUNDER.now ++
 
 -- the line of the command that prints the plan of members of a root
 unfoldable pub command_text : List Name → Name → List ℕ
-command_text members root = under_text root ++ flat_map word_text members ++ codes "\n"
+command_text members root = under_text root ++ words_text members ++ codes "\n"
 
 -- the head -------------------------------------------------------------------------------------
 

@@ -5,14 +5,14 @@ ghost use Rattle.clr_html.specs.Words.{words_of_row};
 ghost use Rattle.clr_merge_sets.specs.MemberChanges.{AreMembers, set_of};
 ghost use Rattle.clr_phrases.specs.Lists.{names_text as listed_names};
 ghost use Rattle.clr_plan_page.specs.Clashes.{TellsClashes, clash_row, clashes_shown, is_lost, set_heads, set_row, sets_shown};
-ghost use Rattle.clr_plan_page.specs.Shown.{Adds, heads_of, rows_of, shown};
+ghost use Rattle.clr_page_parts.specs.Shown.{Adds, heads_of, rows_of, shown};
 
-use crate::sections::{Builder, row_of, table_of};
 use clr_clearance::Verdict;
 use clr_html::{Table, TableRow};
 use clr_member_changes::MemberChanges;
 use clr_merge_clashes::{MergeClash, MergeClashes, merge_clashes_of};
 use clr_merge_sets::names_at;
+use clr_page_parts::{Builder, row_of, table_of};
 use clr_phrases::add_names;
 use clr_plan_sentences::Setting;
 use std::alloc::{AllocError, Global};

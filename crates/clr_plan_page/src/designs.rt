@@ -7,15 +7,15 @@ ghost use Rattle.clr_html.specs.declared.blocks.Block.TheVariants as block;
 ghost use Rattle.clr_html.specs.Words.{words_of_row, words_of_text};
 ghost use Rattle.clr_member_changes.specs.Names.{member_name};
 ghost use Rattle.clr_merge_sets.specs.MemberChanges.{set_of};
-ghost use Rattle.clr_plan_page.specs.Designs.{becomes_text, change_heads, change_row, change_rows, counts_text, design_shown};
+ghost use Rattle.clr_plan_page.specs.Designs.{becomes_text, change_heads, change_row, change_rows, design_shown};
 ghost use Rattle.clr_plan_page.specs.Designs.{designs_shown, more_rows, row_text};
-ghost use Rattle.clr_plan_page.specs.Shown.{heads_of, rows_of, shown};
+ghost use Rattle.clr_page_parts.specs.Shown.{heads_of, rows_of, shown};
 
-use crate::sections::{Builder, plain_text, row_of, table_of};
 use clr_change::ChangeSet;
 use clr_html::{Block, Fold, InlineText, Table, TableRow};
 use clr_map_scenes::Designs;
-use clr_member_changes::{Counts, count_rows};
+use clr_member_changes::count_rows;
+use clr_page_parts::{Builder, counts_words, plain_text, row_of, table_of};
 use clr_phrases::row_words;
 use clr_plan_sentences::Setting;
 use clr_rows::{CellId, Change, Row};
@@ -101,23 +101,6 @@ fn changes_table(setting: Setting<'_>, set: &ChangeSet) -> Result<Table, AllocEr
     let mut rows = first_changes(setting, set)?;
     add_rest(setting.alloc, &mut rows, set.len())?;
     Ok(Table { heads, rows })
-}
-
-/// Returns how many rows are added, changed and removed.
-fn counts_words(alloc: Global, counts: Counts) -> Result<String, AllocError>
-    ensures { IfOk result (λ text. string_bytes text ≡ counts_text counts) }
-{
-    let added = counts.added;
-    let changed = counts.changed;
-    let removed = counts.removed;
-    let mut text = String::new(alloc);
-    write!(text, "{added}")?;
-    text.push_str(" added, ")?;
-    write!(text, "{changed}")?;
-    text.push_str(" changed, ")?;
-    write!(text, "{removed}")?;
-    text.push_str(" removed")?;
-    Ok(text)
 }
 
 /// Returns the name of a design behind a bar of its colour.

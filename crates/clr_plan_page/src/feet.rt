@@ -1,11 +1,11 @@
 //! The foot of a report: the command and the lines on which the report stands.
 
 ghost use Rattle.std.specs.Prelude.{◌≡◌, ◌++◌, codes, map, IfOk, OnOk};
-ghost use Rattle.std.specs.List.{flat_map};
-ghost use Rattle.clr_plan_page.specs.Reports.{command_text, foot_shown, lines_text, note_text, under_text, word_text};
-ghost use Rattle.clr_plan_page.specs.Shown.{section_shown};
+ghost use Rattle.clr_plan_page.specs.Reports.{command_text, foot_shown, lines_text, note_text, under_text};
+ghost use Rattle.clr_page_parts.specs.Shown.{section_shown};
 
 use clr_html::{Block, InlineText, Section};
+use clr_page_parts::{add_word, add_words};
 use clr_plan::{Plan, plan_lines};
 use clr_rows::{LIVE, Schema};
 use std::alloc::{AllocError, Global};
@@ -21,24 +21,6 @@ pub fn commands_of_reports()
     ensures plan { PLAN.now ≡ codes "clr_office plan DB" }
     ensures planunder { PLANUNDER.now ≡ codes "clr_office planunder DB" }
 {}
-
-/// Adds a word of a command, behind a space.
-fn add_word(text: &mut Vec<u8>, word: &str) -> Result<(), AllocError>
-    ensures { OnOk result (text.new.items ≡ text.old.items ++ word_text word.now) }
-{
-    text.extend_from_slice(b" ")?;
-    text.extend_from_slice(word.as_bytes())
-}
-
-/// Adds words of a command, each behind a space.
-fn add_words(text: &mut Vec<u8>, words: &[&str]) -> Result<(), AllocError>
-    ensures { OnOk result (text.new.items ≡ text.old.items ++ flat_map word_text (map (λ word. word.now) words.now)) }
-{
-    for word in words {
-        add_word(text, word)?;
-    }
-    Ok(())
-}
 
 /// Adds what is asked of which office and which root.
 fn add_under(text: &mut Vec<u8>, root: &str) -> Result<(), AllocError>

@@ -2,7 +2,7 @@
 
 ghost use Rattle.std.specs.Prelude.{◌≡◌, ◌++◌, map, string_bytes, IfOk, OnOk};
 ghost use Rattle.clr_plan_page.specs.Reports.{about_text, head_shown, members_text, plan_tone};
-ghost use Rattle.clr_plan_page.specs.Shown.{section_shown};
+ghost use Rattle.clr_page_parts.specs.Shown.{section_shown};
 
 use clr_html::{Block, Section, Tone};
 use clr_phrases::add_names;

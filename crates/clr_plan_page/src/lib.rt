@@ -10,16 +10,13 @@
 //! - `commands_of_reports`: the commands of `clr_office` that a report tells.
 #![tactic(auto)]
 
-mod cause_tables;
 mod clashes;
 mod designs;
 mod feet;
 mod heads;
 mod needs;
-mod old_errors;
 mod remedies;
 mod reports;
-mod sections;
 
 pub use clr_plan_map::plan_map;
 pub use feet::commands_of_reports;

@@ -4,11 +4,11 @@ ghost use Rattle.std.specs.Prelude.{◌≡◌, ◌++◌, map, take, IfOk, OnOk};
 ghost use Rattle.clr_html.specs.Words.{words_of_row};
 ghost use Rattle.clr_merge_sets.specs.MemberChanges.{set_of};
 ghost use Rattle.clr_plan_page.specs.Needs.{entry_row, more_needs, need_heads, need_row, need_rows, needs_shown, some_needs};
-ghost use Rattle.clr_plan_page.specs.Shown.{heads_of, rows_of, shown};
+ghost use Rattle.clr_page_parts.specs.Shown.{heads_of, rows_of, shown};
 
-use crate::sections::{Builder, row_of, table_of};
 use clr_cert::Entry;
 use clr_html::{Table, TableRow};
+use clr_page_parts::{Builder, row_of, table_of};
 use clr_plan_sentences::{NeedWords, Setting};
 use std::alloc::{AllocError, Global};
 

@@ -4,10 +4,10 @@ ghost use Rattle.std.specs.Prelude.{◌≡◌, ◌++◌, map, string_bytes, IfOk
 ghost use Rattle.std.specs.List.{flat_map};
 ghost use Rattle.clr_html.specs.Words.{words_of_row};
 ghost use Rattle.clr_plan_page.specs.Causes.{answer_words, rows_of_trials, trial_heads, trial_rows, trial_words, trials_shown};
-ghost use Rattle.clr_plan_page.specs.Shown.{heads_of, rows_of, shown};
+ghost use Rattle.clr_page_parts.specs.Shown.{heads_of, rows_of, shown};
 
-use crate::sections::{Builder, row_of, table_of};
 use clr_html::{Table, TableRow};
+use clr_page_parts::{Builder, row_of, table_of};
 use clr_work_orders::{Answer, Trial};
 use std::alloc::{AllocError, Global};
 

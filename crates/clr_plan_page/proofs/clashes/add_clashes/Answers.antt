@@ -2,7 +2,7 @@ use Rattle.std.proofs.Common.{inl, map, refl}
 use Rattle.std.proofs.lemmas.Result.{on_ok_weaker}
 use Rattle.clr_merge_sets.specs.MemberChanges.{set_of}
 use Rattle.clr_plan_page.specs.Clashes.{clashes_shown}
-use Rattle.clr_plan_page.specs.Shown.{shown}
+use Rattle.clr_page_parts.specs.Shown.{shown}
 use Rattle.clr_plan_page.proofs.ReasonLemmas.{fault_told}
 use Rattle.clr_plan_page.proofs.clashes.add_clashes.Goals as goal
 

@@ -2,8 +2,8 @@ use Rattle.std.proofs.Common.{◌≡◌, ◌∙◌, ◌==◌, codes, length, map
 use Rattle.std.proofs.lemmas.Result.{on_ok_weaker}
 use Rattle.clr_merge_sets.specs.MemberChanges.{set_of}
 use Rattle.clr_plan_page.specs.Clashes.{clash_row, set_heads}
-use Rattle.clr_plan_page.specs.Shown.{Paragraph, Table, shown}
-use Rattle.clr_plan_page.proofs.SectionLemmas.{one_added_then}
+use Rattle.clr_page_parts.specs.Shown.{Paragraph, Table, shown}
+use Rattle.clr_page_parts.proofs.SectionLemmas.{one_added_then}
 use Rattle.clr_plan_page.proofs.clashes.add_sets.Goals as goal
 
 pub returns-then-is_empty : goal.returns-then-is_empty

@@ -2,7 +2,7 @@ use Rattle.std.proofs.Common.{◌≡◌, ◌++◌, drop, map}
 use Rattle.std.specs.List.{enumerate_from}
 use Rattle.clr_merge_sets.specs.MemberChanges.{set_of}
 use Rattle.clr_plan_page.specs.Designs.{design_shown, designs_shown}
-use Rattle.clr_plan_page.specs.Shown.{shown}
+use Rattle.clr_page_parts.specs.Shown.{shown}
 use Rattle.clr_plan_page.proofs.designs.add_designs.Given as goal
 
 -- what is shown so far, with the designs that are left, is all of them

@@ -3,7 +3,7 @@ use Rattle.clr_html.specs.declared.blocks.Block.{Block}
 use Rattle.clr_html.specs.declared.blocks.Block.TheVariants as block
 use Rattle.clr_html.specs.declared.texts.InlineText.TheVariants.{Soft}
 use Rattle.clr_plan_page.specs.Reports.{note_text}
-use Rattle.clr_plan_page.specs.Shown.{Shown, Heading, Lines, Paragraph, shown}
+use Rattle.clr_page_parts.specs.Shown.{Shown, Heading, Lines, Paragraph, shown}
 use Rattle.clr_plan_page.proofs.feet.foot_of.Goals as goal
 
 foot : List ℕ → List ℕ → List ℕ → List Shown

@@ -4,7 +4,7 @@ use Rattle.clr_html.specs.declared.blocks.Block.TheVariants as block
 use Rattle.clr_html.specs.declared.blocks.Tone.{Tone}
 use Rattle.clr_plan_map.specs.Maps.{plan_word}
 use Rattle.clr_plan_page.specs.Reports.{plan_tone}
-use Rattle.clr_plan_page.specs.Shown.{Shown, Picture, Verdict, shown}
+use Rattle.clr_page_parts.specs.Shown.{Shown, Picture, Verdict, shown}
 use Rattle.clr_plan_page.proofs.heads.head_of.Goals as goal
 
 pub returns : goal.returns

@@ -2,8 +2,8 @@ use Rattle.std.proofs.Common.{codes, length, map}
 use Rattle.std.proofs.lemmas.Result.{on_ok_weaker}
 use Rattle.clr_merge_sets.specs.MemberChanges.{set_of}
 use Rattle.clr_plan_page.specs.Needs.{more_needs, need_heads, need_rows}
-use Rattle.clr_plan_page.specs.Shown.{Paragraph, Table, shown}
-use Rattle.clr_plan_page.proofs.SectionLemmas.{more_behind, table_behind}
+use Rattle.clr_page_parts.specs.Shown.{Paragraph, Table, shown}
+use Rattle.clr_page_parts.proofs.SectionLemmas.{more_behind, table_behind}
 use Rattle.clr_plan_page.proofs.needs.add_some_needs.Goals as goal
 
 pub returns : goal.returns

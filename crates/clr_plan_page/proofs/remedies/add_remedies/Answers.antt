@@ -1,8 +1,8 @@
 use Rattle.std.proofs.Common.{◌≡◌, ◌∙◌, ◌==◌, ◌++◌, [], ◌∷◌, codes, false, length, map, sym}
 use Rattle.std.proofs.lemmas.Result.{on_ok_weaker}
 use Rattle.clr_plan_page.specs.Causes.{rows_of_trials, trial_heads}
-use Rattle.clr_plan_page.specs.Shown.{Heading, Table, said, shown}
-use Rattle.clr_plan_page.proofs.SectionLemmas.{added_else, table_behind_words}
+use Rattle.clr_page_parts.specs.Shown.{Heading, Table, said, shown}
+use Rattle.clr_page_parts.proofs.SectionLemmas.{added_else, table_behind_words}
 use Rattle.clr_plan_page.proofs.remedies.add_remedies.Goals as goal
 
 pub returns : goal.returns

@@ -1,7 +1,7 @@
 use Rattle.std.proofs.Common.{◌∙◌, map}
 use Rattle.std.proofs.lemmas.Result.{on_ok_weaker}
 use Rattle.clr_merge_sets.specs.MemberChanges.{set_of}
-use Rattle.clr_plan_page.specs.Shown.{shown}
+use Rattle.clr_page_parts.specs.Shown.{shown}
 use Rattle.clr_plan_page.proofs.ReasonLemmas.{blocked_told}
 use Rattle.clr_plan_page.proofs.reports.add_blocked.Goals as goal
 

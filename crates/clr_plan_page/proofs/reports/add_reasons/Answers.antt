@@ -2,7 +2,7 @@ use Rattle.std.proofs.Common.{[], map, refl}
 use Rattle.std.proofs.lemmas.Result.{on_ok_weaker}
 use Rattle.clr_merge_sets.specs.MemberChanges.{set_of}
 use Rattle.clr_plan_page.specs.Reasons.{AreReasons}
-use Rattle.clr_plan_page.specs.Shown.{shown}
+use Rattle.clr_page_parts.specs.Shown.{shown}
 use Rattle.clr_plan_page.proofs.ReasonLemmas.{no_reasons, reasons_of_blocked, reasons_of_cleared}
 use Rattle.clr_plan_page.proofs.reports.add_reasons.Goals as goal
 

@@ -1,7 +1,7 @@
 use Rattle.std.proofs.Common.{List, ap, map, subst, sym}
 use Rattle.clr_merge_sets.specs.MemberChanges.{set_of}
 use Rattle.clr_plan_page.specs.Designs.{AreDesigns}
-use Rattle.clr_plan_page.specs.Shown.{Shown, shown}
+use Rattle.clr_page_parts.specs.Shown.{Shown, shown}
 use Rattle.clr_plan_page.proofs.ReasonLemmas.{designs_whole}
 use Rattle.clr_plan_page.proofs.reports.designs_of.Goals as goal
 

@@ -2,7 +2,7 @@ use Rattle.std.proofs.Common.{◌∙◌, ◌++◌, ◌∷◌, [], ℕ, List, ap,
 use Rattle.clr_html.specs.declared.pages.Section.{Section}
 use Rattle.clr_plan_map.specs.Maps.{plan_word}
 use Rattle.clr_plan_page.specs.Reports.{about_text, foot_shown, head_shown}
-use Rattle.clr_plan_page.proofs.SectionLemmas.{page_sections}
+use Rattle.clr_page_parts.proofs.SectionLemmas.{page_sections}
 use Rattle.clr_plan_page.proofs.reports.page_of.Goals as goal
 
 pub returns : goal.returns

@@ -6,7 +6,7 @@ use Rattle.clr_merge_sets.specs.MemberChanges.{AreMembers, set_of}
 use Rattle.clr_work_orders.specs.declared.trials.Trial.{Trial}
 use Rattle.clr_plan_map.specs.Maps.{IsMapOfChanges}
 use Rattle.clr_plan_page.specs.Reports.{AreBetween, IsReportPage}
-use Rattle.clr_plan_page.specs.Shown.{section_shown}
+use Rattle.clr_page_parts.specs.Shown.{section_shown}
 use Rattle.clr_plan_page.proofs.reports.plan_report.Goals as goal
 
 pub sections_between-requires : goal.sections_between-requires

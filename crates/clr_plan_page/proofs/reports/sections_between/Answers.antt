@@ -1,6 +1,6 @@
 use Rattle.std.proofs.Common.{◌∙◌, ◌++◌, ◌∷◌, [], List, ap, map}
 use Rattle.clr_html.specs.declared.pages.Section.{Section}
-use Rattle.clr_plan_page.specs.Shown.{Shown, section_shown}
+use Rattle.clr_page_parts.specs.Shown.{Shown, section_shown}
 use Rattle.clr_plan_page.proofs.reports.sections_between.Goals as goal
 
 pub returns : goal.returns

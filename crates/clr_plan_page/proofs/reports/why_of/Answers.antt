@@ -1,7 +1,7 @@
 use Rattle.std.proofs.Common.{◌∙◌, ◌++◌, ℕ, List, ap, map, string_bytes, subst, sym}
 use Rattle.clr_merge_sets.specs.MemberChanges.{set_of}
 use Rattle.clr_plan_page.specs.Reasons.{IsWhy}
-use Rattle.clr_plan_page.specs.Shown.{Shown, said, shown}
+use Rattle.clr_page_parts.specs.Shown.{Shown, said, shown}
 use Rattle.clr_plan_page.proofs.ReasonLemmas.{why_whole}
 use Rattle.clr_plan_page.proofs.reports.why_of.Goals as goal
 

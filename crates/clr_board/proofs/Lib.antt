@@ -1,0 +1,5 @@
+mod EarlierTurns
+mod Finds
+mod Numbers
+mod Settled
+mod StateLaws

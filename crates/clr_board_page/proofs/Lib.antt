@@ -1,0 +1,6 @@
+mod Causes
+mod Each
+mod Lent
+mod Numbers
+mod Sections
+mod Texts

@@ -1,0 +1,24 @@
+use Rattle.std.proofs.Common.{◌∙◌, codes}
+use Rattle.std.proofs.lemmas.Result.{on_ok_weaker}
+use Rattle.clr_cut_proposals.specs.Proposals.{found_layer, psql_file}
+use Rattle.clr_cut_proposals.proofs.Pieces.{last_piece, pieces_5}
+use Rattle.clr_cut_proposals.proofs.proposals.add_psql_file.Goals as goal
+
+pub returns : goal.returns
+unfolding psql_file
+returns c =
+    on_ok_weaker c.extend_from_slice-4.result
+    (λ e. e ∙ rw (
+      c.in_ok-extend_from_slice-3.ensures.items,
+      c.in_ok-extend_from_slice-2.ensures.items,
+      c.in_ok-add_found_layer.ensures,
+      c.in_ok-extend_from_slice.ensures.items,
+      c.as_bytes.ensures.value,
+      c.as_str.ensures,
+    )
+    (pieces_5 c.args.text.now.items
+    (codes "\\copy (")
+    (found_layer c.args.target.now c.args.table.now)
+    (codes ") TO '")
+    c.args.table.now.name
+    (codes ".csv' CSV HEADER\n"))) (last_piece c.extend_from_slice-4.result _ _ _ c.extend_from_slice-4.ensures.items)

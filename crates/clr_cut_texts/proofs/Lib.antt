@@ -1,0 +1,3 @@
+mod CutsPlain
+mod CutsRead
+mod Listed

@@ -1,0 +1,9 @@
+use Rattle.std.proofs.Common.{ap, ◌∙◌}
+use Rattle.json.specs.Print.{print}
+use Rattle.serde_json.proofs.Texts.{print-outline}
+use Rattle.clr_office_reading.specs.Offices.{office_read}
+use Rattle.clr_cut_texts.specs.CutTexts.{cut_data}
+use Rattle.clr_cut_texts.proofs.writing.write_cut.Goals as goal
+
+pub returns : goal.returns
+returns c = record { text = c.into_bytes.ensures.bytes ∙ ap print c.in_ok-text.ensures ∙ print-outline (cut_data (office_read c.args.office)) }

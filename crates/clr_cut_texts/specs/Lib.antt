@@ -1,0 +1,4 @@
+pub mod CutTexts
+pub mod Laws
+pub mod Marks
+pub mod Rows

@@ -1,0 +1,17 @@
+use Rattle.std.proofs.Common.{◌∷◌, [], false, rules}
+use Rattle.clr_office_texts.specs.Drafts.{opened_in}
+use Rattle.clr_desk_designs.specs.Again.{IsAgainPrint}
+use Rattle.clr_desk_prints.specs.NameHints.{IsHinted}
+use Rattle.clr_desk_prints.specs.Printing.{IsMadePrintout, IsPrintoutIn}
+use Rattle.clr_desk.specs.Geographic.{design_options, may_remove_over}
+use Rattle.clr_desk.proofs.CutMarkLemmas.{marked_made}
+use Rattle.clr_desk.proofs.designs_over.design_again.Goals as goal
+
+pub returns : goal.returns
+returns c =
+    let office = c.args.office.now in
+    let design = c.args.design.now in
+    let may_remove = may_remove_over design.may_remove office in
+    let P = IsPrintoutIn (IsHinted (IsAgainPrint false design.name (design_options design) may_remove c.args.layers.now) (design.name ∷ [])) (opened_in office) in
+    let made : IsMadePrintout P c.answer_design_again-answer.result = search rules in
+    marked_made P office c.answer_design_again-answer.result c.marked.result c.marked.ensures made

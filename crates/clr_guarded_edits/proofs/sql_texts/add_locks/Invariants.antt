@@ -1,0 +1,8 @@
+use Rattle.std.proofs.Common.{◌≡◌, ◌++◌, take}
+use Rattle.std.specs.List.{flat_map}
+use Rattle.clr_guarded_edits.specs.SqlTexts.{lock_text}
+use Rattle.clr_guarded_edits.proofs.sql_texts.add_locks.Given as goal
+
+-- the locks so far are added
+abbrev pub invariant-loop-table : goal.invariant-loop-table
+invariant-loop-table l = l.text.items ≡ l.initial.text.items ++ flat_map lock_text (take l.table-index l.tables)

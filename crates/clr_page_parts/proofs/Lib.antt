@@ -1,0 +1,2 @@
+mod ErrorLemmas
+pub mod SectionLemmas

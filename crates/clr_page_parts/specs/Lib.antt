@@ -1,0 +1,5 @@
+pub mod Causes
+pub mod Commands
+pub mod Counts
+pub mod OldErrors
+pub mod Shown

@@ -1,0 +1,2 @@
+mod QuotingLemmas
+mod Texts

@@ -1,0 +1,6 @@
+pub mod Conditions
+pub mod Laws
+pub mod Quoting
+pub mod Relations
+pub mod Shapes
+pub mod Values
