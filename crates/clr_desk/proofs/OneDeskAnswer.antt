@@ -26,6 +26,7 @@ use Rattle.clr_desk.specs.Answers.{IsDeskAnswerIf, IsDeskAnswerTo, IsDeskAnswerW
 use Rattle.clr_desk_plans.specs.Certificates.{IsCertificatePrint}
 use Rattle.clr_desk_merges.specs.Checks.{IsCheckPrint}
 use Rattle.clr_desk_plans.specs.Choices.{IsChoicePrint}
+use Rattle.clr_desk_plans.specs.Lines.{ArePlanLines}
 use Rattle.clr_desk_formats.specs.Formats.{IsFormatPrint}
 use Rattle.clr_desk.specs.Geographic.{IsGeographicAnswer, design_options, may_remove_over, options_of}
 use Rattle.clr_desk_merges.specs.Merges.{IsHintedMerge, IsMergePrintout}
@@ -35,7 +36,7 @@ use Rattle.clr_desk.proofs.OneAnswer.{one_accept_print, one_accepted, one_mended
 use Rattle.clr_desk.proofs.OneAnswer.{one_check_print, one_counted, one_design_script, one_format_print, one_live, one_merge_print, one_of_layers}
 use Rattle.clr_desk.proofs.OneAgain.{one_again, one_anew}
 use Rattle.clr_desk.proofs.OneAnswer.{one_over, one_since}
-use Rattle.clr_desk.proofs.OneAnswer.{one_plan_print}
+use Rattle.clr_desk.proofs.OneAnswer.{one_lines_print, one_plan_print}
 use Rattle.clr_desk.proofs.OneChoice.{one_choice_print}
 use Rattle.clr_desk.proofs.OneCut.{one_marked, one_unless}
 use Rattle.clr_desk.proofs.OnePrint.{one_hinted, one_in, one_of_case, one_of_draft}
@@ -123,6 +124,10 @@ one_within (ask.Board root names) office second layers designs whole = absurd (f
 one_within (ask.Geographic asked) office second layers designs whole = one_geographic asked office second layers designs whole
 one_within (ask.Skipping asked file) office second layers designs whole = one_geographic asked office second layers designs whole
 one_within (ask.Database asked) office second layers designs whole = absurd (false≢true whole)
+one_within (ask.Json asked) office second layers designs whole = absurd (false≢true whole)
+one_within (ask.Plan root names) office second layers designs whole =
+    one_in (IsHinted (ArePlanLines root names) (root ∷ names))
+    (λ o. one_hinted (ArePlanLines root names) (root ∷ names) o (one_lines_print o (set_asked o root names))) (opened_in office)
 
 one_if : (too_long : Bool) (asked : DeskAsk) (office second : List ℕ) (layers : List GivenLayer) (designs : List LayeredDesign) → is_whole asked ≡ true
     → IsOnePrint (IsDeskAnswerIf too_long asked office second layers designs)

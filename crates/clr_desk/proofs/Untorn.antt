@@ -8,6 +8,7 @@ use Rattle.clr_desk_command_line.specs.declared.asks.OrderAsk.TheVariants as ord
 use Rattle.clr_desk_command_line.specs.declared.asks.GeographicAsk.{GeographicAsk}
 use Rattle.clr_desk_command_line.specs.declared.asks.GeographicAsk.TheVariants as geographic
 use Rattle.clr_desk_command_line.specs.declared.asks.DatabaseAsk.TheVariants as database
+use Rattle.clr_desk_command_line.specs.declared.asks.JsonAsk.TheVariants as json
 use Rattle.clr_desk_command_line.specs.declared.asks.LayersAsk.{LayersAsk}
 use Rattle.clr_layer_changes.specs.declared.options.GivenLayer.{GivenLayer}
 use Rattle.clr_desk_designs.specs.declared.layered_designs.LayeredDesign.{LayeredDesign}
@@ -126,6 +127,14 @@ module _ (office second : List ℕ) (layers : List GivenLayer) (designs : List L
   untorn (ask.Database database.Edits) h = search rules
   untorn (ask.Database (database.SqlEdits sql)) h = search rules
   untorn (ask.Database (database.Proposal sql)) h = search rules
+  untorn (ask.Plan root names) h = search rules
+  untorn (ask.Json (json.Plan root names)) h = search rules
+  untorn (ask.Json json.Check) h = search rules
+  untorn (ask.Json (json.Keep root names)) h = search rules
+  untorn (ask.Json (json.Clashes root names)) h = search rules
+  untorn (ask.Json (json.Order root names)) h = search rules
+  untorn (ask.Json (json.WorkOrder root names)) h = search rules
+  untorn (ask.Json (json.Board root names)) h = search rules
 
 -- a fault that is answered is that of the texts
 pub fault_answered : (IsPrint IsRight : PrintoutOrFault → Type 0) (sinks : Sinks) (e : RunFault) → (IsRight (Err run_fault.WriteFailed) → ⊥)

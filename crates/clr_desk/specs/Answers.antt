@@ -22,6 +22,8 @@ use Rattle.clr_desk_clashes.specs.Clashes.{IsClashesPrint}
 use Rattle.clr_desk_formats.specs.Formats.{IsFormatPrint}
 use Rattle.clr_desk.specs.Geographic.{IsGeographicAnswer}
 use Rattle.clr_desk_plans.specs.InOrder.{IsInOrderPrint}
+use Rattle.clr_desk_plans.specs.Lines.{ArePlanLines}
+use Rattle.clr_desk_json.specs.Answers.{IsJsonAnswer}
 use Rattle.clr_desk.specs.LayerWhys.{IsLayersWhy}
 use Rattle.clr_desk_merges.specs.Merges.{IsHintedMerge}
 use Rattle.clr_desk_prints.specs.NameHints.{IsHinted}
@@ -64,6 +66,9 @@ IsDeskAnswerWithin (ask.WhyLayers asked) office second layers designs print = Is
 IsDeskAnswerWithin (ask.Geographic asked) office second layers designs print = IsGeographicAnswer asked office second layers designs print
 IsDeskAnswerWithin (ask.Skipping asked file) office second layers designs print = IsGeographicAnswer asked office second layers designs print
 IsDeskAnswerWithin (ask.Database asked) office second layers designs print = IsDatabaseAnswer asked office second print
+IsDeskAnswerWithin (ask.Plan root names) office second layers designs print =
+    IsPrintoutIn (IsHinted (ArePlanLines root names) (root ∷ names)) (opened_in office) print
+IsDeskAnswerWithin (ask.Json asked) office second layers designs print = IsJsonAnswer asked office second print
 
 -- what is answered, where it is given whether a text is too long
 abbrev pub IsDeskAnswerIf : Bool → DeskAsk → List ℕ → List ℕ → List GivenLayer → List LayeredDesign → PrintoutOrFault → Type 0

@@ -10,7 +10,7 @@ use Rattle.clr_desk_prints.specs.Printing.{PrintoutOrFault}
 use Rattle.clr_desk.specs.Answers.{IsDeskAnswerTo}
 
 -- what is asked has an answer that its definition tells whole; of clashes, orders, errors, faults, sentences, pictures, pages, features and layers it
--- leaves something open, and of cuts, of the designs of a folder and of databases nothing is said here
+-- leaves something open, and of cuts, of the designs of a folder, of databases and of JSON nothing is said here
 abbrev pub is_whole_layer : GeographicAsk → Bool
 is_whole_layer (geographic.Features root names system) = false
 is_whole_layer (geographic.Layer table workspace) = false
@@ -33,6 +33,7 @@ is_whole (ask.Board root names) = false
 is_whole (ask.Geographic asked) = is_whole_layer asked
 is_whole (ask.Skipping asked file) = is_whole_layer asked
 is_whole (ask.Database asked) = false
+is_whole (ask.Json asked) = false
 is_whole _ = true
 
 -- no plan, verdict or merge found no memory: the status isn't the one that says so

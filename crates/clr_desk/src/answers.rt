@@ -19,10 +19,13 @@ use clr_desk_designs::LayeredDesign;
 use clr_desk_error_lists::answer_errors;
 use clr_desk_errors::{answer_accept, answer_mended};
 use clr_desk_formats::answer_format;
+use clr_desk_json::answer_json;
 use clr_desk_layers::GivenLayer;
 use clr_desk_merges::{answer_check, answer_merge};
 use clr_desk_pages::{answer_map, answer_report};
-use clr_desk_plans::{answer_certificate, answer_in_order, answer_keep, answer_work_order};
+use clr_desk_plans::{
+    answer_certificate, answer_in_order, answer_keep, answer_plan, answer_work_order,
+};
 use clr_desk_prints::Print;
 use clr_office::{MOST_INPUT_BYTES, RunFault, Sink};
 use std::alloc::Global;
@@ -70,6 +73,8 @@ fn answer_texts(
         DeskAsk::Geographic(ask) => answer_geographic(alloc, ask, office, second, layers, designs),
         DeskAsk::Skipping(ask, _) => answer_geographic(alloc, ask, office, second, layers, designs),
         DeskAsk::Database(ask) => answer_database(alloc, ask, office, second),
+        DeskAsk::Plan(root, names) => answer_plan(alloc, office, root.as_str(), names.as_slice()),
+        DeskAsk::Json(ask) => answer_json(alloc, ask, office, second),
         DeskAsk::Map(root, names) => answer_map(alloc, office, root.as_str(), names.as_slice()),
         DeskAsk::Report(root, names) => answer_report(
             alloc,

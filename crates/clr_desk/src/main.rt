@@ -28,7 +28,8 @@
 //!   `geojson` the features of a plan, with the plan's status, and of `layer` the layer of a table; of `office` the text of the office whose LIVE
 //!   has the rows of layers, of `design` that of the office with one more design that has them, or with one that is brought again, or the script
 //!   that does so, of `designs` that of the office with several, or why there is none, and of `cut` that of a cut with the rows of layers
-//!   (`IsGeographicAnswer`); of `accept` the text of the same office with just its broken needs as known, of `mended` the known needs that aren't
+//!   (`IsGeographicAnswer`); of `plan` the lines of the plan, with its status (`ArePlanLines`); with `--json` one value of what the same subcommand tells, with
+//!   the same status (`IsJsonAnswer`); of `accept` the text of the same office with just its broken needs as known, of `mended` the known needs that aren't
 //!   broken any more, and of `errors` the broken needs of LIVE, whether known or not, with status 0 only where all are known; of `edits` the edits that
 //!   take LIVE of one office to LIVE of another, as CSV or as a transaction in SQL, and of `propose` SQL that proposes a cut (`IsDatabaseAnswer`).
 //! - `fault_place` [`place`]: the file, the line and the column of the fault of the office text or the certificate, and nothing of any other.

@@ -78,7 +78,7 @@ fn free_positions(
 }
 
 /// Returns the members that weren't looked at with the others.
-pub(crate) fn beside<'a>(
+pub fn beside<'a>(
     alloc: Global,
     members: &[&'a str],
     looked: &[usize],
@@ -90,7 +90,7 @@ pub(crate) fn beside<'a>(
 }
 
 /// Returns the members that are in no set.
-pub(crate) fn in_no_set<'a>(
+pub fn in_no_set<'a>(
     alloc: Global,
     members: &[&'a str],
     clashes: &[MergeClash],

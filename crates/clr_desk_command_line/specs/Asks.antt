@@ -13,7 +13,8 @@ use Rattle.clr_desk_command_line.specs.declared.asks.Asked.{Asked}
 use Rattle.clr_desk_command_line.specs.declared.asks.Asked.TheVariants.{OfTexts, Reach}
 use Rattle.clr_desk_command_line.specs.declared.asks.DeskAsk.{DeskAsk}
 use Rattle.clr_desk_command_line.specs.declared.asks.DeskAsk.TheVariants.{Certificate, Check, Merge, Format, Accept, Mended, Errors, Keep, Clashes, Why}
-use Rattle.clr_desk_command_line.specs.declared.asks.DeskAsk.TheVariants.{Board, Database, Geographic, InOrder, Map, Report, Skipping, WhyLayers, WorkOrder}
+use Rattle.clr_desk_command_line.specs.declared.asks.DeskAsk.TheVariants.{Board, Database, Geographic, InOrder, Json, Map, Plan, Report, Skipping}
+use Rattle.clr_desk_command_line.specs.declared.asks.DeskAsk.TheVariants.{WhyLayers, WorkOrder}
 use Rattle.clr_desk_command_line.specs.declared.asks.DatabaseAsk.{DatabaseAsk}
 use Rattle.clr_desk_command_line.specs.declared.asks.DesignAsk.{DesignAsk}
 use Rattle.clr_desk_command_line.specs.declared.asks.DesignsAsk.{DesignsAsk}
@@ -21,6 +22,7 @@ use Rattle.clr_desk_command_line.specs.declared.asks.GeographicAsk.{GeographicAs
 use Rattle.clr_desk_command_line.specs.declared.asks.GeographicAsk.TheVariants.{Features, Layer, Office, AcceptedOffice, ErrorFeatures}
 use Rattle.clr_desk_command_line.specs.declared.asks.GeographicAsk.TheVariants.{Cut, Design, DesignSince, DesignScript}
 use Rattle.clr_desk_command_line.specs.declared.asks.GeographicAsk.TheVariants.{DesignAgain, DesignAnew, DesignAgainScript, Designs, DesignsSince}
+use Rattle.clr_desk_command_line.specs.declared.asks.JsonAsk.TheVariants as json
 use Rattle.clr_desk_command_line.specs.declared.asks.OrderAsk.{OrderAsk}
 use Rattle.clr_desk_command_line.specs.declared.asks.OrderAsk.TheVariants as order
 use Rattle.clr_desk_command_line.specs.declared.asks.TextKind.TheVariants as kind
@@ -55,33 +57,63 @@ abbrev pub certificate_ask : (is_in_order : Bool) → Text → List Text → Des
 certificate_ask true root names = InOrder order.Certificate root names
 certificate_ask false root names = Certificate root names
 
--- what `keep` asks for, in the order of the names or in every order
-abbrev pub keep_ask : (is_in_order : Bool) → Text → List Text → DeskAsk
-keep_ask true root names = InOrder order.Keep root names
-keep_ask false root names = Keep root names
+-- what `keep` asks for, in the order of the names or in every order; the choice in the order of the names isn't printed as JSON
+abbrev pub keep_ask : (is_in_order is_json : Bool) → Text → List Text → Option DeskAsk
+keep_ask true true root names = None
+keep_ask true false root names = Some (InOrder order.Keep root names)
+keep_ask false true root names = Some (Json (json.Keep root names))
+keep_ask false false root names = Some (Keep root names)
 
--- what `order` asks for: an order, or its certificate
-abbrev pub order_ask : (is_certificate : Bool) → OrderAsk
-order_ask true = order.OrderCertificate
-order_ask false = order.Order
+-- what `order` asks for: an order, or its certificate, which isn't printed as JSON
+abbrev pub order_ask : (is_certificate is_json : Bool) → Text → List Text → Option DeskAsk
+order_ask true true root names = None
+order_ask true false root names = Some (InOrder order.OrderCertificate root names)
+order_ask false true root names = Some (Json (json.Order root names))
+order_ask false false root names = Some (InOrder order.Order root names)
+
+-- the plan of members of a root, in lines or as JSON
+abbrev pub plan_ask : (is_json : Bool) → Text → List Text → DeskAsk
+plan_ask true root names = Json (json.Plan root names)
+plan_ask false root names = Plan root names
+
+abbrev pub clashes_ask : (is_json : Bool) → Text → List Text → DeskAsk
+clashes_ask true root names = Json (json.Clashes root names)
+clashes_ask false root names = Clashes root names
+
+abbrev pub words_ask : (is_json : Bool) → Text → List Text → DeskAsk
+words_ask true root names = Json (json.WorkOrder root names)
+words_ask false root names = WorkOrder root names
+
+abbrev pub board_ask : (is_json : Bool) → Text → List Text → DeskAsk
+board_ask true root names = Json (json.Board root names)
+board_ask false root names = Board root names
+
+abbrev pub check_ask : (is_json : Bool) → DeskAsk
+check_ask true = Json json.Check
+check_ask false = Check
+
+-- the answer is to be JSON
+abbrev pub is_json : List Row → Bool
+is_json rows = is_set (codes "json") rows
 
 -- the plan of members of a root in words, as a picture or as a page, or how they all stand
-unfoldable pub pictures_ask : Text → Text → List Text → Option DeskAsk
-pictures_ask name root names =
-    if bytes_eq name (codes "words") then Some (WorkOrder root names)
+unfoldable pub pictures_ask : Text → List Row → Text → List Text → Option DeskAsk
+pictures_ask name rows root names =
+    if bytes_eq name (codes "words") then Some (words_ask (is_json rows) root names)
     else (if bytes_eq name (codes "map") then Some (Map root names)
     else (if bytes_eq name (codes "report") then Some (Report root names)
-    else (if bytes_eq name (codes "board") then Some (Board root names)
+    else (if bytes_eq name (codes "board") then Some (board_ask (is_json rows) root names)
     else None)))
 
 -- what is asked of members of a root
 unfoldable pub members_ask : Text → List Row → Text → List Text → Option DeskAsk
 members_ask name rows root names =
     if bytes_eq name (codes "certificate") then Some (certificate_ask (is_set (codes "in-order") rows) root names)
-    else (if bytes_eq name (codes "keep") then Some (keep_ask (is_set (codes "in-order") rows) root names)
-    else (if bytes_eq name (codes "clashes") then Some (Clashes root names)
-    else (if bytes_eq name (codes "order") then Some (InOrder (order_ask (is_set (codes "certificate") rows)) root names)
-    else pictures_ask name root names)))
+    else (if bytes_eq name (codes "plan") then Some (plan_ask (is_json rows) root names)
+    else (if bytes_eq name (codes "keep") then keep_ask (is_set (codes "in-order") rows) (is_json rows) root names
+    else (if bytes_eq name (codes "clashes") then Some (clashes_ask (is_json rows) root names)
+    else (if bytes_eq name (codes "order") then order_ask (is_set (codes "certificate") rows) (is_json rows) root names
+    else pictures_ask name rows root names))))
 
 abbrev pub members_asked : Text → List Row → Option (DeskAsk × List Text)
 members_asked name rows = option_map (λ asked. (asked, database_of rows)) (members_ask name rows (given_root rows) (given_names rows))
@@ -281,7 +313,7 @@ or_others_asked None name rows = or_members_asked (geographic_asked name rows) n
 -- what a subcommand of texts alone asks for, and its files
 unfoldable pub ask_of_texts : Text → List Row → Option (DeskAsk × List Text)
 ask_of_texts name rows =
-    if bytes_eq name (codes "check") then Some (Check, database_and (codes "CERT") rows)
+    if bytes_eq name (codes "check") then Some (check_ask (is_json rows), database_and (codes "CERT") rows)
     else (if bytes_eq name (codes "merge") then Some (merge_ask rows)
     else (if bytes_eq name (codes "errors") then Some (errors_of rows)
     else (if bytes_eq name (codes "why") then why_ask rows
@@ -324,11 +356,15 @@ reads_layers name =
     (bytes_eq name (codes "office") || bytes_eq name (codes "design"))
     || (bytes_eq name (codes "designs") || (bytes_eq name (codes "why") || bytes_eq name (codes "cut")))
 
--- a subcommand reads more of its values than clap does: it reads layers, or the dialect and the origin of a database
-abbrev pub reads_values : Text → Bool
-reads_values name = reads_layers name || (bytes_eq name (codes "edits") || bytes_eq name (codes "propose"))
+-- a subcommand has two options that can't be asked for together
+abbrev pub has_choice : Text → Bool
+has_choice name = bytes_eq name (codes "keep") || bytes_eq name (codes "order")
 
--- where a subcommand does, each layer, the first key, the choice, the dialect and the origin can be read, no script is asked for where there is none, and
--- records are to be skipped of one layer alone
+-- a subcommand reads more of its values than clap does: it reads layers, or the dialect and the origin of a database, or has such options
+abbrev pub reads_values : Text → Bool
+reads_values name = reads_layers name || (has_choice name || (bytes_eq name (codes "edits") || bytes_eq name (codes "propose")))
+
+-- where a subcommand does, each layer, the first key, the choice, the dialect and the origin can be read, no script is asked for where there is none,
+-- records are to be skipped of one layer alone, and JSON isn't asked for where there is none
 abbrev pub is_readable : Option (Text × List Row) → Bool
 is_readable found = option_map_or (λ p. not (reads_values p.0) || is_some (asked_by_name p.0 p.1)) found true

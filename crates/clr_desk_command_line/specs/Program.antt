@@ -28,20 +28,34 @@ over_members name = with_rule (with_rule (database_command name) root) name_argu
 abbrev pub over_members_in_order : Text → App
 over_members_in_order name = with_rule (over_members name) (flag (codes "in-order"))
 
+-- the option by which an answer is printed as JSON
+abbrev pub json : Rule
+json = flag (codes "json")
+
+-- such a subcommand that may be asked for JSON
+abbrev pub over_members_as_json : Text → App
+over_members_as_json name = with_rule (over_members name) json
+
 abbrev pub certificate : App
 certificate = over_members_in_order (codes "certificate")
 
 abbrev pub format : App
 format = database_command (codes "format")
 
+abbrev pub check_as_json : App
+check_as_json = with_rule check json
+
+abbrev pub plan : App
+plan = over_members_as_json (codes "plan")
+
 abbrev pub keep : App
-keep = over_members_in_order (codes "keep")
+keep = with_rule (over_members_in_order (codes "keep")) json
 
 abbrev pub clashes : App
-clashes = over_members (codes "clashes")
+clashes = over_members_as_json (codes "clashes")
 
 abbrev pub order : App
-order = with_rule (over_members (codes "order")) (flag (codes "certificate"))
+order = with_rule (with_rule (over_members (codes "order")) (flag (codes "certificate"))) json
 
 -- the texts over an office of which one may be asked about
 abbrev pub why_of_texts : App
@@ -51,7 +65,7 @@ abbrev pub why : App
 why = with_rule why_of_texts round
 
 abbrev pub words : App
-words = over_members (codes "words")
+words = over_members_as_json (codes "words")
 
 abbrev pub map : App
 map = over_members (codes "map")
@@ -60,7 +74,7 @@ abbrev pub report : App
 report = over_members (codes "report")
 
 abbrev pub board : App
-board = over_members (codes "board")
+board = over_members_as_json (codes "board")
 
 -- the option with the name of a system of coordinates
 abbrev pub system : Rule
@@ -135,11 +149,11 @@ bare = demanding (codes "clr_desk")
 
 -- certificates, and offices that are printed
 unfoldable pub certificates : List Shape
-certificates = certificate.top ∷ check.top ∷ merge.top ∷ format.top ∷ []
+certificates = certificate.top ∷ check_as_json.top ∷ merge.top ∷ format.top ∷ []
 
 -- which members go together
 unfoldable pub choices : List Shape
-choices = keep.top ∷ clashes.top ∷ order.top ∷ []
+choices = plan.top ∷ keep.top ∷ clashes.top ∷ order.top ∷ []
 
 -- what is told in words
 unfoldable pub tellings : List Shape

@@ -98,9 +98,24 @@ pub enum OrderAsk {
     Keep,
 }
 
+/// What is asked for as JSON. Each is what the subcommand of that name prints without `--json`: of children of a root, which are the root and the children,
+/// or none for all, or of a certificate, which is the second text.
+#[derive(Debug, Drop)]
+pub enum JsonAsk {
+    Plan(Words, Names),
+    Check,
+    Keep(Words, Names),
+    Clashes(Words, Names),
+    Order(Words, Names),
+    WorkOrder(Words, Names),
+    Board(Words, Names),
+}
+
 /// What is asked of an office text, and of further texts where there are some.
 #[derive(Debug, Drop)]
 pub enum DeskAsk {
+    /// The lines of the plan of these children of a root: the root, and the children, or none for all.
+    Plan(Words, Names),
     /// The certificate of these children of a root, alone: the root, and the children, or none for all.
     Certificate(Words, Names),
     /// The verdict on a certificate; the second text is the certificate.
@@ -142,6 +157,8 @@ pub enum DeskAsk {
     Skipping(GeographicAsk, Words),
     /// What is asked for a database.
     Database(DatabaseAsk),
+    /// What is asked for as JSON.
+    Json(JsonAsk),
 }
 
 /// SQL for a database.

@@ -24,8 +24,8 @@ use crate::helps::{
     ABOUT, ACCEPT_PRINTS, BOARD_PRINTS, CERTIFICATE_PRINTS, CHECK_PRINTS, CLASHES_PRINTS,
     CUT_PRINTS, DESIGN_PRINTS, DESIGNS_PRINTS, EDITS_PRINTS, ERRORS_PRINTS, FORMAT_PRINTS,
     GEOJSON_PRINTS, KEEP_PRINTS, LAYER_PRINTS, MAP_PRINTS, MENDED_PRINTS, MERGE_PRINTS,
-    OFFICE_PRINTS, ORDER_PRINTS, PROPOSE_PRINTS, REACH_PRINTS, REPORT_PRINTS, STATUSES, WHY_PRINTS,
-    WORDS_PRINTS,
+    OFFICE_PRINTS, ORDER_PRINTS, PLAN_PRINTS, PROPOSE_PRINTS, REACH_PRINTS, REPORT_PRINTS,
+    STATUSES, WHY_PRINTS, WORDS_PRINTS,
 };
 use clap::Command;
 use clr_command_line::{
@@ -91,6 +91,8 @@ const ORIGIN: Argument<'static> = Argument::ValueOption(
     "Where the place (0, 0) of the office is, in whole metres [default: 0,0]",
 );
 
+const JSON: Argument<'static> = Argument::Flag("json", "Print the answer as one JSON value");
+
 /// The arguments of a subcommand over an office text and designs of a root.
 const OVER_MEMBERS: &[Argument<'static>] = &[DATABASE, ROOT, DESIGNS];
 
@@ -101,6 +103,9 @@ const IN_ORDER: Argument<'static> = Argument::Flag(
 
 /// The arguments of a subcommand over designs that may be asked to be merged in the order of their names.
 const OVER_MEMBERS_IN_ORDER: &[Argument<'static>] = &[DATABASE, ROOT, DESIGNS, IN_ORDER];
+
+/// The arguments of a subcommand over designs that may be asked for JSON.
+const OVER_MEMBERS_AS_JSON: &[Argument<'static>] = &[DATABASE, ROOT, DESIGNS, JSON];
 
 /// The program without its subcommands.
 const DESK: ProgramTable<'static> = ProgramTable {
@@ -123,7 +128,7 @@ const CERTIFICATES: &[Subcommand<'static>] = &[
         name: "check",
         about: "Says whether a certificate shows that its designs can be merged in every order",
         prints: CHECK_PRINTS,
-        arguments: &[DATABASE, CERTIFICATE],
+        arguments: &[DATABASE, CERTIFICATE, JSON],
     },
     Subcommand {
         name: "merge",
@@ -146,16 +151,22 @@ const CERTIFICATES: &[Subcommand<'static>] = &[
 /// The subcommands that say which designs go together.
 const CHOICES: &[Subcommand<'static>] = &[
     Subcommand {
+        name: "plan",
+        about: "Says whether designs can be merged in every order, in the lines of `clr_office plan`",
+        prints: PLAN_PRINTS,
+        arguments: OVER_MEMBERS_AS_JSON,
+    },
+    Subcommand {
         name: "keep",
         about: "Takes each design that can be merged with those taken before it, and prints their certificate",
         prints: KEEP_PRINTS,
-        arguments: OVER_MEMBERS_IN_ORDER,
+        arguments: &[DATABASE, ROOT, DESIGNS, IN_ORDER, JSON],
     },
     Subcommand {
         name: "clashes",
         about: "Lists the smallest sets of designs that can't be merged in every order, each with its cause",
         prints: CLASHES_PRINTS,
-        arguments: OVER_MEMBERS,
+        arguments: OVER_MEMBERS_AS_JSON,
     },
     Subcommand {
         name: "order",
@@ -166,6 +177,7 @@ const CHOICES: &[Subcommand<'static>] = &[
             ROOT,
             DESIGNS,
             Argument::Flag("certificate", "Print the certificate of the order"),
+            JSON,
         ],
     },
 ];
@@ -192,7 +204,7 @@ const TELLINGS: &[Subcommand<'static>] = &[
         name: "words",
         about: "Tells the plan of designs in sentences, and what would help",
         prints: WORDS_PRINTS,
-        arguments: OVER_MEMBERS,
+        arguments: OVER_MEMBERS_AS_JSON,
     },
 ];
 
@@ -214,7 +226,7 @@ const PICTURES: &[Subcommand<'static>] = &[
         name: "board",
         about: "Tells how all designs stand in one page, an HTML file with a small map of each",
         prints: BOARD_PRINTS,
-        arguments: OVER_MEMBERS,
+        arguments: OVER_MEMBERS_AS_JSON,
     },
 ];
 

@@ -23,11 +23,17 @@ fn database_complaint(alloc: Global, matches: &ArgMatches) -> Result<Option<Stri
     Ok(Some(text))
 }
 
-/// Returns what is wrong with the words of a subcommand: what `database_complaint` says, or else that a layer has no `=`, or else that a choice is neither
-/// yes nor no, that the script of a design is asked for that has none, that records of several layers are to be skipped, or else that the first key is none.
+/// Returns what is wrong with the words of a subcommand: what `database_complaint` says, or else that JSON is asked for where there is none, that a layer has
+/// no `=`, or else that a choice is neither yes nor no, that the script of a design is asked for that has none, that records of several layers are to be
+/// skipped, or else that the first key is none.
 pub(crate) fn complaint(alloc: Global, matches: &ArgMatches) -> Result<String, AllocError> {
     if let Some(text) = database_complaint(alloc, matches)? {
         return Ok(text);
+    }
+    if matches.get_str("json") == Some("true") {
+        return format!(in alloc;
+            "the argument '--json' cannot be used with '--in-order' or '--certificate': these print a certificate"
+        );
     }
     for word in matches.get_strs("TABLE=FILE").unwrap_or(&[]) {
         if !word.contains('=') {

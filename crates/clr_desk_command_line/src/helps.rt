@@ -20,7 +20,8 @@ Example:
 pub(crate) const CHECK_PRINTS: &str =
     "It prints `clear` where the designs that the certificate names can be merged in every order, and else the test
 that fails; and on standard error how many designs and needs the certificate has. The status is 0 where it prints
-`clear` of one design or more, and else 1; so it is 1 of a certificate that names no design, as an empty file is.
+`clear` of one design or more, and else 1; so it is 1 of a certificate that names no design, as an empty file is. With --json it prints the verdict and
+whom the certificate names as one JSON value.
 
 Example:
   clr_desk check office.json certificate.csv";
@@ -42,11 +43,21 @@ standard error the line that says so, with status 1.
 Example:
   clr_desk format office.json > lines.json";
 
+pub(crate) const PLAN_PRINTS: &str =
+    "It prints whether the designs can be merged in every order, as `clr_office plan` does: `cleared` with the certificate,
+or `blocked` with an order in which a merge is refused, and its cause. With --json it prints the same as one JSON value, with
+the rows and their places in millimetres. Without names it takes all children of the root. The status is 0 where the
+designs are cleared, and 1 where they aren't.
+
+Example:
+  clr_desk plan office.json Renewal Extension Bypass --json > plan.json";
+
 pub(crate) const KEEP_PRINTS: &str =
     "It goes through the names in their order, and takes each design that is cleared with those taken
 before it. It prints the certificate of those taken, and on standard error which they are, and for
 each design that is left the lines of its plan. With --in-order it takes each design that can be merged
-next behind those taken. Without names it goes through all children of the root in order of creation. The status is 0 where none is left, and 1 where one is.
+next behind those taken. Without names it goes through all children of the root in order of creation. The status is 0
+where none is left, and 1 where one is. With --json it prints all of this as one JSON value.
 
 Example:
   clr_desk keep office.json Renewal Extension Bypass > certificate.csv";
@@ -54,7 +65,8 @@ Example:
 pub(crate) const CLASHES_PRINTS: &str =
     "It prints the smallest sets of the designs that can't be merged in every order, each with its cause,
 and then the designs that are in none. Without names it looks at all children of the root. The status is
-0 where there is no such set, and 1 where there is one.
+0 where there is no such set, and 1 where there is one. With --json it prints them as one JSON value, with the rows of
+each cause and their places in millimetres.
 
 Example:
   clr_desk clashes office.json Renewal Extension Bypass";
@@ -64,7 +76,7 @@ pub(crate) const ORDER_PRINTS: &str =
 to go before another in it. With --certificate it prints the certificate of that order, ready for `clr_desk check`, and
 the lines on standard error. Where it finds no order it prints the designs that stand in the way, and the cause where it
 is one need. Without names it takes all children of the root. The status is 0 where an order is found, and 1 where none
-is.
+is. With --json it prints the order or why there is none as one JSON value.
 
 Example:
   clr_desk order office.json Renewal Extension Hydrants";
@@ -86,7 +98,8 @@ pub(crate) const WORDS_PRINTS: &str =
     "It prints the plan of the designs in sentences: whether they can be merged in every order, and if
 not, an order in which a merge is refused, the rule, the rows, and where they meet; then what would
 help, each tried, and in which order they can be merged, if any works. Without names it takes all
-children of the root. The status is 0 where the designs are cleared, and 1 where they aren't.
+children of the root. The status is 0 where the designs are cleared, and 1 where they aren't. With --json it prints one
+JSON value with the plan and these words.
 
 Example:
   clr_desk words office.json Renewal Extension Bypass";
@@ -113,7 +126,8 @@ pub(crate) const BOARD_PRINTS: &str =
     "It prints one HTML file that needs nothing beside it, about all designs at once: how each stands (it can go now,
 goes after others, clashes, is in conflict, or is refused alone), the clashes with their causes and what would help, who
 goes before whom, the old errors by rule, and each design with a small map. Without names it takes all children of the
-root. The status is 0 where all designs can go now, and 1 where they can't.
+root. The status is 0 where all designs can go now, and 1 where they can't. With --json it prints one JSON value with how
+each design stands, the clashes, and who goes before whom.
 
 Example:
   clr_desk board office.json > board.html";

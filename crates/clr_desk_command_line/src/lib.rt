@@ -3,7 +3,7 @@
 //! - `ask_of` [`asks`, `takes`]: what is asked, and the files, are what `clap`'s definition of a
 //!   simple command finds in the words. Words that the command takes, in which each layer, the first
 //!   key, the choice, the dialect and the origin can be read where a subcommand has them, are refused only where there is
-//!   no memory, but for the script of a design that has none, and for records of several layers that are to be skipped. Texts of
+//!   no memory, but for the script of a design that has none, for records of several layers that are to be skipped, and for JSON where there is none. Texts of
 //!   help, usage and refusals are tested only.
 #![tactic(auto)]
 
@@ -21,8 +21,8 @@ mod values;
 mod why_reading;
 
 pub use asks::{
-    Asked, DatabaseAsk, DesignAsk, DesignsAsk, DeskAsk, GeographicAsk, LayersAsk, OrderAsk,
-    ReachAsk, SqlAsk, TextKind,
+    Asked, DatabaseAsk, DesignAsk, DesignsAsk, DeskAsk, GeographicAsk, JsonAsk, LayersAsk,
+    OrderAsk, ReachAsk, SqlAsk, TextKind,
 };
 pub use clr_command_line::AskFault;
 pub use clr_sql::Dialect;

@@ -5,15 +5,18 @@
 //! - `answer_keep`: the certificate of the members taken, each of which is cleared with those taken before it, and as notes who they are and, of each
 //!   other, the plan that isn't cleared (`IsChoicePrint`).
 //! - `answer_in_order`: what is asked of members in an order (`IsInOrderPrint`), by `clr_desk_orders`.
+//! - `answer_plan`: the lines of the plan of members, as `clr_office` prints them (`ArePlanLines`).
 //! - `answer_work_order`: a work order that ends with the lines of the plan (`IsOrderPrint`).
 #![tactic(auto)]
 
 mod certificates;
 mod choices;
 mod in_order;
+mod lines;
 mod orders;
 
 pub use certificates::answer_certificate;
 pub use choices::answer_keep;
 pub use in_order::answer_in_order;
+pub use lines::answer_plan;
 pub use orders::answer_work_order;

@@ -1,0 +1,10 @@
+//! The board of designs as JSON, for programs.
+//!
+//! - `board_json`: each design with how it stands, what it changes, who helps it and who goes before it; each clash with its cause and those that help it; and
+//!   what is said of the orders of those that go (`IsBoardData`). Want of memory is the only refusal.
+#![tactic(auto)]
+
+mod boards;
+mod designs;
+
+pub use boards::board_json;
