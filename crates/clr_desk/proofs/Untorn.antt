@@ -118,7 +118,7 @@ module _ (office second : List ℕ) (layers : List GivenLayer) (designs : List L
   untorn (ask.Why kind) h = search rules
   untorn (ask.WhyLayers asked) h = untorn_layers asked office layers (draft_in office) h
   untorn (ask.Map root names) h = search rules
-  untorn (ask.Report root names) h = search rules
+  untorn (ask.Report root names source) h = search rules
   untorn (ask.Board root names) h = search rules
   untorn (ask.WorkOrder root names) h = search rules
   untorn (ask.Geographic asked) h = untorn_geographic asked h

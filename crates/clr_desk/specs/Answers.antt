@@ -33,6 +33,7 @@ use Rattle.clr_desk_error_lists.specs.ErrorLines.{IsErrorsPrint}
 use Rattle.clr_desk_errors.specs.Mended.{IsMendedPrint}
 use Rattle.clr_desk_pages.specs.Maps.{IsMapPrint}
 use Rattle.clr_desk_pages.specs.Reports.{IsReportPrint}
+use Rattle.clr_sources.specs.Sources.{source_text}
 
 -- what is to be printed for what is asked of an office text, a second text, layers and designs
 abbrev pub IsDeskAnswerWithin : DeskAsk → List ℕ → List ℕ → List GivenLayer → List LayeredDesign → PrintoutOrFault → Type 0
@@ -54,8 +55,8 @@ IsDeskAnswerWithin (ask.InOrder asked root names) office second layers designs p
 IsDeskAnswerWithin (ask.Why kind) office second layers designs print = IsWhyPrint kind office second print
 IsDeskAnswerWithin (ask.Map root names) office second layers designs print =
     IsPrintoutIn (IsHinted (IsMapPrint root names) (root ∷ names)) (opened_in office) print
-IsDeskAnswerWithin (ask.Report root names) office second layers designs print =
-    IsPrintoutIn (IsHinted (IsReportPrint root names) (root ∷ names)) (opened_in office) print
+IsDeskAnswerWithin (ask.Report root names source) office second layers designs print =
+    IsPrintoutIn (IsHinted (IsReportPrint (source_text source.as_of source.file office) root names) (root ∷ names)) (opened_in office) print
 IsDeskAnswerWithin (ask.Board root names) office second layers designs print =
     IsPrintoutIn (IsHinted (IsBoardPrint root names) (root ∷ names)) (opened_in office) print
 IsDeskAnswerWithin (ask.WorkOrder root names) office second layers designs print =

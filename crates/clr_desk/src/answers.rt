@@ -71,11 +71,13 @@ fn answer_texts(
         DeskAsk::Skipping(ask, _) => answer_geographic(alloc, ask, office, second, layers, designs),
         DeskAsk::Database(ask) => answer_database(alloc, ask, office, second),
         DeskAsk::Map(root, names) => answer_map(alloc, office, root.as_str(), names.as_slice()),
-        DeskAsk::Report(root, names) => answer_report(
+        DeskAsk::Report(root, names, source) => answer_report(
             alloc,
             office,
             root.as_str(),
             names.as_slice(),
+            source.as_of.as_ref(),
+            source.file.as_str(),
         ),
         DeskAsk::Board(root, names) => answer_board(alloc, office, root.as_str(), names.as_slice()),
         DeskAsk::WorkOrder(root, names) => {

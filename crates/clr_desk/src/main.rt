@@ -39,6 +39,8 @@
 //!   (`IsSplitOver`). That the first is given to `answer`, and the text goes into the file, no contract says.
 //! - `texts_have_one_answer` [`answer`]: memory aside, what is asked has one answer alone, but for what the definitions of clashes, of orders, of faults,
 //!   and of sentences, pictures, pages, features, layers and errors leave open.
+//! - `clr_desk_nights: night`, of `night`: what goes into the files of a folder, and the notes and the line, are what `IsNight` of that crate says.
+//!   `run_night` writes them, and the points below don't speak of it.
 //! - `answer_reach`, of `reach`: what goes to both sinks is what `IsReachAnswer` of `clr_desk_cuts` says. It is written as the table is read, so the
 //!   two points below don't speak of it.
 //! - [`silent`]: with status 3 nothing went to the sink of the text.
@@ -66,10 +68,13 @@ use crate::given_layers::take_layers;
 use crate::layer_faults::{degrees_of_layers, faults_of_layers};
 use crate::skipped_files::{begin_file, drop_file, end_file};
 use crate::skipped_layers::split_given;
-use clr_design_folders::{FolderDesigns, FolderFault, read_designs, unfit_remark};
-use clr_desk_command_line::{AskFault, Asked, DeskAsk, GeographicAsk, ReachAsk, ask_of};
+use clr_design_folders::{
+    FolderDesigns, FolderFault, read_designs, read_readable_designs, unfit_remark,
+};
+use clr_desk_command_line::{AskFault, Asked, DeskAsk, GeographicAsk, NightAsk, ReachAsk, ask_of};
 use clr_desk_cuts::{Aim, ReachOptions, answer_reach};
 use clr_desk_layers::GivenLayer;
+use clr_night_folders::run_night;
 use clr_office::{Port, RunFault, Sink, Words};
 use clr_process_io::{
     BAD_WORDS, end_run, file_name, print_fault, print_parser_message, put_input_remark, read_files,
@@ -337,6 +342,24 @@ fn answer_files(rt: &HostRuntime, ask: &DeskAsk, files: &[Words]) -> Result<u8, 
     answer_given(rt, ask, &given)
 }
 
+/// Does a night's work over files and a folder, and gives the exit status.
+fn answer_night(rt: &HostRuntime, ask: &NightAsk, files: &[Words]) -> Result<u8, RunFault> {
+    let texts = match read_files(rt, files) {
+        Ok(texts) => texts,
+        Err(refused) => return Ok(refuse_file(rt, file_name(files, refused.file), refused.fault)),
+    };
+    let read = match read_readable_designs(rt, ask.designs.folder.as_str()) {
+        Ok(read) => read,
+        Err(fault) => return Ok(refuse_folder(rt, fault)),
+    };
+    let (office, second) = (text_at(&texts, 0), text_at(&texts, 1));
+    let copied = if files.len() > 1 { Some(second) } else { None };
+    match run_night(rt, ask, office, copied, &read) {
+        Ok(status) => Ok(status),
+        Err(fault) => Ok(refuse_texts(rt, fault, files, office, second)),
+    }
+}
+
 /// Prints what the parser of the command line says, and behind a version from what the program was built; and gives the exit status.
 fn print_message(rt: &HostRuntime, error: &clap::Error) -> u8 {
     let status = print_parser_message(rt, error);
@@ -357,6 +380,7 @@ fn run_words(rt: &HostRuntime, words: &[String]) -> Result<u8, RunFault> {
     match asked {
         Asked::OfTexts(ask) => answer_files(rt, &ask, files.as_slice()),
         Asked::Reach(ask) => answer_stream(rt, &ask, files.as_slice()),
+        Asked::Night(ask) => answer_night(rt, &ask, files.as_slice()),
     }
 }
 

@@ -10,7 +10,7 @@ use Rattle.clr_rows.specs.Schemas.{is_key}
 use Rattle.clr_records.specs.Decimals.{number_of}
 use Rattle.clr_command_line.specs.Asks.{database_and, database_of, given_names, given_value, is_set}
 use Rattle.clr_desk_command_line.specs.declared.asks.Asked.{Asked}
-use Rattle.clr_desk_command_line.specs.declared.asks.Asked.TheVariants.{OfTexts, Reach}
+use Rattle.clr_desk_command_line.specs.declared.asks.Asked.TheVariants.{Night, OfTexts, Reach}
 use Rattle.clr_desk_command_line.specs.declared.asks.DeskAsk.{DeskAsk}
 use Rattle.clr_desk_command_line.specs.declared.asks.DeskAsk.TheVariants.{Certificate, Check, Merge, Format, Accept, Mended, Errors, Keep, Clashes, Why}
 use Rattle.clr_desk_command_line.specs.declared.asks.DeskAsk.TheVariants.{Board, Database, Geographic, InOrder, Map, Report, Skipping, WhyLayers, WorkOrder}
@@ -23,6 +23,7 @@ use Rattle.clr_desk_command_line.specs.declared.asks.GeographicAsk.TheVariants.{
 use Rattle.clr_desk_command_line.specs.declared.asks.GeographicAsk.TheVariants.{DesignAgain, DesignAnew, DesignAgainScript, Designs, DesignsSince}
 use Rattle.clr_desk_command_line.specs.declared.asks.OrderAsk.{OrderAsk}
 use Rattle.clr_desk_command_line.specs.declared.asks.OrderAsk.TheVariants as order
+use Rattle.clr_desk_command_line.specs.declared.asks.SourceAsk.{SourceAsk}
 use Rattle.clr_desk_command_line.specs.declared.asks.TextKind.TheVariants as kind
 use Rattle.clr_desk_command_line.specs.Databases.{database_asked}
 
@@ -65,26 +66,30 @@ abbrev pub order_ask : (is_certificate : Bool) → OrderAsk
 order_ask true = order.OrderCertificate
 order_ask false = order.Order
 
--- the plan of members of a root in words, as a picture or as a page, or how they all stand
-unfoldable pub pictures_ask : Text → Text → List Text → Option DeskAsk
-pictures_ask name root names =
+-- what a report says of its data
+abbrev pub source_of : List Row → SourceAsk
+source_of rows = record { as_of = first_of (codes "as-of") rows; file = given_or [] (codes "DB") rows }
+
+-- the plan of members of a root in words, as a picture or as a page that says this of its data, or how they all stand
+unfoldable pub pictures_ask : Text → SourceAsk → Text → List Text → Option DeskAsk
+pictures_ask name source root names =
     if bytes_eq name (codes "words") then Some (WorkOrder root names)
     else (if bytes_eq name (codes "map") then Some (Map root names)
-    else (if bytes_eq name (codes "report") then Some (Report root names)
+    else (if bytes_eq name (codes "report") then Some (Report root names source)
     else (if bytes_eq name (codes "board") then Some (Board root names)
     else None)))
 
 -- what is asked of members of a root
-unfoldable pub members_ask : Text → List Row → Text → List Text → Option DeskAsk
-members_ask name rows root names =
+unfoldable pub members_ask : Text → List Row → SourceAsk → Text → List Text → Option DeskAsk
+members_ask name rows source root names =
     if bytes_eq name (codes "certificate") then Some (certificate_ask (is_set (codes "in-order") rows) root names)
     else (if bytes_eq name (codes "keep") then Some (keep_ask (is_set (codes "in-order") rows) root names)
     else (if bytes_eq name (codes "clashes") then Some (Clashes root names)
     else (if bytes_eq name (codes "order") then Some (InOrder (order_ask (is_set (codes "certificate") rows)) root names)
-    else pictures_ask name root names)))
+    else pictures_ask name source root names)))
 
 abbrev pub members_asked : Text → List Row → Option (DeskAsk × List Text)
-members_asked name rows = option_map (λ asked. (asked, database_of rows)) (members_ask name rows (given_root rows) (given_names rows))
+members_asked name rows = option_map (λ asked. (asked, database_of rows)) (members_ask name rows (source_of rows) (given_root rows) (given_names rows))
 
 abbrev pub merge_ask : List Row → DeskAsk × List Text
 merge_ask rows = (Merge (given_names rows), database_and (codes "CERT") rows)
@@ -310,9 +315,21 @@ reach_of rows = (
 abbrev pub of_texts : Option (DeskAsk × List Text) → Option (Asked × List Text)
 of_texts asked = option_map (λ p. (OfTexts p.0, p.1)) asked
 
--- what a subcommand asks for, of texts or of a stream, and its files
+-- the designs of a folder that a night brings, and the new folder; and the files of the offices
+abbrev pub night_of : List Row → ℕ → Bool → Asked × List Text
+night_of rows first_key may_remove =
+    (Night (record { designs = designs_in rows first_key may_remove; out = given_value (codes "OUT") rows }), offices_of_design rows)
+
+-- what `night` asks for, and its files, if the first key and the choice can be read
+abbrev pub night_ask : List Row → Option (Asked × List Text)
+night_ask rows =
+    option_and_then (λ first_key. option_map (λ may_remove. night_of rows first_key may_remove) (may_remove_of rows)) (first_key_of rows)
+
+-- what a subcommand asks for, of texts, of a stream or of a folder, and its files
 unfoldable pub asked_by_name : Text → List Row → Option (Asked × List Text)
-asked_by_name name rows = if bytes_eq name (codes "reach") then Some (reach_of rows) else of_texts (ask_by_name name rows)
+asked_by_name name rows =
+    if bytes_eq name (codes "reach") then Some (reach_of rows)
+    else (if bytes_eq name (codes "night") then night_ask rows else of_texts (ask_by_name name rows))
 
 -- what the subcommand that words name asks for, if they name one
 abbrev pub ask_of : Option (Text × List Row) → Option (Asked × List Text)
@@ -322,7 +339,7 @@ ask_of found = option_and_then (λ p. asked_by_name p.0 p.1) found
 abbrev pub reads_layers : Text → Bool
 reads_layers name =
     (bytes_eq name (codes "office") || bytes_eq name (codes "design"))
-    || (bytes_eq name (codes "designs") || (bytes_eq name (codes "why") || bytes_eq name (codes "cut")))
+    || (bytes_eq name (codes "designs") || (bytes_eq name (codes "why") || (bytes_eq name (codes "cut") || bytes_eq name (codes "night"))))
 
 -- a subcommand reads more of its values than clap does: it reads layers, or the dialect and the origin of a database
 abbrev pub reads_values : Text → Bool

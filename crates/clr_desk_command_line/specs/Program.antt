@@ -57,7 +57,7 @@ abbrev pub map : App
 map = over_members (codes "map")
 
 abbrev pub report : App
-report = over_members (codes "report")
+report = with_rule (over_members (codes "report")) (option (codes "as-of"))
 
 abbrev pub board : App
 board = over_members (codes "board")
@@ -96,6 +96,13 @@ designs_from = with_rule (with_rule (database_command (codes "designs")) (value 
 
 abbrev pub designs : App
 designs = with_rule (with_rule (with_rule designs_from (option (codes "removes"))) (option (codes "keys"))) round
+
+-- the folder of the designs that a night brings, the new folder, and what the designs are differences to
+abbrev pub night_from : App
+night_from = with_rule (with_rule (with_rule (database_command (codes "night")) (value (codes "FOLDER"))) (value (codes "OUT"))) (option (codes "base"))
+
+abbrev pub night : App
+night = with_rule (with_rule (with_rule night_from (option (codes "removes"))) (option (codes "keys"))) round
 
 abbrev pub errors : App
 errors = with_rule (with_rule (database_command (codes "errors")) (flag (codes "geojson"))) system
@@ -155,7 +162,7 @@ exports = geojson.top ∷ layer.top ∷ []
 
 -- networks and designs from layers
 unfoldable pub imports : List Shape
-imports = office.top ∷ design.top ∷ designs.top ∷ []
+imports = office.top ∷ design.top ∷ designs.top ∷ night.top ∷ []
 
 -- old errors
 unfoldable pub old_errors : List Shape

@@ -98,6 +98,15 @@ pub enum OrderAsk {
     Keep,
 }
 
+/// What a report says of its data.
+#[derive(Debug, Drop)]
+pub struct SourceAsk {
+    /// Of when they are, as it was given.
+    pub as_of: Option<Words>,
+    /// The name of the file of the office text.
+    pub file: Words,
+}
+
 /// What is asked of an office text, and of further texts where there are some.
 #[derive(Debug, Drop)]
 pub enum DeskAsk {
@@ -132,8 +141,8 @@ pub enum DeskAsk {
     WorkOrder(Words, Names),
     /// The plan of these children of a root as a picture: the root, and the children, or none for all.
     Map(Words, Names),
-    /// The plan of these children of a root as a page with its picture: the root, and the children, or none for all.
-    Report(Words, Names),
+    /// The plan of these children of a root as a page with its picture: the root, and the children, or none for all, and what the page says of its data.
+    Report(Words, Names, SourceAsk),
     /// These children of a root, each with how it stands to the others, on one page: the root, and the children, or none for all.
     Board(Words, Names),
     /// What is asked in the texts of geographic information systems.
@@ -177,10 +186,20 @@ pub struct ReachAsk {
     pub is_rounded: bool,
 }
 
-/// What is asked: of texts alone, or of an office text and a stream.
+/// The designs of a folder, which are brought, planned and told in a new folder.
+#[derive(Debug, Drop)]
+pub struct NightAsk {
+    pub designs: DesignsAsk,
+    /// The name of the new folder.
+    pub out: Words,
+}
+
+/// What is asked: of texts alone, of an office text and a stream, or of an office text and a folder.
 #[derive(Debug, Drop)]
 pub enum Asked {
     OfTexts(DeskAsk),
     /// Which rows of a table, that is read from a stream, a cut lacks; the office text is the cut.
     Reach(ReachAsk),
+    /// What a night does with the designs of a folder; a second office text, if there is one, is that from which their layers were copied.
+    Night(NightAsk),
 }

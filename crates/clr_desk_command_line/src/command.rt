@@ -24,8 +24,8 @@ use crate::helps::{
     ABOUT, ACCEPT_PRINTS, BOARD_PRINTS, CERTIFICATE_PRINTS, CHECK_PRINTS, CLASHES_PRINTS,
     CUT_PRINTS, DESIGN_PRINTS, DESIGNS_PRINTS, EDITS_PRINTS, ERRORS_PRINTS, FORMAT_PRINTS,
     GEOJSON_PRINTS, KEEP_PRINTS, LAYER_PRINTS, MAP_PRINTS, MENDED_PRINTS, MERGE_PRINTS,
-    OFFICE_PRINTS, ORDER_PRINTS, PROPOSE_PRINTS, REACH_PRINTS, REPORT_PRINTS, STATUSES, WHY_PRINTS,
-    WORDS_PRINTS,
+    NIGHT_PRINTS, OFFICE_PRINTS, ORDER_PRINTS, PROPOSE_PRINTS, REACH_PRINTS, REPORT_PRINTS,
+    STATUSES, WHY_PRINTS, WORDS_PRINTS,
 };
 use clap::Command;
 use clr_command_line::{
@@ -89,6 +89,12 @@ const ORIGIN: Argument<'static> = Argument::ValueOption(
     "origin",
     "X,Y",
     "Where the place (0, 0) of the office is, in whole metres [default: 0,0]",
+);
+
+const AS_OF: Argument<'static> = Argument::ValueOption(
+    "as-of",
+    "TEXT",
+    "Of when the data are, as the page is to say",
 );
 
 /// The arguments of a subcommand over an office text and designs of a root.
@@ -208,7 +214,7 @@ const PICTURES: &[Subcommand<'static>] = &[
         name: "report",
         about: "Tells the plan of designs in one page, an HTML file with its picture",
         prints: REPORT_PRINTS,
-        arguments: OVER_MEMBERS,
+        arguments: &[DATABASE, ROOT, DESIGNS, AS_OF],
     },
     Subcommand {
         name: "board",
@@ -292,6 +298,23 @@ const IMPORTS: &[Subcommand<'static>] = &[
                 "FOLDER",
                 "A folder with one folder for each design, in which each file TABLE.csv is a layer",
             ),
+            COPIED,
+            REMOVES,
+            LEAST_KEY,
+            ROUND,
+        ],
+    },
+    Subcommand {
+        name: "night",
+        about: "Brings the designs of a folder, plans them all, and writes what comes of it into a new folder",
+        prints: NIGHT_PRINTS,
+        arguments: &[
+            DATABASE,
+            Argument::Value(
+                "FOLDER",
+                "A folder with one folder for each design, in which each file TABLE.csv is a layer",
+            ),
+            Argument::Value("OUT", "The folder to make, which mustn't be there"),
             COPIED,
             REMOVES,
             LEAST_KEY,

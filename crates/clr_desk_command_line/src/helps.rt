@@ -101,13 +101,13 @@ Example:
   clr_desk map office.json Renewal Extension Bypass > plan.svg";
 
 pub(crate) const REPORT_PRINTS: &str =
-    "It prints one HTML file that needs nothing beside it: the picture of the plan, why the designs can't be merged
-in every order and what would help, the designs with their rows, their clashes, the certificate, and the lines of
-`clr_office plan`. Without names it takes all children of the root. The status is 0 where the designs are cleared,
-and 1 where they aren't.
+    "It prints one HTML file that needs nothing beside it: of when the data are, as TEXT says, their file and its SHA-256
+digest, the picture of the plan, why the designs can't be merged in every order and what would help, or what serves the
+needs that they touch, the designs with their rows, their clashes, and the lines of `clr_office plan`. Without names it
+takes all children of the root. The status is 0 where the designs are cleared, and 1 where they aren't.
 
 Example:
-  clr_desk report office.json Renewal Extension Bypass > plan.html";
+  clr_desk report office.json Renewal Extension Bypass --as-of '2 March 2026' > plan.html";
 
 pub(crate) const BOARD_PRINTS: &str =
     "It prints one HTML file that needs nothing beside it, about all designs at once: how each stands (it can go now,
@@ -172,6 +172,17 @@ read or a design can't be made it prints nothing, and on standard error the line
 
 Example:
   clr_desk designs office.json designs --base copied.json > with_designs.json";
+
+pub(crate) const NIGHT_PRINTS: &str =
+    "It does a night's work at once: it makes the designs of the folder as `clr_desk designs` does, plans all designs of the
+office, and writes the folder OUT, whole or not at all: board.html; plan.txt; certificate.csv and kept.txt, which are
+what `clr_desk keep` prints; words/clash_N.txt, a work order for clash N of the board, of the first 400; and
+office.json, the office that all of this is said of. A design that can't be read or made is left out, and the board
+says why. It prints how many designs can go now. The status is 0 where all can and none is left out, 1 where not, and 2
+where something can't be read or written.
+
+Example:
+  clr_desk night live.json designs nights/2026-03-02";
 
 pub(crate) const ERRORS_PRINTS: &str =
     "It prints each need that is broken in LIVE: whether it is known, the rule, the rows, and the place; with --geojson

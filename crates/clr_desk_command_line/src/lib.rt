@@ -15,14 +15,15 @@ mod design_reading;
 mod helps;
 mod layer_reading;
 mod named_layers;
+mod night_reading;
 mod origins;
 mod reading;
 mod values;
 mod why_reading;
 
 pub use asks::{
-    Asked, DatabaseAsk, DesignAsk, DesignsAsk, DeskAsk, GeographicAsk, LayersAsk, OrderAsk,
-    ReachAsk, SqlAsk, TextKind,
+    Asked, DatabaseAsk, DesignAsk, DesignsAsk, DeskAsk, GeographicAsk, LayersAsk, NightAsk,
+    OrderAsk, ReachAsk, SourceAsk, SqlAsk, TextKind,
 };
 pub use clr_command_line::AskFault;
 pub use clr_sql::Dialect;

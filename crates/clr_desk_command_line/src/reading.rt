@@ -25,6 +25,7 @@ ghost use Rattle.clr_desk_command_line.specs.Asks.{
   or_texts_asked,
   pictures_ask,
   reach_of,
+  source_of,
 };
 ghost use Rattle.clr_desk_command_line.specs.Databases.{database_asked};
 ghost use Rattle.clr_desk_command_line.specs.Program.{program};
@@ -32,11 +33,12 @@ ghost use Rattle.clr_desk_command_line.specs.declared.asks.DeskAsk.{DeskAsk};
 ghost use Rattle.clr_desk_command_line.specs.declared.asks.DeskAsk.TheVariants.{Errors, Geographic};
 ghost use Rattle.clr_desk_command_line.specs.declared.asks.GeographicAsk.TheVariants.{ErrorFeatures};
 
-use crate::asks::{Asked, DeskAsk, GeographicAsk, OrderAsk, ReachAsk};
+use crate::asks::{Asked, DeskAsk, GeographicAsk, OrderAsk, ReachAsk, SourceAsk};
 use crate::command::whole_command;
 use crate::complaints::complaint;
 use crate::database_reading::database_ask;
 use crate::layer_reading::geographic_ask;
+use crate::night_reading::night;
 use crate::values::{given_or, given_value, root};
 use crate::why_reading::{AskAndFiles, why};
 use clap::ArgMatches;
@@ -81,15 +83,26 @@ fn order_ask(is_certificate: bool) -> OrderAsk
     }
 }
 
-/// Returns the plan of members of a root in words, as a picture or as a page, or how they all stand, if a subcommand of this name asks it.
+/// Returns what a report says of its data.
+fn source(alloc: Global, matches: &ArgMatches) -> Result<SourceAsk, AllocError>
+    ensures { IfOk result (λ source. source ≡ source_of (rows_of (found_of matches.now))) }
+{
+    Ok(SourceAsk {
+        as_of: given_value(alloc, matches, "as-of")?,
+        file: given_or(alloc, matches, "DB", "")?,
+    })
+}
+
+/// Returns the plan of members of a root in words, as a picture or as a page that says this of its data, or how they all stand, if a subcommand of this
+/// name asks it.
 #[tactic(auto, unfolding(crate::specs::Asks::pictures_ask))]
-fn pictures_ask(name: &str, root: Words, names: Names) -> Option<DeskAsk>
-    ensures { result ≡ pictures_ask name.now root names }
+fn pictures_ask(name: &str, source: SourceAsk, root: Words, names: Names) -> Option<DeskAsk>
+    ensures { result ≡ pictures_ask name.now source root names }
 {
     match name {
         "words" => Some(DeskAsk::WorkOrder(root, names)),
         "map" => Some(DeskAsk::Map(root, names)),
-        "report" => Some(DeskAsk::Report(root, names)),
+        "report" => Some(DeskAsk::Report(root, names, source)),
         "board" => Some(DeskAsk::Board(root, names)),
         _ => None,
     }
@@ -97,15 +110,21 @@ fn pictures_ask(name: &str, root: Words, names: Names) -> Option<DeskAsk>
 
 /// Returns what is asked of members of a root, if a subcommand of this name asks it.
 #[tactic(auto, unfolding(crate::specs::Asks::members_ask))]
-fn members_ask(name: &str, matches: &ArgMatches, root: Words, names: Names) -> Option<DeskAsk>
-    ensures { result ≡ members_ask name.now (rows_of (found_of matches.now)) root names }
+fn members_ask(
+    name: &str,
+    matches: &ArgMatches,
+    source: SourceAsk,
+    root: Words,
+    names: Names,
+) -> Option<DeskAsk>
+    ensures { result ≡ members_ask name.now (rows_of (found_of matches.now)) source root names }
 {
     match name {
         "certificate" => Some(certificate_ask(is_set(matches, "in-order"), root, names)),
         "keep" => Some(keep_ask(is_set(matches, "in-order"), root, names)),
         "clashes" => Some(DeskAsk::Clashes(root, names)),
         "order" => Some(DeskAsk::InOrder(order_ask(is_set(matches, "certificate")), root, names)),
-        _ => pictures_ask(name, root, names),
+        _ => pictures_ask(name, source, root, names),
     }
 }
 
@@ -120,7 +139,8 @@ fn over_members(
 {
     let root = root(alloc, matches)?;
     let names = names(alloc, matches)?;
-    match members_ask(name, matches, root, names) {
+    let source = source(alloc, matches)?;
+    match members_ask(name, matches, source, root, names) {
         Some(ask) => Ok(Some((ask, database(alloc, matches)?))),
         None => Ok(None),
     }
@@ -289,7 +309,7 @@ fn of_texts(
     }
 }
 
-/// Returns what a subcommand asks for of texts or of a stream, and its files, or nothing where no subcommand has the name, or where its layers or
+/// Returns what a subcommand asks for of texts, of a stream or of a folder, and its files, or nothing where no subcommand has the name, or where its layers or
 /// its first key can't be read.
 #[tactic(auto, unfolding(crate::specs::Asks::asked_by_name))]
 fn asked_of_subcommand(
@@ -301,6 +321,7 @@ fn asked_of_subcommand(
 {
     match name {
         "reach" => Ok(Some(reach(alloc, matches)?)),
+        "night" => night(alloc, matches),
         _ => of_texts(alloc, name, matches),
     }
 }
@@ -319,15 +340,16 @@ fn refusal(alloc: Global, matches: &ArgMatches) -> Result<AskFault, AllocError> 
 /// [--certificate FILE] [--round]`, `certificate`, `keep`, `clashes`, `order`, `words`, `map`, `report` and `board`, each with `DB [--under ROOT] NAME..`, of
 /// which `certificate` and `keep` take `--in-order` and `order` takes `--certificate`, `geojson DB [--under ROOT] [--crs SYSTEM] NAME..`, `layer DB TABLE [--in
 /// WORKSPACE]`, `office SCHEMA TABLE=FILE.. [--round] [--accept] [--skip BAD]`, `design DB NAME TABLE=FILE.. [--base COPIED] [--removes CHOICE] [--again]
-/// [--script] [--keys N] [--round]`, `designs DB FOLDER [--base COPIED] [--removes CHOICE] [--keys N] [--round]`, whose designs aren't among the files,
-/// `reach CUT TABLE NAME.. [--groups] [--round]`, which reads the table from a stream, `cut OFFICE TABLE=FILE.. [--round]`, and `propose OFFICE` and `edits OLD
-/// NEW`, both with `[--sql DIALECT] [--crs SYSTEM] [--origin X,Y]`. There are none or more names, and one or more layers, but for `why` none or more. The root,
-/// and the workspace of a layer, is LIVE where none is given; N is 1, CHOICE is `yes`, the origin is (0, 0), and `propose` is for `postgis`.
+/// [--script] [--keys N] [--round]`, `designs DB FOLDER` and `night DB FOLDER OUT`, both with `[--base COPIED] [--removes CHOICE] [--keys N] [--round]`, whose
+/// designs aren't among the files, `reach CUT TABLE NAME.. [--groups] [--round]`, which reads the table from a stream, `cut OFFICE TABLE=FILE.. [--round]`, and
+/// `propose OFFICE` and `edits OLD NEW`, both with `[--sql DIALECT] [--crs SYSTEM] [--origin X,Y]`. There are none or more names, and one or more layers, but
+/// for `why` none or more. The root, and the workspace of a layer, is LIVE where none is given; N is 1, CHOICE is `yes`, the origin is (0, 0), and `propose` is
+/// for `postgis`.
 ///
 /// Fails with `Refused` where the words name no subcommand or another count of values than it has, where a layer has no `=`, N is no key, CHOICE is neither
 /// `yes` nor `no`, both COPIED and a script are asked for, or both BAD and several layers are given; where DIALECT is neither `postgis` nor `spatialite`, or X
-/// or Y is no whole number of metres of at most `MOST_ORIGIN_METRES`; or where they ask for help, as `help`, `--help` and `-h`, or for the version, as `--version`
-/// and `-V`; and with `OutOfMemory` for want of memory, which may come in place of any other answer.
+/// or Y is no whole number of metres of at most `MOST_ORIGIN_METRES`; or where they ask for help, as `help`, `--help` and `-h`, or for the version, as
+/// `--version` and `-V`; and with `OutOfMemory` for want of memory, which may come in place of any other answer.
 pub fn ask_of<'a>(alloc: Global, words: &'a [&'a str]) -> Result<(Asked, Vec<Words>), AskFault>
     ensures asks { IfOk result (λ r. ask_of (subcommand_of program (map (λ s. s.now) words.entry.now)) ≡ Some (r.0, r.1.items)) }
     ensures takes { takes program (map (λ s. s.now) words.entry.now) ≡ true

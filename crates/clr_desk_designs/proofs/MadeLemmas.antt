@@ -15,6 +15,7 @@ pub content_made : (taken : Content) (options : LayerOptions) (may_remove : Bool
     → IsContentMade may_remove o design.name content made left → IsDesignMade taken options may_remove o design made left
 content_made taken options may_remove o design content wanted (Made notes) left (kept, free, is, note) =
     (content, record { wanted = wanted; kept = kept; free = free }, is, note)
-content_made taken options may_remove o design content wanted (Refused print) left (by_removal cell removed is) = of_removed content cell wanted removed is
-content_made taken options may_remove o design content wanted (Refused print) left (by_reply reply kept refused is) =
-    of_reply content reply wanted kept refused is
+content_made taken options may_remove o design content wanted (Refused print) left (by_removal cell removed is, same) =
+    (of_removed content cell wanted removed is, same)
+content_made taken options may_remove o design content wanted (Refused print) left (by_reply reply kept refused is, same) =
+    (of_reply content reply wanted kept refused is, same)

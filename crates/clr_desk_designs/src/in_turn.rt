@@ -14,7 +14,7 @@ use clr_layer_changes::{LayerOptions, edits_between, wanted_content};
 use clr_rows::Sheet;
 use std::alloc::{AllocError, Global};
 
-/// Makes the design that has a content, and returns how much it changes, or why it can't be made.
+/// Makes the design that has a content, and returns how much it changes, or why it can't be made; then the office is as it was.
 fn make_content(
     alloc: Global,
     office: &mut Office,
@@ -40,8 +40,8 @@ fn make_content(
     Ok(MadeDesigns::Made(note))
 }
 
-/// Makes a design of layers, and returns how much it changes, or why it can't be made.
-fn make_layered(
+/// Makes a design of layers, and returns how much it changes, or why it can't be made; then the office is as it was.
+pub(crate) fn make_layered(
     alloc: Global,
     office: &mut Office,
     taken: &Sheet,

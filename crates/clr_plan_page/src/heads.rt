@@ -4,7 +4,8 @@ ghost use Rattle.std.specs.Prelude.{◌≡◌, ◌++◌, map, string_bytes, IfOk
 ghost use Rattle.clr_plan_page.specs.Reports.{about_text, head_shown, members_text, plan_tone};
 ghost use Rattle.clr_page_parts.specs.Shown.{section_shown};
 
-use clr_html::{Block, Section, Tone};
+use clr_html::{Block, InlineText, Section, Tone};
+use clr_page_parts::Builder;
 use clr_phrases::add_names;
 use clr_plan::Plan;
 use clr_plan_map::plan_word;
@@ -42,23 +43,26 @@ pub(crate) fn about(alloc: Global, root: &str, members: &[&str]) -> Result<Strin
     Ok(text)
 }
 
-/// Returns the first section of a report: the word for what the plan says, in its tone, what it is about, and a picture.
+/// Returns the first section of a report: the word for what the plan says, in its tone, what it is about, what is said of the data, and a picture.
 pub(crate) fn head_of(
     alloc: Global,
     plan: &Plan,
     about: &str,
+    source: &[u8],
     picture: Vec<u8>,
 ) -> Result<Section, AllocError>
-    ensures { IfOk result (λ section. section_shown section ≡ head_shown plan.now about.now picture.items) }
+    ensures { IfOk result (λ section. section_shown section ≡ head_shown plan.now about.now source.now picture.items) }
 {
     let word = Vec::from_slice(alloc, plan_word(plan).as_bytes())?;
     let about = Vec::from_slice(alloc, about.as_bytes())?;
-    let mut blocks = Vec::new(alloc);
-    blocks.push(Block::Verdict {
+    let source = Vec::from_slice(alloc, source)?;
+    let mut section = Builder::new(alloc);
+    section.add(Block::Verdict {
         tone: plan_tone(plan),
         word,
         about,
     })?;
-    blocks.push(Block::Picture(picture))?;
-    Ok(Section { blocks })
+    section.add(Block::Paragraph(InlineText::Soft(source)))?;
+    section.add(Block::Picture(picture))?;
+    Ok(section.into_section())
 }

@@ -1,4 +1,4 @@
-use Rattle.std.proofs.Common.{◌≡◌, List, Option, ap, subst, sym, ◌∙◌}
+use Rattle.std.proofs.Common.{◌≡◌, List, Option, ap, refl, subst, sym, ◌∙◌}
 use Rattle.clr_rows.specs.Contents.{Content}
 use Rattle.clr_rows.specs.declared.cells.CellId.{CellId}
 use Rattle.clr_change.specs.declared.edits.Edit.{Edit}
@@ -18,7 +18,7 @@ returns-in-Some c =
     let content = c.args.content.now in
     let edits = c.as_slice-edits.ensures ∙ c.in_ok-edits.ensures.edits ∙ ap (λ (m : Content). edits_between m content) c.live.ensures.value in
     let removed = sym (ap (removal_in c.args.may_remove) edits) ∙ sym c.removal_in.ensures ∙ c.in-Some.is in
-    by_removal c.in-Some.cell removed (c.in_ok-print.ensures ∙ ap (λ tables. removal_print tables c.in-Some.cell) c.schema.ensures.value)
+    (by_removal c.in-Some.cell removed (c.in_ok-print.ensures ∙ ap (λ tables. removal_print tables c.in-Some.cell) c.schema.ensures.value), refl)
 
 pub returns-in-Some-2 : goal.returns-in-Some-2
 returns-in-Some-2 c =
@@ -30,7 +30,7 @@ returns-in-Some-2 c =
     let kept = sym (ap (removal_in c.args.may_remove) edits) ∙ sym c.removal_in.ensures ∙ c.in_default.is in
     let made = subst (λ (refused : Option Reply). IsDesignMade o name content refused left) c.in-Some-2.is c.in_ok-reply.ensures.made in
     let schema = c.schema-in-Some-2.ensures.value ∙ ap (λ (next : Office). next.schema) made.1 in
-    by_reply c.in-Some-2.reply kept made.0 (c.in_ok-print-2.ensures ∙ ap (λ tables. refusal_print tables c.in-Some-2.reply) schema)
+    (by_reply c.in-Some-2.reply kept made.0 (c.in_ok-print-2.ensures ∙ ap (λ tables. refusal_print tables c.in-Some-2.reply) schema), made.1)
 
 pub returns : goal.returns
 returns c =

@@ -48,5 +48,7 @@ returns-in_ok-print-in-Err c =
     let read = c.in_ok-content.ensures.content
     ∙ ap (λ (ls : List GivenLayer). wanted_over c.schema.result.now c.live-live.result.now taken c.args.options ls) c.as_slice-layers.ensures.value in
     let wanted = wanted_in o o.live taken c.args.options design.layers.items c.schema.result.now c.live-live.result.now taken c.in_ok-content.field-0
-    (Err faulty) c.schema.ensures.value c.live-live.ensures.value refl read c.in-Err.is in
-    of_layer faulty wanted (c.in_ok-print-in-Err.ensures ∙ ap (λ (ls : List GivenLayer). faulty_layer_printout ls faulty) c.as_slice-layers.ensures.value)
+    (Err faulty) c.schema.ensures.value c.live-live.ensures.value refl read c.in-Err.is in (
+      of_layer faulty wanted (c.in_ok-print-in-Err.ensures ∙ ap (λ (ls : List GivenLayer). faulty_layer_printout ls faulty) c.as_slice-layers.ensures.value),
+      refl,
+    )
