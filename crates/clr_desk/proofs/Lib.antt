@@ -1,10 +1,13 @@
 mod CutMarkLemmas
+mod KeyedReportLemmas
 mod LayerReportLemmas
+mod NameLemmas
 mod OneAgain
 mod OneAnswer
 mod OneChoice
 mod OneCut
 mod OneDeskAnswer
+mod OneIds
 mod OnePrint
 mod PlaceLemmas
 mod Untorn

@@ -4,8 +4,10 @@ pub mod Databases
 pub mod FaultPlaces
 pub mod Geographic
 pub mod GivenLayers
+pub mod IdFaults
 pub mod LayerFaults
 pub mod LayerWhys
+pub mod Names
 pub mod OneAnswer
 pub mod SkippedLayers
 pub mod Whys

@@ -1,5 +1,5 @@
 -- Most of what is asked of texts is answered in one way alone, memory aside.
-use Rattle.std.specs.Prelude.{◌≡◌, ◌≢◌, ℕ, Bool, true, false, List, Ok, Err}
+use Rattle.std.specs.Prelude.{◌≡◌, ◌≢◌, ℕ, Bool, true, false, List, Option, Ok, Err}
 use Rattle.clr_desk_command_line.specs.declared.asks.DeskAsk.{DeskAsk}
 use Rattle.clr_desk_command_line.specs.declared.asks.DeskAsk.TheVariants as ask
 use Rattle.clr_desk_command_line.specs.declared.asks.GeographicAsk.{GeographicAsk}
@@ -46,5 +46,5 @@ IsOnePrint IsPrint = (print other : PrintoutOrFault) → IsPrint print → IsPri
 
 -- two answers to what is asked of the same texts have one text, the same notes and one status, or one fault
 abbrev pub OneDeskAnswerLaw : Type 0
-OneDeskAnswerLaw = (asked : DeskAsk) (office second : List ℕ) (layers : List GivenLayer) (designs : List LayeredDesign) → is_whole asked ≡ true
-    → IsOnePrint (IsDeskAnswerTo asked office second layers designs)
+OneDeskAnswerLaw = (asked : DeskAsk) (office second : List ℕ) (ids : Option (List ℕ)) (layers : List GivenLayer) (designs : List LayeredDesign)
+    → is_whole asked ≡ true → IsOnePrint (IsDeskAnswerTo asked office second ids layers designs)

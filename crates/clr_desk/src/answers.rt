@@ -1,10 +1,10 @@
 //! What is printed for what is asked of texts, and where it goes.
 
-ghost use Rattle.std.specs.Prelude.{◌≡◌, ◌≢◌, [], false, IfErr, IfOk};
+ghost use Rattle.std.specs.Prelude.{◌≡◌, ◌≢◌, [], false, option_map, IfErr, IfOk};
 ghost use Rattle.std.specs.List.{list_any};
 ghost use Rattle.std.specs.Io.KnownBytes.{Appends};
 ghost use Rattle.clr_process_io.specs.declared.faults.RunFault.TheVariants as run_fault;
-ghost use Rattle.clr_desk.specs.Answers.{IsDeskAnswer, IsDeskAnswerTo, IsDeskAnswerWithin, is_too_long_layer};
+ghost use Rattle.clr_desk.specs.Answers.{IsDeskAnswer, IsDeskAnswerTo, IsDeskAnswerWithin, are_too_long_ids, is_too_long_layer};
 ghost use Rattle.clr_desk_prints.specs.Printing.{IsMadePrintout};
 
 use crate::cut_marks::marked;
@@ -27,16 +27,17 @@ use clr_desk_prints::Print;
 use clr_office::{MOST_INPUT_BYTES, RunFault, Sink};
 use std::alloc::Global;
 
-/// Returns what is printed for what is asked of two texts, of layers and of designs.
+/// Returns what is printed for what is asked of two texts, of that of a book of ids, of layers and of designs.
 fn answer_texts(
     alloc: Global,
     ask: &DeskAsk,
     office: &[u8],
     second: &[u8],
+    ids: Option<&[u8]>,
     layers: &[GivenLayer],
     designs: &[LayeredDesign],
 ) -> Result<Print, RunFault>
-    ensures { IsMadePrintout (IsDeskAnswerWithin ask.now office.now second.now layers.now designs.now) result }
+    ensures { IsMadePrintout (IsDeskAnswerWithin ask.now office.now second.now (option_map (λ text. text.now) ids.entry) layers.now designs.now) result }
 {
     match ask {
         DeskAsk::Certificate(root, names) => {
@@ -67,9 +68,13 @@ fn answer_texts(
         ),
         DeskAsk::Why(kind) => answer_why(alloc, kind, office, second),
         DeskAsk::WhyLayers(asked) => answer_layers_why(alloc, asked, office, layers),
-        DeskAsk::Geographic(ask) => answer_geographic(alloc, ask, office, second, layers, designs),
-        DeskAsk::Skipping(ask, _) => answer_geographic(alloc, ask, office, second, layers, designs),
-        DeskAsk::Database(ask) => answer_database(alloc, ask, office, second),
+        DeskAsk::Geographic(ask) => {
+            answer_geographic(alloc, ask, office, second, ids, layers, designs)
+        }
+        DeskAsk::Skipping(ask, _) => {
+            answer_geographic(alloc, ask, office, second, ids, layers, designs)
+        }
+        DeskAsk::Database(ask) => answer_database(alloc, ask, office, second, ids),
         DeskAsk::Map(root, names) => answer_map(alloc, office, root.as_str(), names.as_slice()),
         DeskAsk::Report(root, names) => answer_report(
             alloc,
@@ -93,24 +98,33 @@ fn is_any_too_long(layers: &[GivenLayer]) -> bool
         .any(|layer| layer.text.len() > MOST_INPUT_BYTES)
 }
 
-/// Writes what is to be printed for what is asked of an office text, of a second text, which is the
-/// script, the certificate or the office that was copied where there is one, of layers, each with its table, and of the designs of a folder,
-/// each with its name and its layers, where they are asked for: the notes by one put, and then the text by another. Where records with faults
-/// are to be skipped, the layer is given without them.
-/// Returns the exit status: 0 all done or cleared, or no fault; 1 something refused, or members that can't be
-/// merged in every order; 2 a fault, where `why` asks for it, or the fault of a layer; 3 a plan, a verdict or a merge found no memory, and then there
-/// is no text; 4 a need is broken that isn't known; 5 something refused, and a name that nothing has. Where a rule doesn't hold the line that
-/// says so is the only note, and there is no text, unless `why` asks for it. The first fault that applies
-/// answers, and nothing is written then, unless a sink failed. Fails with `TooLong` where a text or a layer has more
-/// than `MOST_INPUT_BYTES`, with `BadOffice` where the first text is no office, or the second where it is asked for as one, with `BadCertificate` where
-/// the second is no certificate, neither of them for `why`, and with `WriteFailed` where a sink fails:
-/// where it is that of the notes, nothing went to that of the text; how much else went out is not known.
-/// Want of memory is `OutOfMemory`, which may come in place of any other answer.
+/// Returns whether the text of a book of ids has more than `MOST_INPUT_BYTES`, where one is given.
+fn are_ids_too_long(ids: Option<&[u8]>) -> bool
+    ensures { result ≡ are_too_long_ids (option_map (λ text. text.now) ids.entry) }
+{
+    match ids {
+        Some(ids) => ids.len() > MOST_INPUT_BYTES,
+        None => false,
+    }
+}
+
+/// Writes what is to be printed for what is asked of an office text, of a second text, which is the script, the certificate or the office that was copied where
+/// there is one, of the text of a book of ids where one is given, of layers, each with its table, and of the designs of a folder, each with its name and its
+/// layers, where they are asked for: the notes by one put, and then the text by another. Where records with faults are to be skipped, the layer is given
+/// without them; where layers have ids, they are given with their keys. Returns the exit status: 0 all done or cleared, or no fault; 1 something refused, or
+/// members that can't be merged in every order; 2 a fault, where `why` asks for it, or the fault of a layer; 3 a plan, a verdict or a merge found no memory,
+/// and then there is no text; 4 a need is broken that isn't known; 5 something refused, and a name that nothing has. Where a rule doesn't hold the line that
+/// says so is the only note, and there is no text, unless `why` asks for it. The first fault that applies answers, and nothing is written then, unless a sink
+/// failed. Fails with `TooLong` where a text or a layer has more than `MOST_INPUT_BYTES`, with `BadOffice` where the first text is no office, or the second
+/// where it is asked for as one, with `BadCertificate` where the second is no certificate, neither of them for `why`, and with `WriteFailed` where a sink
+/// fails: where it is that of the notes, nothing went to that of the text; how much else went out is not known. Want of memory is `OutOfMemory`, which may come
+/// in place of any other answer.
 pub fn answer<W: Sink, N: Sink>(
     alloc: Global,
     ask: &DeskAsk,
     office: &[u8],
     second: &[u8],
+    ids: Option<&[u8]>,
     layers: &[GivenLayer],
     designs: &[LayeredDesign],
     writer: &mut W,
@@ -118,7 +132,7 @@ pub fn answer<W: Sink, N: Sink>(
 ) -> Result<u8, RunFault>
     requires writer { W.failed writer.old ≡ false }
     requires notes { N.failed notes.old ≡ false }
-    ensures answers { IsDeskAnswer (IsDeskAnswerTo ask.now office.now second.now layers.now designs.now) (record {
+    ensures answers { IsDeskAnswer (IsDeskAnswerTo ask.now office.now second.now (option_map (λ text. text.now) ids.entry) layers.now designs.now) (record {
       text_held = W.contents writer.old;
       text_holds = W.contents writer.new;
       text_failed = W.failed writer.new;
@@ -131,11 +145,12 @@ pub fn answer<W: Sink, N: Sink>(
 {
     if office.len() > MOST_INPUT_BYTES
         || second.len() > MOST_INPUT_BYTES
+        || are_ids_too_long(ids)
         || is_any_too_long(layers)
     {
         return Err(RunFault::TooLong);
     }
-    let print = match answer_texts(alloc, ask, office, second, layers, designs) {
+    let print = match answer_texts(alloc, ask, office, second, ids, layers, designs) {
         Ok(print) => print,
         Err(fault) => return Err(fault),
     };

@@ -1,5 +1,5 @@
 -- What a subcommand and its values ask for.
-use Rattle.std.specs.Prelude.{ℕ, ◌==◌, ◌||◌, not, Bool, true, false, List, [], ◌∷◌, ◌++◌, map, codes, Option, Some, None, if◌then◌else◌, is_some}
+use Rattle.std.specs.Prelude.{ℕ, ◌==◌, ◌&&◌, ◌||◌, not, Bool, true, false, List, [], ◌∷◌, ◌++◌, map, codes, Option, Some, None, if◌then◌else◌, is_some}
 use Rattle.std.specs.Prelude.{length, option_and_then, option_map, unwrap_or, unsigned_abs}
 use Rattle.std.specs.List.{after_first, before_first, list_all, list_any}
 use Rattle.std.specs.Option.{option_map_or}
@@ -19,7 +19,7 @@ use Rattle.clr_desk_command_line.specs.declared.asks.DesignAsk.{DesignAsk}
 use Rattle.clr_desk_command_line.specs.declared.asks.DesignsAsk.{DesignsAsk}
 use Rattle.clr_desk_command_line.specs.declared.asks.GeographicAsk.{GeographicAsk}
 use Rattle.clr_desk_command_line.specs.declared.asks.GeographicAsk.TheVariants.{Features, Layer, Office, AcceptedOffice, ErrorFeatures}
-use Rattle.clr_desk_command_line.specs.declared.asks.GeographicAsk.TheVariants.{Cut, Design, DesignSince, DesignScript}
+use Rattle.clr_desk_command_line.specs.declared.asks.GeographicAsk.TheVariants.{Cut, Design, DesignSince, DesignScript, Ids}
 use Rattle.clr_desk_command_line.specs.declared.asks.GeographicAsk.TheVariants.{DesignAgain, DesignAnew, DesignAgainScript, Designs, DesignsSince}
 use Rattle.clr_desk_command_line.specs.declared.asks.OrderAsk.{OrderAsk}
 use Rattle.clr_desk_command_line.specs.declared.asks.OrderAsk.TheVariants as order
@@ -149,15 +149,16 @@ office_of false tables rounded = Office tables rounded
 abbrev pub office_with : List Row → List Text × List Text → GeographicAsk × List Text
 office_with rows layers = (office_of (is_set (codes "accept") rows) layers.0 (is_set (codes "round") rows), given_value (codes "SCHEMA") rows ∷ layers.1)
 
--- records may be skipped where there is one layer alone
-abbrev pub can_skip : (is_skipping : Bool) → ℕ → Bool
-can_skip is_skipping count = not is_skipping || count == 1
+-- records may be skipped where there is one layer alone, and it has no ids
+abbrev pub can_skip : (is_skipping has_ids : Bool) → ℕ → Bool
+can_skip is_skipping has_ids count = not is_skipping || (not has_ids && count == 1)
 
 abbrev pub office_of_layers : List Row → List Text × List Text → Option (GeographicAsk × List Text)
 office_of_layers rows layers =
-    if can_skip (is_some (first_of (codes "skip") rows)) (length layers.0) then Some (office_with rows layers) else None
+    if can_skip (is_some (first_of (codes "skip") rows)) (is_some (first_of (codes "ids") rows)) (length layers.0) then Some (office_with rows layers)
+    else None
 
--- what `office` asks for, and its files, if each layer can be read, and records are to be skipped of one alone
+-- what `office` asks for, and its files, if each layer can be read, and records are to be skipped of one alone that has no ids
 abbrev pub office_ask : List Row → Option (GeographicAsk × List Text)
 office_ask rows = option_and_then (office_of_layers rows) (layers_ask rows)
 
@@ -238,14 +239,22 @@ abbrev pub designs_ask : List Row → Option (GeographicAsk × List Text)
 designs_ask rows =
     option_and_then (λ first_key. option_map (λ may_remove. designs_ask_with rows first_key may_remove) (may_remove_of rows)) (first_key_of rows)
 
+-- what is asked of a book of ids whose new ids get keys from this one on, and its files: that of the office, and those of the layers
+abbrev pub ids_ask_from : List Row → ℕ → Option (GeographicAsk × List Text)
+ids_ask_from rows first_key = option_map (λ layers. (Ids layers.0 first_key, database_of rows ++ layers.1)) (layers_ask rows)
+
+abbrev pub ids_ask : List Row → Option (GeographicAsk × List Text)
+ids_ask rows = option_and_then (ids_ask_from rows) (first_key_of rows)
+
 -- what is asked of layers, and the files; or nothing where a layer, a key or a choice can't be read, where the script of a design is asked for that has
--- none, or where records of several layers are to be skipped
+-- none, or where records of several layers, or of one with ids, are to be skipped
 unfoldable pub imports_asked : Text → List Row → Option (GeographicAsk × List Text)
 imports_asked name rows =
     if bytes_eq name (codes "office") then office_ask rows
     else (if bytes_eq name (codes "design") then design_ask rows
     else (if bytes_eq name (codes "designs") then designs_ask rows
-    else None))
+    else (if bytes_eq name (codes "ids") then ids_ask rows
+    else None)))
 
 -- what is asked in the texts of geographic information systems, and the files; or nothing, as with layers
 unfoldable pub geographic_asked : Text → List Row → Option (GeographicAsk × List Text)
@@ -322,13 +331,26 @@ ask_of found = option_and_then (λ p. asked_by_name p.0 p.1) found
 abbrev pub reads_layers : Text → Bool
 reads_layers name =
     (bytes_eq name (codes "office") || bytes_eq name (codes "design"))
-    || (bytes_eq name (codes "designs") || (bytes_eq name (codes "why") || bytes_eq name (codes "cut")))
+    || (bytes_eq name (codes "designs") || (bytes_eq name (codes "ids") || (bytes_eq name (codes "why") || bytes_eq name (codes "cut"))))
 
 -- a subcommand reads more of its values than clap does: it reads layers, or the dialect and the origin of a database
 abbrev pub reads_values : Text → Bool
 reads_values name = reads_layers name || (bytes_eq name (codes "edits") || bytes_eq name (codes "propose"))
 
--- where a subcommand does, each layer, the first key, the choice, the dialect and the origin can be read, no script is asked for where there is none, and
--- records are to be skipped of one layer alone
+-- where a subcommand does, each layer, the first key, the choice, the dialect and the origin can be read, no script is asked for where there is none,
+-- records are to be skipped of one layer alone that has no ids, and ids aren't asked for in SQL
 abbrev pub is_readable : Option (Text × List Row) → Bool
 is_readable found = option_map_or (λ p. not (reads_values p.0) || is_some (asked_by_name p.0 p.1)) found true
+
+-- the book of ids ----------------------------------------------------------------------------------------
+
+-- the file of the book of ids that words name, if they do: `ids` has it as a value, and other subcommands have an option for it
+abbrev pub value_or_option : Option Text → Option Text → Option Text
+value_or_option (Some file) option = Some file
+value_or_option None option = option
+
+abbrev pub ids_in : List Row → Option Text
+ids_in rows = value_or_option (first_of (codes "IDS") rows) (first_of (codes "ids") rows)
+
+abbrev pub ids_given : Option (Text × List Row) → Option Text
+ids_given found = option_and_then (λ p. ids_in p.1) found

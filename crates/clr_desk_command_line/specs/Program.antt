@@ -66,18 +66,22 @@ board = over_members (codes "board")
 abbrev pub system : Rule
 system = option (codes "crs")
 
+-- the option with the file of a book of ids
+abbrev pub ids_file : Rule
+ids_file = option (codes "ids")
+
 abbrev pub geojson : App
-geojson = with_rule (over_members (codes "geojson")) system
+geojson = with_rule (with_rule (over_members (codes "geojson")) system) ids_file
 
 abbrev pub layer : App
-layer = with_rule (with_rule (database_command (codes "layer")) (value (codes "TABLE"))) (option (codes "in"))
+layer = with_rule (with_rule (with_rule (database_command (codes "layer")) (value (codes "TABLE"))) (option (codes "in"))) ids_file
 
 -- an office text, and its layers
 abbrev pub office_of_layers : App
 office_of_layers = with_rule (with_rule (new_app (codes "office")) (value (codes "SCHEMA"))) layers
 
 abbrev pub office : App
-office = with_rule (with_rule (with_rule office_of_layers round) (flag (codes "accept"))) (option (codes "skip"))
+office = with_rule (with_rule (with_rule (with_rule office_of_layers round) (flag (codes "accept"))) (option (codes "skip"))) ids_file
 
 -- the design's name, and its layers
 abbrev pub design_of_layers : App
@@ -88,7 +92,7 @@ abbrev pub design_from : App
 design_from = with_rule (with_rule (with_rule design_of_layers (option (codes "base"))) (option (codes "removes"))) (flag (codes "again"))
 
 abbrev pub design : App
-design = with_rule (with_rule (with_rule design_from (flag (codes "script"))) (option (codes "keys"))) round
+design = with_rule (with_rule (with_rule (with_rule design_from (flag (codes "script"))) (option (codes "keys"))) round) ids_file
 
 -- the folder of the designs, and what they are differences to
 abbrev pub designs_from : App
@@ -96,6 +100,10 @@ designs_from = with_rule (with_rule (database_command (codes "designs")) (value 
 
 abbrev pub designs : App
 designs = with_rule (with_rule (with_rule designs_from (option (codes "removes"))) (option (codes "keys"))) round
+
+-- the book of ids, and the layers whose ids it gets
+abbrev pub ids : App
+ids = with_rule (with_rule (with_rule (database_command (codes "ids")) (value (codes "IDS"))) layers) (option (codes "keys"))
 
 abbrev pub errors : App
 errors = with_rule (with_rule (database_command (codes "errors")) (flag (codes "geojson"))) system
@@ -125,7 +133,7 @@ abbrev pub propose : App
 propose = with_database (with_rule (new_app (codes "propose")) (value (codes "OFFICE")))
 
 abbrev pub edits : App
-edits = with_database (with_rule (with_rule (new_app (codes "edits")) (value (codes "OLD"))) (value (codes "NEW")))
+edits = with_rule (with_database (with_rule (with_rule (new_app (codes "edits")) (value (codes "OLD"))) (value (codes "NEW")))) ids_file
 
 -- the program without its subcommands
 abbrev pub bare : App
@@ -155,7 +163,7 @@ exports = geojson.top ∷ layer.top ∷ []
 
 -- networks and designs from layers
 unfoldable pub imports : List Shape
-imports = office.top ∷ design.top ∷ designs.top ∷ []
+imports = office.top ∷ design.top ∷ designs.top ∷ ids.top ∷ []
 
 -- old errors
 unfoldable pub old_errors : List Shape

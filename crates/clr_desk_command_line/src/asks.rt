@@ -62,6 +62,8 @@ pub enum GeographicAsk {
     Office(Names, bool),
     /// The same office with its errors accepted.
     AcceptedOffice(Names, bool),
+    /// The book of ids with the ids of layers too: the tables of the layers, in the order of their files, and the least key that a new id gets.
+    Ids(Names, u64),
     /// The errors of LIVE as features of a map: the name of the reference system of their coordinates, as it was given.
     ErrorFeatures(Option<Words>),
     /// The office with one more design.

@@ -23,7 +23,7 @@ ghost use Rattle.clr_desk_command_line.specs.Program.{
 use crate::helps::{
     ABOUT, ACCEPT_PRINTS, BOARD_PRINTS, CERTIFICATE_PRINTS, CHECK_PRINTS, CLASHES_PRINTS,
     CUT_PRINTS, DESIGN_PRINTS, DESIGNS_PRINTS, EDITS_PRINTS, ERRORS_PRINTS, FORMAT_PRINTS,
-    GEOJSON_PRINTS, KEEP_PRINTS, LAYER_PRINTS, MAP_PRINTS, MENDED_PRINTS, MERGE_PRINTS,
+    GEOJSON_PRINTS, IDS_PRINTS, KEEP_PRINTS, LAYER_PRINTS, MAP_PRINTS, MENDED_PRINTS, MERGE_PRINTS,
     OFFICE_PRINTS, ORDER_PRINTS, PROPOSE_PRINTS, REACH_PRINTS, REPORT_PRINTS, STATUSES, WHY_PRINTS,
     WORDS_PRINTS,
 };
@@ -77,6 +77,24 @@ const LEAST_KEY: Argument<'static> = Argument::ValueOption(
     "keys",
     "N",
     "The least key for a row without one [default: 1]",
+);
+
+const IDS: Argument<'static> = Argument::ValueOption(
+    "ids",
+    "IDS",
+    "The file of the ids of rows, which stand in KEY in place of keys",
+);
+
+const SHOWN_IDS: Argument<'static> = Argument::ValueOption(
+    "ids",
+    "IDS",
+    "The file of the ids of rows, by which they are named",
+);
+
+const FIRST_ID: Argument<'static> = Argument::ValueOption(
+    "keys",
+    "N",
+    "The least key for a new id [default: 1]",
 );
 
 const SYSTEM: Argument<'static> = Argument::ValueOption(
@@ -224,7 +242,7 @@ const EXPORTS: &[Subcommand<'static>] = &[
         name: "geojson",
         about: "Prints what the plan of designs is about as GeoJSON",
         prints: GEOJSON_PRINTS,
-        arguments: &[DATABASE, ROOT, DESIGNS, SYSTEM],
+        arguments: &[DATABASE, ROOT, DESIGNS, SYSTEM, SHOWN_IDS],
     },
     Subcommand {
         name: "layer",
@@ -238,6 +256,7 @@ const EXPORTS: &[Subcommand<'static>] = &[
                 "WORKSPACE",
                 "The workspace whose rows are printed [default: LIVE]",
             ),
+            IDS,
         ],
     },
 ];
@@ -264,6 +283,7 @@ const IMPORTS: &[Subcommand<'static>] = &[
                 "BAD",
                 "Take the records without a fault, and write the others to this new file",
             ),
+            IDS,
         ],
     },
     Subcommand {
@@ -280,6 +300,7 @@ const IMPORTS: &[Subcommand<'static>] = &[
             Argument::Flag("script", "Print the script that makes the design"),
             LEAST_KEY,
             ROUND,
+            IDS,
         ],
     },
     Subcommand {
@@ -296,6 +317,17 @@ const IMPORTS: &[Subcommand<'static>] = &[
             REMOVES,
             LEAST_KEY,
             ROUND,
+        ],
+    },
+    Subcommand {
+        name: "ids",
+        about: "Gives the new ids of layers keys of a block, and prints the ids of rows",
+        prints: IDS_PRINTS,
+        arguments: &[
+            DATABASE,
+            Argument::Value("IDS", "The file of the ids of rows, a CSV of TABLE,ID,KEY"),
+            LAYERS,
+            FIRST_ID,
         ],
     },
 ];
@@ -400,6 +432,7 @@ const CUTS: &[Subcommand<'static>] = &[
             ),
             SYSTEM,
             ORIGIN,
+            SHOWN_IDS,
         ],
     },
 ];

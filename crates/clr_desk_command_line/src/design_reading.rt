@@ -44,7 +44,7 @@ fn key_in(text: &str) -> Option<u64>
 }
 
 /// Returns the key from which on rows get keys, which is 1 where none is given, or nothing where what is given is no key.
-fn first_key(matches: &ArgMatches) -> Option<u64>
+pub(crate) fn first_key(matches: &ArgMatches) -> Option<u64>
     ensures { result ≡ first_key_of (rows_of (found_of matches.now)) }
 {
     match matches.get_str("keys") {
@@ -75,11 +75,11 @@ fn office_of(is_accepted: bool, tables: Names, is_rounded: bool) -> GeographicAs
     }
 }
 
-/// Returns whether records may be skipped of so many layers, if they are to be skipped.
-fn can_skip(is_skipping: bool, count: usize) -> bool
-    ensures { result ≡ can_skip is_skipping count }
+/// Returns whether records may be skipped of so many layers, with ids or without, if they are to be skipped.
+fn can_skip(is_skipping: bool, has_ids: bool, count: usize) -> bool
+    ensures { result ≡ can_skip is_skipping has_ids count }
 {
-    !is_skipping || count == 1
+    !is_skipping || (!has_ids && count == 1)
 }
 
 /// Returns the office that has the rows of layers of these tables in these files, and its files.
@@ -98,7 +98,8 @@ fn office_with(
     Ok((ask, append_files(all, files)?))
 }
 
-/// Returns what `office` asks for, and its files, or nothing where a layer can't be read, or where records of several layers are to be skipped.
+/// Returns what `office` asks for, and its files, or nothing where a layer can't be read, or where records of several layers, or of one with ids, are to be
+/// skipped.
 pub(crate) fn office(
     alloc: Global,
     matches: &ArgMatches,
@@ -108,7 +109,8 @@ pub(crate) fn office(
     let Some((tables, files)) = layers(alloc, matches)? else {
         return Ok(None);
     };
-    if can_skip(has_value(matches, "skip"), tables.len()) {
+    let has_ids = has_value(matches, "ids");
+    if can_skip(has_value(matches, "skip"), has_ids, tables.len()) {
         Ok(Some(office_with(alloc, matches, tables, files)?))
     } else {
         Ok(None)

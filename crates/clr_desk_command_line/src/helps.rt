@@ -121,15 +121,16 @@ Example:
 pub(crate) const GEOJSON_PRINTS: &str =
     "It prints what the plan is about as GeoJSON, for a geographic information system: the rows of the root, what
 each design adds, changes and removes, which rows the cause names, and the place of the cause. Coordinates are in
-metres. Without names it takes all children of the root. The status is 0 where the designs are cleared, and 1 where
-they aren't.
+metres. Without names it takes all children of the root. With --ids each row that has an id has it in the property id.
+The status is 0 where the designs are cleared, and 1 where they aren't.
 
 Example:
   clr_desk geojson office.json --crs EPSG:25832 Renewal Extension > plan.geojson";
 
 pub(crate) const LAYER_PRINTS: &str =
     "It prints the rows of a table as CSV: their keys, their values and, in metres, their shapes as WKT.
-Where there is no such table or workspace it prints nothing, and says so on standard error, with status 1.
+Where there is no such table or workspace it prints nothing, and says so on standard error, with status 1. With --ids
+the column KEY has the id of each row in place of its key.
 
 Example:
   clr_desk layer office.json main > main.csv";
@@ -142,7 +143,8 @@ error the line that says so, with status 2 or 1. With --accept no rule is in the
 office, as `clr_desk accept` has it, and standard error says how many needs these are of each rule. With --skip it takes
 the records of one layer that have no fault. The others go into BAD, under the layer's header, with the column WHY behind
 their own, which says what is wrong; and standard error says how many they are. BAD is written where the office is
-printed, and there must be no such file yet.
+printed, and there must be no such file yet. With --ids KEY of the layers has ids, and the rows have the keys that IDS
+says; `clr_desk ids` gives new ids keys.
 
 Example:
   clr_desk office schema.json main=main.csv valve=valve.csv > office.json
@@ -156,8 +158,9 @@ it, with shapes as WKT in metres; a row whose KEY is empty gets the least key fr
 since the layers were copied isn't in them, and the design would remove it: give the office that they were copied from
 as COPIED. The design is then the difference to that, and in conflict where LIVE changed the same since. With
 --removes no a design that removes a row is refused. With --again NAME stands already: it keeps what it took over from
-LIVE, and its changes become those of the layers; with COPIED it is made anew in its place. Where a layer can't be read
-or the design can't be made it prints nothing, and on standard error the line that says so, with status 2 or 1.
+LIVE, and its changes become those of the layers; with COPIED it is made anew in its place. With --ids KEY of the layers
+has ids, and the rows have the keys that IDS says; `clr_desk ids` gives new ids keys. Where a layer can't be read or the
+design can't be made it prints nothing, and on standard error the line that says so, with status 2 or 1.
 
 Example:
   clr_desk design office.json Bypass main=main.csv --base copied.json > with_bypass.json";
@@ -172,6 +175,17 @@ read or a design can't be made it prints nothing, and on standard error the line
 
 Example:
   clr_desk designs office.json designs --base copied.json > with_designs.json";
+
+pub(crate) const IDS_PRINTS: &str =
+    "It prints the ids of rows, each with its table and its key, as CSV with the columns TABLE, ID and KEY: those of IDS
+as they are, and behind them the new ids in the column KEY of the layers, each with the least key from N on that no id
+and no row of LIVE has; and nothing else, with status 0. How many ids there are, and how many are new, stands on
+standard error. Write it to another file, and put that in place of IDS, before the layers are read by
+`clr_desk office --ids` or `clr_desk design --ids`, which make no keys. Where a row of LIVE in these tables has no id,
+or IDS or a layer can't be read, it prints nothing, and on standard error the line that says so, with status 1 or 2.
+
+Example:
+  clr_desk ids office.json ids.csv main=main.csv > ids.new && mv ids.new ids.csv";
 
 pub(crate) const ERRORS_PRINTS: &str =
     "It prints each need that is broken in LIVE: whether it is known, the rule, the rows, and the place; with --geojson
@@ -230,8 +244,8 @@ pub(crate) const EDITS_PRINTS: &str =
 was. With --sql it prints one transaction, which psql or sqlite3 runs with the file OLD in the variable CUT and the
 merged designs in DESIGNS. It locks the tables, leads each through `clr_desk reach`, and looks whether each row of OLD
 is still there as it was; then it makes the edits. Where a row is stale or came meanwhile, nothing is written. How many
-rows are added, changed and removed stands on standard error. The status is 0, and 1 where the offices don't have the
-same tables.
+rows are added, changed and removed stands on standard error. With --ids the CSV has ids in place of keys. The status is
+0, and 1 where the offices don't have the same tables or a row has no id.
 
 Example:
   clr_desk edits cut.json new.json --sql postgis --crs EPSG:25832 > back.sql";

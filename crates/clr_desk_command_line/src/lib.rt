@@ -3,8 +3,9 @@
 //! - `ask_of` [`asks`, `takes`]: what is asked, and the files, are what `clap`'s definition of a
 //!   simple command finds in the words. Words that the command takes, in which each layer, the first
 //!   key, the choice, the dialect and the origin can be read where a subcommand has them, are refused only where there is
-//!   no memory, but for the script of a design that has none, and for records of several layers that are to be skipped. Texts of
-//!   help, usage and refusals are tested only.
+//!   no memory, but for the script of a design that has none, for records of several layers, or of one with ids, that are
+//!   to be skipped, and for ids in SQL. Texts of help, usage and refusals are tested only.
+//! - `ids_file` [`ids`]: the file of the book of ids by which layers are read or rows are named.
 #![tactic(auto)]
 
 mod asks;
@@ -13,6 +14,7 @@ mod complaints;
 mod database_reading;
 mod design_reading;
 mod helps;
+mod ids_reading;
 mod layer_reading;
 mod named_layers;
 mod origins;
@@ -26,5 +28,6 @@ pub use asks::{
 };
 pub use clr_command_line::AskFault;
 pub use clr_sql::Dialect;
+pub use ids_reading::ids_file;
 pub use origins::{MOST_ORIGIN_METRES, limit_of_origins};
 pub use reading::ask_of;

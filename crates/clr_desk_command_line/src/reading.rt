@@ -317,17 +317,19 @@ fn refusal(alloc: Global, matches: &ArgMatches) -> Result<AskFault, AllocError> 
 /// and then that of the script, the certificate or the office that was copied, and those of the layers, where there are some. The subcommands are `check DB
 /// CERT`, `merge DB CERT NAME..`, `format DB`, `accept DB`, `mended DB`, `errors DB [--geojson] [--crs SYSTEM]`, `why DB [TABLE=FILE..] [--script FILE]
 /// [--certificate FILE] [--round]`, `certificate`, `keep`, `clashes`, `order`, `words`, `map`, `report` and `board`, each with `DB [--under ROOT] NAME..`, of
-/// which `certificate` and `keep` take `--in-order` and `order` takes `--certificate`, `geojson DB [--under ROOT] [--crs SYSTEM] NAME..`, `layer DB TABLE [--in
-/// WORKSPACE]`, `office SCHEMA TABLE=FILE.. [--round] [--accept] [--skip BAD]`, `design DB NAME TABLE=FILE.. [--base COPIED] [--removes CHOICE] [--again]
-/// [--script] [--keys N] [--round]`, `designs DB FOLDER [--base COPIED] [--removes CHOICE] [--keys N] [--round]`, whose designs aren't among the files,
-/// `reach CUT TABLE NAME.. [--groups] [--round]`, which reads the table from a stream, `cut OFFICE TABLE=FILE.. [--round]`, and `propose OFFICE` and `edits OLD
-/// NEW`, both with `[--sql DIALECT] [--crs SYSTEM] [--origin X,Y]`. There are none or more names, and one or more layers, but for `why` none or more. The root,
-/// and the workspace of a layer, is LIVE where none is given; N is 1, CHOICE is `yes`, the origin is (0, 0), and `propose` is for `postgis`.
+/// which `certificate` and `keep` take `--in-order` and `order` takes `--certificate`, `geojson DB [--under ROOT] [--crs SYSTEM] [--ids IDS] NAME..`, `layer DB
+/// TABLE [--in WORKSPACE] [--ids IDS]`, `office SCHEMA TABLE=FILE.. [--round] [--accept] [--skip BAD] [--ids IDS]`, `design DB NAME TABLE=FILE.. [--base
+/// COPIED] [--removes CHOICE] [--again] [--script] [--keys N] [--round] [--ids IDS]`, `designs DB FOLDER [--base COPIED] [--removes CHOICE] [--keys N]
+/// [--round]`, whose designs aren't among the files, `ids DB IDS TABLE=FILE.. [--keys N]`, `reach CUT TABLE NAME.. [--groups] [--round]`, which reads the table
+/// from a stream, `cut OFFICE TABLE=FILE.. [--round]`, and `propose OFFICE` and `edits OLD NEW`, both with `[--sql DIALECT] [--crs SYSTEM] [--origin X,Y]`, and
+/// `edits` with `[--ids IDS]`. IDS, which is the file of a book of ids, isn't among the files either: `ids_file` says it. There are none or more names, and one
+/// or more layers, but for `why` none or more. The root, and the workspace of a layer, is LIVE where none is given; N is 1, CHOICE is `yes`, the origin is (0,
+/// 0), and `propose` is for `postgis`.
 ///
 /// Fails with `Refused` where the words name no subcommand or another count of values than it has, where a layer has no `=`, N is no key, CHOICE is neither
-/// `yes` nor `no`, both COPIED and a script are asked for, or both BAD and several layers are given; where DIALECT is neither `postgis` nor `spatialite`, or X
-/// or Y is no whole number of metres of at most `MOST_ORIGIN_METRES`; or where they ask for help, as `help`, `--help` and `-h`, or for the version, as `--version`
-/// and `-V`; and with `OutOfMemory` for want of memory, which may come in place of any other answer.
+/// `yes` nor `no`, both COPIED and a script are asked for, both BAD and several layers or ids are given, or both DIALECT and ids; where DIALECT is neither
+/// `postgis` nor `spatialite`, or X or Y is no whole number of metres of at most `MOST_ORIGIN_METRES`; or where they ask for help, as `help`, `--help` and
+/// `-h`, or for the version, as `--version` and `-V`; and with `OutOfMemory` for want of memory, which may come in place of any other answer.
 pub fn ask_of<'a>(alloc: Global, words: &'a [&'a str]) -> Result<(Asked, Vec<Words>), AskFault>
     ensures asks { IfOk result (λ r. ask_of (subcommand_of program (map (λ s. s.now) words.entry.now)) ≡ Some (r.0, r.1.items)) }
     ensures takes { takes program (map (λ s. s.now) words.entry.now) ≡ true

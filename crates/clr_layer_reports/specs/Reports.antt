@@ -6,6 +6,7 @@ use Rattle.csv.specs.Reading.{strip_bom}
 use Rattle.clr_rows.specs.declared.tables.TableDef.{TableDef}
 use Rattle.clr_rows.specs.declared.faults.RowFault.{RowFault}
 use Rattle.clr_rows.specs.declared.faults.RowFault.TheVariants as row
+use Rattle.clr_rows.specs.Schemas.{table_named}
 use Rattle.clr_records.specs.Records.{records_in}
 use Rattle.clr_text_positions.specs.FaultLines.{column_number_of, line_number_of}
 use Rattle.clr_hints.specs.Encodings.{IsEncodingFault}
@@ -174,3 +175,26 @@ IsReportBy tables rounded file layer lines (Err e) = IsTableReport tables file l
 -- what is said of a layer behind others, by its file: nothing where it has no fault
 abbrev pub IsLayerReport : List TableDef → Bool → List ℕ → List GivenLayer → GivenLayer → List ℕ → Type 0
 IsLayerReport tables rounded file earlier layer lines = IsReportBy tables rounded file layer lines (table_of tables earlier layer)
+
+-- a layer with ids ---------------------------------------------------------------------------------------
+
+-- what is said of a text in which ids stand for keys, by its faults where its keys stand in it: each at its place in the text as it was given
+abbrev pub IsKeyedReport : List TableDef → ℕ → TableDef → Bool → List ℕ → List ℕ → List ℕ → Option (List (List (List ℕ)))
+    → Option (List (List (List ℕ))) → Type 0
+IsKeyedReport tables at table rounded file text lines (Some records) (Some keyed) =
+    (near : List (Option (List ℕ))) × AreNear table (header_in records) near
+    × (lines ≡ faults_text file (strip_bom text) table records near (faults_in tables at table rounded keyed))
+IsKeyedReport tables at table rounded file text lines _ _ = lines ≡ []
+
+-- the same of the layer of a table, which is there
+abbrev pub IsKeyedReportOver : List TableDef → Bool → List ℕ → GivenLayer → List ℕ → List ℕ → Option ℕ → Type 0
+IsKeyedReportOver tables rounded file layer keyed lines None = lines ≡ []
+IsKeyedReportOver tables rounded file layer keyed lines (Some at) = IsKeyedReportAt (slice_get tables at)
+  where
+    IsKeyedReportAt : Option TableDef → Type 0
+    IsKeyedReportAt None = lines ≡ []
+    IsKeyedReportAt (Some table) =
+        IsKeyedReport tables at table rounded file layer.text.items lines (records_in layer.text.items) (records_in keyed)
+
+abbrev pub IsReportByKeys : List TableDef → Bool → List ℕ → GivenLayer → List ℕ → List ℕ → Type 0
+IsReportByKeys tables rounded file layer keyed lines = IsKeyedReportOver tables rounded file layer keyed lines (table_named tables layer.table)
