@@ -1,3 +1,4 @@
+mod CoordinateLemmas
 mod CutMarkLemmas
 mod LayerReportLemmas
 mod OneAgain

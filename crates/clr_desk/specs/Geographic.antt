@@ -2,7 +2,7 @@
 use Rattle.std.specs.Prelude.{◌≡◌, ℕ, Bool, true, false, List, [], ◌∷◌, ◌&&◌, not, codes}
 use Rattle.clr_workspaces.specs.Marks.{Name}
 use Rattle.clr_cut_texts.specs.Marks.{is_cut_text}
-use Rattle.clr_desk.specs.CutMarks.{IsMarkedAlike, IsNotedCut}
+use Rattle.clr_desk.specs.CutMarks.{IsMarkedAlike, IsNamedAlike, IsNotedCut}
 use Rattle.clr_desk_edits.specs.Cuts.{IsCutAnswer}
 use Rattle.clr_office_reading.specs.Offices.{known_in}
 use Rattle.clr_office_texts.specs.Drafts.{draft_in, opened_in}
@@ -21,6 +21,11 @@ use Rattle.clr_desk_command_line.specs.declared.asks.DesignAsk.{DesignAsk}
 use Rattle.clr_desk_command_line.specs.declared.asks.DesignsAsk.{DesignsAsk}
 use Rattle.clr_desk_pages.specs.Features.{IsFeaturesAnswer}
 use Rattle.clr_desk_layers.specs.Layers.{IsLayerPrint, unfit_print}
+use Rattle.clr_coordinates.specs.Coordinates.{coordinates_in}
+use Rattle.clr_coordinates.specs.declared.coordinates.Coordinates.{Coordinates}
+use Rattle.clr_desk_preparations.specs.ByCoordinates.{IsByCoordinates}
+use Rattle.clr_desk_preparations.specs.ShownLayers.{IsShownAlike}
+use Rattle.clr_prepared_layers.specs.declared.empty_values.EmptyValue.{EmptyValue}
 use Rattle.clr_desk_prints.specs.NameHints.{IsHinted}
 use Rattle.clr_desk_prints.specs.Printing.{IsPrintoutIn, PrintoutOrFault}
 
@@ -57,16 +62,24 @@ IsPrintIf false one other = other
 abbrev pub IsUnlessCut : (PrintoutOrFault → Type 0) → (text : List ℕ) → List GivenLayer → PrintoutOrFault → Type 0
 IsUnlessCut IsPrint text layers print = IsPrintIf (is_cut_text text) (print ≡ unfit_print cut_word (first_table layers)) (IsPrint print)
 
+-- layers -------------------------------------------------------------------------------------------
+
+-- the layer of a table in a workspace, with values as empty fields, in the coordinates that the office text names
+abbrev pub IsShownLayer : (table workspace : Name) → List EmptyValue → (office : List ℕ) → Coordinates → PrintoutOrFault → Type 0
+IsShownLayer table workspace empties office coordinates print =
+    IsNotedCut (IsShownAlike empties coordinates.origin (IsPrintoutIn (IsHinted (IsLayerPrint table workspace) (workspace ∷ [])) (opened_in office)))
+    office print
+
 -- what is to be printed for what is asked of an office text, a second one, which is that of the office from which layers were copied, layers, and designs
 abbrev pub IsGeographicAnswer : GeographicAsk → List ℕ → List ℕ → List GivenLayer → List LayeredDesign → PrintoutOrFault → Type 0
 IsGeographicAnswer (ask.Features root names system) office second layers designs print = IsFeaturesAnswer root names system (opened_in office) print
-IsGeographicAnswer (ask.Layer table workspace) office second layers designs print =
-    IsNotedCut (IsPrintoutIn (IsHinted (IsLayerPrint table workspace) (workspace ∷ [])) (opened_in office)) office print
+IsGeographicAnswer (ask.Layer table workspace empties) office second layers designs print =
+    IsByCoordinates (IsShownLayer table workspace empties office) (coordinates_in office) print
 IsGeographicAnswer (ask.Office tables rounded) office second layers designs print =
-    IsUnlessCut (IsPrintoutIn (IsOfficePrint (options_of 1 rounded) layers) (opened_in office)) office layers print
+    IsUnlessCut (IsMarkedAlike (IsPrintoutIn (IsOfficePrint (options_of 1 rounded) layers) (opened_in office)) office) office layers print
 IsGeographicAnswer (ask.AcceptedOffice tables rounded) office second layers designs print =
-    IsUnlessCut (IsPrintoutOfDraft (IsAcceptedOfficePrint (options_of 1 rounded) layers) (draft_in office)) office layers print
-IsGeographicAnswer (ask.Cut tables rounded) office second layers designs print = IsCutAnswer rounded layers office print
+    IsUnlessCut (IsMarkedAlike (IsPrintoutOfDraft (IsAcceptedOfficePrint (options_of 1 rounded) layers) (draft_in office)) office) office layers print
+IsGeographicAnswer (ask.Cut tables rounded) office second layers designs print = IsNamedAlike (IsCutAnswer rounded layers office) office print
 IsGeographicAnswer (ask.ErrorFeatures system) office second layers designs print = IsErrorFeaturesAnswer (known_in office) system (draft_in office) print
 IsGeographicAnswer (ask.Design design) office second layers designs print =
     let may_remove = may_remove_over design.may_remove office in

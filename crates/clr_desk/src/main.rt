@@ -35,6 +35,9 @@
 //! - `take_layers` [`layers`, `offices`]: each table that is asked for with the text in its place.
 //! - `faults_of_layers` [`faults`]: all that is wrong with layers, each fault with its file, line and column (`AreLayerFaults`). `degrees_of_layers`
 //!   [`degrees`]: the layers whose coordinates look like degrees.
+//! - Layers are given to `answer` as they are to be read, by `prepared_layers` of `clr_desk_preparations`, and those of designs too; those that are asked
+//!   about are prepared by the answer. That these are so no contract says. `refused_over` and `repair_lines` there say which values of empty fields can't
+//!   be taken, and which shapes are repaired.
 //! - `split_given` [`split`]: the layer whose records with faults are skipped, as a layer of just the others, and the text of just the skipped ones
 //!   (`IsSplitOver`). That the first is given to `answer`, and the text goes into the file, no contract says.
 //! - `texts_have_one_answer` [`answer`]: memory aside, what is asked has one answer alone, but for what the definitions of clashes, of orders, of faults,
@@ -46,6 +49,9 @@
 //!   how much was; where the sink of the notes failed, nothing went to that of the text (`IsTorn`).
 #![tactic(auto)]
 
+ghost use Rattle.std.specs.Prelude.{◌≡◌, true};
+ghost use Rattle.clr_prepared_layers.specs.PreparedShapes.{is_origin};
+
 mod answers;
 mod cut_marks;
 mod databases;
@@ -56,25 +62,35 @@ mod given_layers;
 mod laws;
 mod layer_faults;
 mod layer_whys;
+mod shown_layers;
 mod skipped_files;
 mod skipped_layers;
 mod whys;
 
 use crate::answers::answer;
 use crate::fault_places::fault_place;
-use crate::given_layers::take_layers;
-use crate::layer_faults::{degrees_of_layers, faults_of_layers};
+use crate::given_layers::{office_count, take_layers};
+use crate::layer_faults::{degrees_of_layers, faults_of_layers, is_rounded};
 use crate::skipped_files::{begin_file, drop_file, end_file};
 use crate::skipped_layers::split_given;
 use clr_design_folders::{FolderDesigns, FolderFault, read_designs, unfit_remark};
-use clr_desk_command_line::{AskFault, Asked, DeskAsk, GeographicAsk, ReachAsk, ask_of};
+use clr_desk_command_line::{
+    AskFault, Asked, DeskAsk, GeographicAsk, Preparation, ReachAsk, ask_of,
+};
 use clr_desk_cuts::{Aim, ReachOptions, answer_reach};
+use clr_desk_designs::LayeredDesign;
 use clr_desk_layers::GivenLayer;
+use clr_desk_preparations::{
+    coordinates_of, is_plain, prepared_layers, refused_over, repair_lines, shown_if_asked,
+};
 use clr_office::{Port, RunFault, Sink, Words};
+use clr_office_texts::read_office;
+use clr_prepared_layers::CoordinateOptions;
 use clr_process_io::{
     BAD_WORDS, end_run, file_name, print_fault, print_parser_message, put_input_remark, read_files,
     text_at, texts_of_words, words,
 };
+use clr_rows::Place;
 use clr_skipped_records::SplitLayer;
 use clr_streams::Screen;
 use std::alloc::AllocError;
@@ -84,6 +100,10 @@ use std::process::ExitCode;
 /// From what the program was built, behind its version. `write_build` of bin/program.sh writes over these characters once the program is proved and built.
 const BUILD: &str =
     "sources not recorded                                                    \ntoolchain not recorded                                      ";
+
+/// What is said where the coordinates that an office text names can't be read.
+const COORDINATES: &[u8] =
+    b": 'origin' is a list of two whole numbers of millimetres of at most 100000000000, and 'crs' is as EPSG:25832\n";
 
 /// The exit status where a layer has a fault, as where a text has one that `why` asks about.
 const UNREADABLE: u8 = 2;
@@ -101,7 +121,15 @@ fn refuse_texts(
         return print_fault(rt, RunFault::OutOfMemory);
     };
     let status = print_fault(rt, fault);
-    let _ = Screen::new(rt.alloc(), Port::new(rt.stderr()), true).put(place.as_slice());
+    let mut notes = Screen::new(rt.alloc(), Port::new(rt.stderr()), true);
+    let _ = notes.put(place.as_slice());
+    if matches!(
+        coordinates_of(rt.alloc(), office),
+        Err(RunFault::BadOffice(_))
+    ) {
+        let _ = notes.put(file_name(files, 0).as_bytes());
+        let _ = notes.put(COORDINATES);
+    }
     status
 }
 
@@ -119,23 +147,54 @@ fn print_remarks(rt: &HostRuntime, lines: Result<Vec<u8>, AllocError>) {
     }
 }
 
-/// Prints remarks on layers on standard error: what is wrong with them, behind the line of the first fault, where this is the status; and which of them
-/// look like degrees. Where no memory is found for it, the line stands alone.
-fn print_layer_remarks(
+/// Prints which shapes of layers are repaired on standard error, unless the text of the office is none.
+fn print_repairs(
     rt: &HostRuntime,
     ask: &DeskAsk,
     files: &[Words],
     office: &[u8],
     layers: &[GivenLayer],
+) {
+    let Ok(read) = read_office(rt.alloc(), office) else {
+        return;
+    };
+    let schema = read.draft.schema();
+    for at in 0..layers.len() {
+        let file = file_name(files, office_count(ask) + at);
+        let lines = repair_lines(rt.alloc(), schema, is_rounded(ask), file, &layers[at]);
+        print_remarks(rt, lines);
+    }
+}
+
+/// Prints remarks on layers on standard error: what is wrong with them, behind the line of the first fault, where this is the status; which shapes are
+/// repaired, if they are; and which layers look like degrees. What was read of them may have been made of these. Where no memory is found for it, the
+/// line stands alone.
+fn print_layer_remarks(
+    rt: &HostRuntime,
+    ask: &DeskAsk,
+    preparation: &Preparation,
+    files: &[Words],
+    office: &[u8],
+    sources: &[GivenLayer],
+    layers: &[GivenLayer],
     status: u8,
 ) {
-    if layers.is_empty() || matches!(ask, DeskAsk::WhyLayers(_)) {
+    if sources.is_empty() {
+        return;
+    }
+    if preparation.is_repaired {
+        print_repairs(rt, ask, files, office, sources);
+    }
+    if matches!(ask, DeskAsk::WhyLayers(_)) {
         return;
     }
     if status == UNREADABLE {
-        print_remarks(rt, faults_of_layers(rt.alloc(), ask, files, office, layers));
+        print_remarks(
+            rt,
+            faults_of_layers(rt.alloc(), ask, files, office, layers, sources),
+        );
     }
-    print_remarks(rt, degrees_of_layers(rt.alloc(), ask, files, layers));
+    print_remarks(rt, degrees_of_layers(rt.alloc(), ask, files, sources));
 }
 
 /// What the words name: the names of files, the texts of the first two, and the layers and the designs of others.
@@ -146,6 +205,14 @@ struct Given<'a> {
     second: &'a [u8],
     layers: &'a [GivenLayer],
     folder: &'a FolderDesigns,
+    preparation: &'a Preparation,
+}
+
+/// What is read of the layers and the designs that the words name.
+#[derive(Drop)]
+struct Read<'a> {
+    layers: &'a [GivenLayer],
+    designs: &'a [LayeredDesign],
 }
 
 /// Returns the designs of the folder that is asked for, or none where no folder is.
@@ -177,12 +244,36 @@ fn refuse_folder(rt: &HostRuntime, fault: FolderFault) -> u8 {
 }
 
 /// Prints remarks on the layers that are given, and on those of each design.
-fn print_all_remarks(rt: &HostRuntime, ask: &DeskAsk, given: &Given<'_>, status: u8) {
-    print_layer_remarks(rt, ask, given.files, given.office, given.layers, status);
-    let folder = given.folder;
-    for (design, names) in folder.designs.iter().zip(folder.files.iter()) {
-        let layers = design.layers.as_slice();
-        print_layer_remarks(rt, ask, names.as_slice(), given.office, layers, status);
+fn print_all_remarks(
+    rt: &HostRuntime,
+    ask: &DeskAsk,
+    given: &Given<'_>,
+    read: &Read<'_>,
+    status: u8,
+) {
+    let (preparation, office) = (given.preparation, given.office);
+    print_layer_remarks(
+        rt,
+        ask,
+        preparation,
+        given.files,
+        office,
+        given.layers,
+        read.layers,
+        status,
+    );
+    let sources = given.folder.designs.iter().zip(given.folder.files.iter());
+    for ((source, names), design) in sources.zip(read.designs.iter()) {
+        print_layer_remarks(
+            rt,
+            ask,
+            preparation,
+            names.as_slice(),
+            office,
+            source.layers.as_slice(),
+            design.layers.as_slice(),
+            status,
+        );
     }
 }
 
@@ -233,8 +324,9 @@ fn answer_stream(rt: &HostRuntime, ask: &ReachAsk, files: &[Words]) -> Result<u8
     Ok(end_answer(rt, ended, is_closed, files, office, &[]))
 }
 
-/// Answers what is asked of texts, layers and designs, and gives the exit status. What is said of layers as texts is said of those that were given.
-fn answer_texts(rt: &HostRuntime, ask: &DeskAsk, given: &Given<'_>, layers: &[GivenLayer]) -> u8 {
+/// Answers what is asked of texts, and of layers and designs as they are read, and gives the exit status. The places of what is said of layers are in those
+/// that were given.
+fn answer_texts(rt: &HostRuntime, ask: &DeskAsk, given: &Given<'_>, read: &Read<'_>) -> u8 {
     let is_read = matches!(
         ask,
         DeskAsk::WorkOrder(..) | DeskAsk::Why(_) | DeskAsk::WhyLayers(_)
@@ -246,13 +338,13 @@ fn answer_texts(rt: &HostRuntime, ask: &DeskAsk, given: &Given<'_>, layers: &[Gi
         ask,
         given.office,
         given.second,
-        layers,
-        given.folder.designs.as_slice(),
+        read.layers,
+        read.designs,
         &mut writer,
         &mut notes,
     );
     if let Ok(status) = ended {
-        print_all_remarks(rt, ask, given, status);
+        print_all_remarks(rt, ask, given, read, status);
     }
     let is_closed = writer.below().is_closed() || notes.below().is_closed();
     end_answer(
@@ -271,20 +363,25 @@ fn print_skipped(rt: &HostRuntime, count: usize) {
 }
 
 /// Answers what is asked of the records of a layer that have no fault, and gives the exit status. The others go into a new file of this name, which is
-/// written whole beside it before anything is printed, and gets its name where all is done.
+/// written whole beside it before anything is printed, and gets its name where all is done. They are written as layers are shown.
 fn answer_skipping(
     rt: &HostRuntime,
     ask: &DeskAsk,
     given: &Given<'_>,
+    origin: Place,
     name: &str,
     table: &Words,
     split: SplitLayer,
-) -> Result<u8, RunFault> {
+) -> Result<u8, RunFault>
+    requires { is_origin origin ≡ true }
+{
     let SplitLayer {
         taken,
         skipped,
         count,
     } = split;
+    let empties = given.preparation.empties.as_slice();
+    let skipped = shown_if_asked(rt.alloc(), empties, origin, skipped)?;
     let beside = format!(in rt.alloc(); "{name}.part")?;
     let mut layers = Vec::new(rt.alloc());
     layers.push(GivenLayer {
@@ -294,7 +391,11 @@ fn answer_skipping(
     if let Err(status) = begin_file(rt, name, beside.as_str(), skipped.as_slice()) {
         return Ok(status);
     }
-    let status = answer_texts(rt, ask, given, layers.as_slice());
+    let read = Read {
+        layers: layers.as_slice(),
+        designs: &[],
+    };
+    let status = answer_texts(rt, ask, given, &read);
     if status != 0 {
         drop_file(rt, beside.as_str());
         return Ok(status);
@@ -306,18 +407,105 @@ fn answer_skipping(
     Ok(0)
 }
 
-/// Answers what is asked of what the words name, of which records may have to be skipped, and gives the exit status.
-fn answer_given(rt: &HostRuntime, ask: &DeskAsk, given: &Given<'_>) -> Result<u8, RunFault> {
-    if let (DeskAsk::Skipping(_, name), [layer]) = (ask, given.layers) {
+/// Answers what is asked of what is read of what the words name, of which records may have to be skipped, and gives the exit status.
+fn answer_read(
+    rt: &HostRuntime,
+    ask: &DeskAsk,
+    given: &Given<'_>,
+    read: &Read<'_>,
+    origin: Place,
+) -> Result<u8, RunFault>
+    requires { is_origin origin ≡ true }
+{
+    if let (DeskAsk::Skipping(_, name), [layer]) = (ask, read.layers) {
         if let Some(split) = split_given(rt.alloc(), ask, given.office, layer)? {
-            return answer_skipping(rt, ask, given, name.as_str(), &layer.table, split);
+            return answer_skipping(rt, ask, given, origin, name.as_str(), &layer.table, split);
         }
     }
-    Ok(answer_texts(rt, ask, given, given.layers))
+    Ok(answer_texts(rt, ask, given, read))
+}
+
+/// Returns the designs of a folder with their layers as they are to be read.
+fn prepared_designs(
+    rt: &HostRuntime,
+    preparation: &Preparation,
+    options: CoordinateOptions,
+    designs: &[LayeredDesign],
+) -> Result<Vec<LayeredDesign>, AllocError>
+    requires { is_origin options.origin ≡ true }
+{
+    let mut made = Vec::new(rt.alloc());
+    for design in designs {
+        let layers = design.layers.as_slice();
+        made.push(LayeredDesign {
+            name: design.name.copy()?,
+            layers: prepared_layers(rt.alloc(), preparation, options, layers)?,
+        })?;
+    }
+    Ok(made)
+}
+
+/// Answers what is asked of layers and designs as they are to be read, and gives the exit status.
+fn answer_prepared(
+    rt: &HostRuntime,
+    ask: &DeskAsk,
+    given: &Given<'_>,
+    options: CoordinateOptions,
+) -> Result<u8, RunFault>
+    requires { is_origin options.origin ≡ true }
+{
+    let preparation = given.preparation;
+    let designs = given.folder.designs.as_slice();
+    if is_plain(preparation, options) {
+        let read = Read {
+            layers: given.layers,
+            designs,
+        };
+        return answer_read(rt, ask, given, &read, options.origin);
+    }
+    let layers = prepared_layers(rt.alloc(), preparation, options, given.layers)?;
+    let designs = prepared_designs(rt, preparation, options, designs)?;
+    let read = Read {
+        layers: layers.as_slice(),
+        designs: designs.as_slice(),
+    };
+    answer_read(rt, ask, given, &read, options.origin)
+}
+
+/// Answers what is asked of what the words name, and gives the exit status. Layers that are asked about are prepared by the answer itself.
+fn answer_given(rt: &HostRuntime, ask: &DeskAsk, given: &Given<'_>) -> Result<u8, RunFault> {
+    let empties = given.preparation.empties.as_slice();
+    if let Some(print) = refused_over(rt.alloc(), given.office, empties)? {
+        let _ = Screen::new(rt.alloc(), Port::new(rt.stderr()), true).put(print.notes.as_slice());
+        return Ok(print.status());
+    }
+    let is_without_layers = given.layers.is_empty() && given.folder.designs.is_empty();
+    if is_without_layers || matches!(ask, DeskAsk::WhyLayers(_)) {
+        let read = Read {
+            layers: given.layers,
+            designs: &[],
+        };
+        return Ok(answer_texts(rt, ask, given, &read));
+    }
+    match coordinates_of(rt.alloc(), given.office) {
+        Ok(coordinates) => {
+            let options = CoordinateOptions {
+                is_rounded: is_rounded(ask),
+                origin: coordinates.origin,
+            };
+            answer_prepared(rt, ask, given, options)
+        }
+        Err(fault) => Ok(refuse_texts(rt, fault, given.files, given.office, given.second)),
+    }
 }
 
 /// Answers what the words ask of files, and gives the exit status.
-fn answer_files(rt: &HostRuntime, ask: &DeskAsk, files: &[Words]) -> Result<u8, RunFault> {
+fn answer_files(
+    rt: &HostRuntime,
+    ask: &DeskAsk,
+    preparation: &Preparation,
+    files: &[Words],
+) -> Result<u8, RunFault> {
     let mut texts = match read_files(rt, files) {
         Ok(texts) => texts,
         Err(refused) => return Ok(refuse_file(rt, file_name(files, refused.file), refused.fault)),
@@ -333,6 +521,7 @@ fn answer_files(rt: &HostRuntime, ask: &DeskAsk, files: &[Words]) -> Result<u8, 
         second: text_at(&texts, 1),
         layers: layers.as_slice(),
         folder: &folder,
+        preparation,
     };
     answer_given(rt, ask, &given)
 }
@@ -355,7 +544,9 @@ fn run_words(rt: &HostRuntime, words: &[String]) -> Result<u8, RunFault> {
         Err(AskFault::OutOfMemory) => return Err(RunFault::OutOfMemory),
     };
     match asked {
-        Asked::OfTexts(ask) => answer_files(rt, &ask, files.as_slice()),
+        Asked::OfTexts(ask, preparation) => {
+            answer_files(rt, &ask, &preparation, files.as_slice())
+        }
         Asked::Reach(ask) => answer_stream(rt, &ask, files.as_slice()),
     }
 }

@@ -61,6 +61,17 @@ const ROUND: Argument<'static> = Argument::Flag(
     "Round coordinates that are finer than a millimetre",
 );
 
+const EMPTY: Argument<'static> = Argument::ValueOption(
+    "empty",
+    "COLUMN=VALUE,..",
+    "What the empty fields of columns are",
+);
+
+const REPAIR: Argument<'static> = Argument::Flag(
+    "repair",
+    "Take out vertices that are the same as the one before them, and say where",
+);
+
 const COPIED: Argument<'static> = Argument::ValueOption(
     "base",
     "COPIED",
@@ -186,6 +197,8 @@ const TELLINGS: &[Subcommand<'static>] = &[
                 "The file of a certificate over this office",
             ),
             ROUND,
+            EMPTY,
+            REPAIR,
         ],
     },
     Subcommand {
@@ -238,6 +251,7 @@ const EXPORTS: &[Subcommand<'static>] = &[
                 "WORKSPACE",
                 "The workspace whose rows are printed [default: LIVE]",
             ),
+            EMPTY,
         ],
     },
 ];
@@ -264,6 +278,8 @@ const IMPORTS: &[Subcommand<'static>] = &[
                 "BAD",
                 "Take the records without a fault, and write the others to this new file",
             ),
+            EMPTY,
+            REPAIR,
         ],
     },
     Subcommand {
@@ -280,6 +296,8 @@ const IMPORTS: &[Subcommand<'static>] = &[
             Argument::Flag("script", "Print the script that makes the design"),
             LEAST_KEY,
             ROUND,
+            EMPTY,
+            REPAIR,
         ],
     },
     Subcommand {
@@ -296,6 +314,8 @@ const IMPORTS: &[Subcommand<'static>] = &[
             REMOVES,
             LEAST_KEY,
             ROUND,
+            EMPTY,
+            REPAIR,
         ],
     },
 ];
@@ -378,6 +398,8 @@ const CUTS: &[Subcommand<'static>] = &[
             ),
             LAYERS,
             ROUND,
+            EMPTY,
+            REPAIR,
         ],
     },
     Subcommand {

@@ -23,7 +23,7 @@ fn database_complaint(alloc: Global, matches: &ArgMatches) -> Result<Option<Stri
     Ok(Some(text))
 }
 
-/// Returns what is wrong with the words of a subcommand: what `database_complaint` says, or else that a layer has no `=`, or else that a choice is neither
+/// Returns what is wrong with the words of a subcommand: what `database_complaint` says, or else that a layer has no `=`, or else that a value of empty fields has none, or else that a choice is neither
 /// yes nor no, that the script of a design is asked for that has none, that records of several layers are to be skipped, or else that the first key is none.
 pub(crate) fn complaint(alloc: Global, matches: &ArgMatches) -> Result<String, AllocError> {
     if let Some(text) = database_complaint(alloc, matches)? {
@@ -32,6 +32,13 @@ pub(crate) fn complaint(alloc: Global, matches: &ArgMatches) -> Result<String, A
     for word in matches.get_strs("TABLE=FILE").unwrap_or(&[]) {
         if !word.contains('=') {
             return format!(in alloc; "invalid value '{word}' for '<TABLE=FILE>...': it has no '='");
+        }
+    }
+    for word in matches.get_str("empty").unwrap_or("=").split(',') {
+        if !word.contains('=') {
+            return format!(in alloc;
+                "invalid value '{word}' for '--empty <COLUMN=VALUE,..>': it has no '='"
+            );
         }
     }
     let choice = matches.get_str("removes").unwrap_or("yes");

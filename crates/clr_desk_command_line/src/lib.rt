@@ -1,8 +1,8 @@
 //! What the words of the second program's command line ask for.
 //!
 //! - `ask_of` [`asks`, `takes`]: what is asked, and the files, are what `clap`'s definition of a
-//!   simple command finds in the words. Words that the command takes, in which each layer, the first
-//!   key, the choice, the dialect and the origin can be read where a subcommand has them, are refused only where there is
+//!   simple command finds in the words. Words that the command takes, in which each layer, the values
+//!   of empty fields, the first key, the choice, the dialect and the origin can be read where a subcommand has them, are refused only where there is
 //!   no memory, but for the script of a design that has none, and for records of several layers that are to be skipped. Texts of
 //!   help, usage and refusals are tested only.
 #![tactic(auto)]
@@ -16,6 +16,7 @@ mod helps;
 mod layer_reading;
 mod named_layers;
 mod origins;
+mod preparation_reading;
 mod reading;
 mod values;
 mod why_reading;
@@ -25,6 +26,7 @@ pub use asks::{
     ReachAsk, SqlAsk, TextKind,
 };
 pub use clr_command_line::AskFault;
+pub use clr_prepared_layers::{EmptyValue, Preparation};
 pub use clr_sql::Dialect;
 pub use origins::{MOST_ORIGIN_METRES, limit_of_origins};
 pub use reading::ask_of;

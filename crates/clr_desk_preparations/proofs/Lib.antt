@@ -1,0 +1,3 @@
+mod PreparedLemmas
+mod RepairLemmas
+mod ShownLemmas
