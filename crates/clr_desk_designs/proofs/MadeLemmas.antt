@@ -6,7 +6,7 @@ use Rattle.clr_layer_changes.specs.Wanted.{wanted_over}
 use Rattle.clr_layer_changes.specs.declared.options.LayerOptions.{LayerOptions}
 use Rattle.clr_desk_designs.specs.InTurn.{of_removed, of_reply}
 use Rattle.clr_desk_designs.specs.Made.{IsContentMade, IsDesignMade, by_removal, by_reply}
-use Rattle.clr_desk_designs.specs.declared.layered_designs.LayeredDesign.{LayeredDesign}
+use Rattle.clr_design_folders.specs.declared.layered_designs.LayeredDesign.{LayeredDesign}
 use Rattle.clr_desk_designs.specs.declared.made_designs.MadeDesigns.{MadeDesigns}
 use Rattle.clr_desk_designs.specs.declared.made_designs.MadeDesigns.TheVariants.{Made, Refused}
 

@@ -15,7 +15,7 @@ use Rattle.clr_desk_layers.specs.Counted.{removal_in, removal_print}
 use Rattle.clr_desk_layers.specs.Designs.{refusal_print}
 use Rattle.clr_desk_prints.specs.Printing.{PrintoutOrFault, printed}
 use Rattle.clr_desk_designs.specs.InTurn.{AreMade, IsFirstRefused, IsMakeable, IsRefusal, counts_text, named_text}
-use Rattle.clr_desk_designs.specs.declared.layered_designs.LayeredDesign.{LayeredDesign}
+use Rattle.clr_design_folders.specs.declared.layered_designs.LayeredDesign.{LayeredDesign}
 use Rattle.clr_desk_designs.specs.declared.made_designs.MadeDesigns.{MadeDesigns}
 use Rattle.clr_desk_designs.specs.declared.made_designs.MadeDesigns.TheVariants.{Made, Refused}
 

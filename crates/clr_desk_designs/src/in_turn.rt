@@ -5,8 +5,8 @@ ghost use Rattle.clr_rows.specs.Schemas.{FitsSchema};
 ghost use Rattle.clr_desk_designs.specs.Made.{AreAllMade, IsContentMade, IsDesignMade};
 
 use crate::design_names::{named_print, named_text};
-use crate::layered_designs::LayeredDesign;
 use crate::made_designs::MadeDesigns;
+use clr_design_folders::LayeredDesign;
 use clr_designs::{edit_counts_line, make_design};
 use clr_desk_layers::{print_of_fault, print_of_refusal, removal, removal_in};
 use clr_engine::Office;
