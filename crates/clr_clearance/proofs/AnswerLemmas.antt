@@ -51,7 +51,7 @@ of_standing o c w e =
     (not_live o (name_in c) w e)
     ∙ ap (λ r. option_map_or (λ v. first_of (refusals_of o v c)) r (Some NoWorkspace)) e
 
-of_absent : (o : Office) (c : Command) → workspace o (name_in c) ≡ None → (refusal_on o c ≡ Some LiveIsFixed) ⊎ (refusal_on o c ≡ Some NoWorkspace)
+pub of_absent : (o : Office) (c : Command) → workspace o (name_in c) ≡ None → (refusal_on o c ≡ Some LiveIsFixed) ⊎ (refusal_on o c ≡ Some NoWorkspace)
 of_absent o c e = by (is_live (name_in c)) refl
   where
     by : (b : Bool) → is_live (name_in c) ≡ b → (refusal_on o c ≡ Some LiveIsFixed) ⊎ (refusal_on o c ≡ Some NoWorkspace)
@@ -75,11 +75,11 @@ pub broken_or_none : (o : Office) (name : Name) (content : Content) → (breaks 
 unfolding breaks
 broken_or_none o name content = where_or_none (is_kept o name) o.book (content_of o name) content
 
-refresh_or_none : (o : Office) (w : Workspace) → (refresh_breaks o w ≡ None) ⊎ ((need : Broken) × (refresh_breaks o w ≡ Some (RuleBroken need)))
+pub refresh_or_none : (o : Office) (w : Workspace) → (refresh_breaks o w ≡ None) ⊎ ((need : Broken) × (refresh_breaks o w ≡ Some (RuleBroken need)))
 unfolding refresh_breaks
 refresh_or_none o w = where_or_none (is_kept o w.name) o.book (above_or o w w.current) (merged_content o w)
 
-none_where : (kept : Bool) (book : List Rule) (before content : Content) → BreaksNoMore book (row_at before) (row_at content)
+pub none_where : (kept : Bool) (book : List Rule) (before content : Content) → BreaksNoMore book (row_at before) (row_at content)
     → broken_where kept book before content ≡ None
 none_where kept book before content no_more = ap (λ r. cond kept (option_map RuleBroken r) None) (none_if_no_more book before content no_more) ∙ by kept
   where
@@ -113,7 +113,7 @@ absent_answered o c next of e = elim (of_absent o c e) [
 ]
 
 -- safe, where it is refused for this or for nothing
-safe_as : (o : Office) (c : Command) (r : Option Reply) → refusal o c ≡ r → is_clash (refused_or_done r o (effect o c)).reply ≡ false
+pub safe_as : (o : Office) (c : Command) (r : Option Reply) → refusal o c ≡ r → is_clash (refused_or_done r o (effect o c)).reply ≡ false
     → (is_ready o c ≡ true → (refused_or_done r o (effect o c)).reply ≡ Done) → IsSafeAnswer o c
 safe_as o c r e clash done = record {
   no_clash = ap (λ (a : Answer). is_clash a.reply) (step_as o c r e) ∙ clash;

@@ -28,7 +28,9 @@ use Rattle.clr_clearance.specs.Invariants.{Invariant}
 use Rattle.clr_clearance.specs.PlanLaws.{LastingCoverLaw, LastingCoverReorderedLaw, LastingLaw, LastingReorderedLaw, StaysClear}
 use Rattle.clr_clearance.specs.Plans.{standing}
 use Rattle.clr_clearance.specs.MergeSets.{AreMergeable, Covers, changed_by, is_child, rows_with, setting_of}
-use Rattle.clr_clearance.proofs.CarryLemmas.{AreIdle, Changes, Fate, IsLater, Gone, Merged, Stays, carried, changes_of, idle_or_changed, on_entry}
+use Rattle.clr_ordered_needs.specs.Later.{AreIdle, Changes, Fate, Gone, IsLater, Merged, Stays}
+use Rattle.clr_ordered_needs.proofs.CarriedNeeds.{changes_of, idle_or_changed, on_entry}
+use Rattle.clr_clearance.proofs.CarryLemmas.{carried}
 use Rattle.clr_clearance.proofs.ClearLemmas.{AllDiffer, has_at, no_member_fault, position_of}
 use Rattle.clr_clearance.proofs.MemberLemmas.{again, it, no_conflict_now, not_root}
 use Rattle.clr_clearance.proofs.NameLemmas.{has_is}

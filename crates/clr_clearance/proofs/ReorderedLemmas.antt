@@ -25,7 +25,9 @@ use Rattle.clr_rules.specs.Needs.{BreaksNoMore, Holds}
 use Rattle.clr_clearance.specs.Safety.{IsMergeOf, IsSafeAt}
 use Rattle.clr_clearance.specs.MergeSets.{AreMergeable, is_child, rows_with, setting_of}
 use Rattle.clr_clearance.specs.Verdicts.{repeated_member}
-use Rattle.clr_clearance.proofs.CarryLemmas.{Changes, Fate, IsLater, Stays, carried, is_merged, on, on_entry, on_need}
+use Rattle.clr_ordered_needs.specs.Later.{Changes, Fate, IsLater, Stays}
+use Rattle.clr_ordered_needs.proofs.CarriedNeeds.{is_merged, on, on_entry, on_need}
+use Rattle.clr_clearance.proofs.CarryLemmas.{carried}
 use Rattle.clr_clearance.proofs.ClearLemmas.{differ_unless_repeated}
 use Rattle.clr_clearance.proofs.NameLemmas.{has_is}
 use Rattle.clr_clearance.proofs.StaticLemmas.{number_law}

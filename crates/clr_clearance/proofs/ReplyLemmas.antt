@@ -10,7 +10,7 @@ use Rattle.clr_clearance.specs.Runs.{AreQuiet, merged_in, office_before}
 use Rattle.clr_clearance.specs.Safety.{IsMergeOf, NoneClashes, is_clash}
 
 -- the reply at a position is that of the command there, in the office in which it is given
-reply_at : (o : Office) (cs : List Command) (lost : ℕ → Bool) (at : ℕ) (c : Command) (reply : Reply)
+pub reply_at : (o : Office) (cs : List Command) (lost : ℕ → Bool) (at : ℕ) (c : Command) (reply : Reply)
     → slice_get cs at ≡ Some c → slice_get (run o cs lost).replies at ≡ Some reply
     → (step_or_lost (lost at) (office_before o cs lost at) c).reply ≡ reply
 reply_at o [] lost at c reply e f = absurd (cc)
@@ -24,7 +24,7 @@ reply_at o (d ∷ cs) lost (suc at) c reply e f =
     ∙ reply_at (step_or_lost (lost 0) o d).office cs (λ k. lost (k + 1)) at c reply e f
 
 -- the first commands of a list
-taken_at : {X : Type 0} (xs : List X) (n k : ℕ) (x : X) → slice_get (take n xs) k ≡ Some x → (k < n) × (slice_get xs k ≡ Some x)
+pub taken_at : {X : Type 0} (xs : List X) (n k : ℕ) (x : X) → slice_get (take n xs) k ≡ Some x → (k < n) × (slice_get xs k ≡ Some x)
 taken_at [] zero k x e = absurd (cc)
 taken_at [] (suc n) k x e = absurd (cc)
 taken_at (y ∷ ys) zero k x e = absurd (cc)

@@ -93,19 +93,19 @@ number_here : (rows : List LayerRow) (n m : ℕ) → n ≡ min (length rows + 1)
 number_here rows n m is next = omega arith
 
 -- what is told of the source by a fault of its stream
-pub told_on : (X Y : Type 0) (failed : Bool) (e : StreamFault) → failed ≡ is_unreadable_stream {X = X} (Err e)
+pub told_on : {X Y : Type 0} (failed : Bool) (e : StreamFault) → failed ≡ is_unreadable_stream {X = X} (Err e)
     → failed ≡ is_unreadable {X = Y} (Err (pass_fault e))
-told_on X Y failed of_stream.OutOfMemory tells = tells
-told_on X Y failed of_stream.Unreadable tells = tells
-told_on X Y failed (of_stream.Record m fault) tells = tells
+told_on failed of_stream.OutOfMemory tells = tells
+told_on failed of_stream.Unreadable tells = tells
+told_on failed (of_stream.Record m fault) tells = tells
 
 -- where a row isn't told of, the source hasn't failed
-pub told_of_row : (Y : Type 0) (failed text_failed notes_failed : Bool) (e : PassFault) → failed ≡ false → IsTellingFault text_failed notes_failed e
+pub told_of_row : {Y : Type 0} (failed text_failed notes_failed : Bool) (e : PassFault) → failed ≡ false → IsTellingFault text_failed notes_failed e
     → failed ≡ is_unreadable {X = Y} (Err e)
-told_of_row Y failed text_failed notes_failed of_pass.OutOfMemory unfailed why = unfailed
-told_of_row Y failed text_failed notes_failed of_pass.Unreadable unfailed why = absurd why
-told_of_row Y failed text_failed notes_failed of_pass.WriteFailed unfailed why = unfailed
-told_of_row Y failed text_failed notes_failed (of_pass.Record m fault) unfailed why = absurd why
+told_of_row failed text_failed notes_failed of_pass.OutOfMemory unfailed why = unfailed
+told_of_row failed text_failed notes_failed of_pass.Unreadable unfailed why = absurd why
+told_of_row failed text_failed notes_failed of_pass.WriteFailed unfailed why = unfailed
+told_of_row failed text_failed notes_failed (of_pass.Record m fault) unfailed why = absurd why
 
 module _ {R V F : Type 0} {finder : Ghosts F} (remaining : R → Option (List ℕ)) (content : V → Content) (cut : CutText V F finder) (source : LayerSource R)
     (start : LayerStream) where

@@ -53,16 +53,16 @@ unopened text options table names known sinks failed (run_fault.BadCertificate n
 unopened text options table names known sinks failed run_fault.OutOfMemory silent why = tt
 
 -- so nothing was read
-pub unread : (X : Type 0) (text : List ℕ) (failed : Bool) (e : RunFault) → failed ≡ false → IsOfficeFault (draft_in text) e
+pub unread : {X : Type 0} (text : List ℕ) (failed : Bool) (e : RunFault) → failed ≡ false → IsOfficeFault (draft_in text) e
     → failed ≡ is_read_failed {X = X} (Err e)
-unread X text failed run_fault.ReadFailed unfailed why = absurd why
-unread X text failed run_fault.WriteFailed unfailed why = unfailed
-unread X text failed run_fault.TooLong unfailed why = unfailed
-unread X text failed run_fault.NoSeparator unfailed why = unfailed
-unread X text failed (run_fault.BadOffice fault) unfailed why = unfailed
-unread X text failed (run_fault.BadScript number fault) unfailed why = unfailed
-unread X text failed (run_fault.BadCertificate number fault) unfailed why = unfailed
-unread X text failed run_fault.OutOfMemory unfailed why = unfailed
+unread text failed run_fault.ReadFailed unfailed why = absurd why
+unread text failed run_fault.WriteFailed unfailed why = unfailed
+unread text failed run_fault.TooLong unfailed why = unfailed
+unread text failed run_fault.NoSeparator unfailed why = unfailed
+unread text failed (run_fault.BadOffice fault) unfailed why = unfailed
+unread text failed (run_fault.BadScript number fault) unfailed why = unfailed
+unread text failed (run_fault.BadCertificate number fault) unfailed why = unfailed
+unread text failed run_fault.OutOfMemory unfailed why = unfailed
 
 -- nor where want of memory is the only fault
 pub unless_lost : (failed : Bool) (r : Result ReachEnd RunFault) → failed ≡ false → IfErr r (λ e. e ≡ run_fault.OutOfMemory) → failed ≡ is_read_failed r

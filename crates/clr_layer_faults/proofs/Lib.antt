@@ -1,4 +1,4 @@
 mod PlaceLemmas
 mod RangeLemmas
-mod RecordLemmas
-mod RefusalLemmas
+pub mod RecordLemmas
+pub mod RefusalLemmas

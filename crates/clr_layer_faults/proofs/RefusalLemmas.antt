@@ -214,7 +214,7 @@ readable_text : (tables : List TableDef) (live : Content) (options : LayerOption
 unfolding layer_rows
 readable_text tables live options at text = refl
 
-no_fields : (table : TableDef) → fields_in [] table ≡ Err NoColumn
+pub no_fields : (table : TableDef) → fields_in [] table ≡ Err NoColumn
 unfolding fields_in
 no_fields table = refl
 

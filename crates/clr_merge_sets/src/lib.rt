@@ -15,8 +15,8 @@
 //! - `certificate_fault` [`fault`, `admitted`]: the first test of names that a certificate fails, or none: those of `name_fault`, and behind
 //!   the second that of each precedence the earlier name stands before the later one in the list of members. `position_pairs`: who goes before
 //!   whom among the members of a certificate, by position; `goes_before` asks it.
-//! - `rows_of_root`: the rows of a root. `texts_of_names`: the texts of names; `owned_names`: names of texts. `names_at`, `add_names_at`: the names of members at
-//!   positions of their list. `is_child`: whether a name is that of a child of a root.
+//! - `rows_of_root`: the rows of a root. `texts_of_names`: the texts of names; `owned_names`: names of texts. `names_at`, `add_names_at`: the names of members
+//!   at positions of their list. `is_child`: whether a name is that of a child of a root.
 //! - `Plan` is what a planner says: a certificate, a verdict with an order of members, or a test of names that fails. `is_cleared` and
 //!   `is_out_of_memory` tell which of its answers a plan is.
 #![tactic(auto)]

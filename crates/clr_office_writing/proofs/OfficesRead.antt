@@ -50,7 +50,7 @@ module _ (format : Format) (paths : path_in format ≡ Ok form.Path) where
   unfolding table_of columns_of
   table_read t = rw (any_read column_of column_data column_read t.columns, form_read t.shape) refl
 
-  tables_read : (ts : List TableDef) → each (table_of format) (items_of (map table_data ts)) ≡ Ok ts
+  pub tables_read : (ts : List TableDef) → each (table_of format) (items_of (map table_data ts)) ≡ Ok ts
   tables_read ts = any_read (table_of format) table_data table_read ts
 
 -- the format that is written

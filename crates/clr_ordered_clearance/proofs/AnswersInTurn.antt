@@ -1,5 +1,5 @@
 -- What a merge or a refresh of a member is answered where the rows with it break no more than those of the merged members, and that it meets no conflict.
-use Rattle.std.proofs.Common.{◌≡◌, ◌⊎◌, Bool, true, false, not, ◌&&◌, cond, List, [], ◌∷◌, inl, inr, refl, sym, ap, ◌∙◌, subst, Option, Some, None, is_some}
+use Rattle.std.proofs.Common.{◌≡◌, Bool, true, false, not, ◌&&◌, cond, List, [], ◌∷◌, inl, inr, refl, sym, ap, ◌∙◌, subst, Option, Some, None, is_some}
 use Rattle.std.specs.Option.{option_map, option_map_or}
 use Rattle.std.proofs.lemmas.Bool.{false≢true}
 use Rattle.clr_rows.specs.declared.cells.CellId.{CellId}
@@ -13,61 +13,22 @@ use Rattle.clr_steps.specs.declared.commands.Command.{Command}
 use Rattle.clr_steps.specs.declared.commands.Command.TheVariants as command
 use Rattle.clr_steps.specs.declared.commands.Reply.{Reply}
 use Rattle.clr_steps.specs.declared.commands.Reply.TheVariants.{Done, LiveIsFixed, NotLeaf, NoWorkspace, RuleBroken}
-use Rattle.clr_steps.specs.Names.{is_live}
 use Rattle.clr_steps.specs.Offices.{Office, content_of, is_kept, workspace}
 use Rattle.clr_steps.specs.Effects.{after_refresh, effect, merged_content}
 use Rattle.clr_steps.specs.Quiet.{Member, MergeSet, is_member, is_of_member, is_root, member_of}
-use Rattle.clr_steps.specs.Refusals.{above_or, breaks, broken_where, first_newly_broken, first_of, has_child, name_in, refresh_breaks, refusal, refusal_on, refusals_of, when}
+use Rattle.clr_steps.specs.Refusals.{above_or, breaks, first_of, has_child, name_in, refresh_breaks, refusal, refusal_on, refusals_of, when}
 use Rattle.clr_steps.specs.Steps.{Answer, refused_or_done, step}
 use Rattle.clr_steps.proofs.FindLemmas.{found_name, same_is}
-use Rattle.clr_steps.proofs.NeedLemmas.{none_if_no_more}
 use Rattle.clr_clearance.specs.Invariants.{Invariant}
-use Rattle.clr_clearance.specs.Safety.{IsSafeAnswer, is_clash, is_ready}
+use Rattle.clr_clearance.specs.Safety.{IsSafeAnswer, is_ready}
 use Rattle.clr_clearance.specs.MergeSets.{AreMergeable, rows_with}
-use Rattle.clr_clearance.proofs.AnswerLemmas.{broken_or_none, of_standing, step_as}
+use Rattle.clr_clearance.proofs.AnswerLemmas.{broken_or_none, none_where, of_absent, of_standing, refresh_or_none, safe_as, step_as}
 use Rattle.clr_clearance.proofs.EffectLemmas.{member_refreshed, refresh_steps, shown}
 use Rattle.clr_clearance.proofs.MemberLemmas.{it, merged_rows, no_conflict_now, not_root}
 use Rattle.clr_clearance.proofs.MergeSetLemmas.{content_above}
 use Rattle.clr_ordered_clearance.specs.Safety.{is_conflict}
 
--- refusals of a command on a workspace -----------------------------------------------------------------
-
-of_absent : (o : Office) (c : Command) → workspace o (name_in c) ≡ None → (refusal_on o c ≡ Some LiveIsFixed) ⊎ (refusal_on o c ≡ Some NoWorkspace)
-of_absent o c e = by (is_live (name_in c)) refl
-  where
-    by : (b : Bool) → is_live (name_in c) ≡ b → (refusal_on o c ≡ Some LiveIsFixed) ⊎ (refusal_on o c ≡ Some NoWorkspace)
-    by true h = inl (ap (λ b. cond b (Some LiveIsFixed) (option_map_or (λ v. first_of (refusals_of o v c)) (workspace o (name_in c)) (Some NoWorkspace))) h)
-    by false h = inr (
-        ap (λ b. cond b (Some LiveIsFixed) (option_map_or (λ v. first_of (refusals_of o v c)) (workspace o (name_in c)) (Some NoWorkspace))) h
-        ∙ ap (λ r. option_map_or (λ v. first_of (refusals_of o v c)) r (Some NoWorkspace)) e)
-
-refresh_or_none : (o : Office) (w : Workspace) → (refresh_breaks o w ≡ None) ⊎ ((need : Broken) × (refresh_breaks o w ≡ Some (RuleBroken need)))
-unfolding refresh_breaks
-refresh_or_none o w = by (is_kept o w.name) (first_newly_broken o.book (above_or o w w.current) (merged_content o w))
-  where
-    by : (b : Bool) (r : Option Broken) → (cond b (option_map RuleBroken r) None ≡ None)
-        ⊎ ((need : Broken) × (cond b (option_map RuleBroken r) None ≡ Some (RuleBroken need)))
-    by true None = inl refl
-    by true (Some need) = inr (need, refl)
-    by false r = inl refl
-
-none_where : (kept : Bool) (book : List Rule) (before content : Content) → BreaksNoMore book (row_at before) (row_at content)
-    → broken_where kept book before content ≡ None
-none_where kept book before content no_more = ap (λ r. cond kept (option_map RuleBroken r) None) (none_if_no_more book before content no_more) ∙ by kept
-  where
-    by : (b : Bool) → cond b None None ≡ option_map RuleBroken None
-    by true = refl
-    by false = refl
-
 -- answers ---------------------------------------------------------------------------------------------------
-
--- safe, where it is refused for this or for nothing
-safe_as : (o : Office) (c : Command) (r : Option Reply) → refusal o c ≡ r → is_clash (refused_or_done r o (effect o c)).reply ≡ false
-    → (is_ready o c ≡ true → (refused_or_done r o (effect o c)).reply ≡ Done) → IsSafeAnswer o c
-safe_as o c r e clash done = record {
-  no_clash = ap (λ (a : Answer). is_clash a.reply) (step_as o c r e) ∙ clash;
-  is_done = λ h. ap (λ (a : Answer). a.reply) (step_as o c r e) ∙ done h;
-}
 
 -- no conflict, where it is refused for something else, or for nothing
 free_as : (o : Office) (c : Command) (r : Option Reply) → refusal o c ≡ r → is_conflict (refused_or_done r o (effect o c)).reply ≡ false

@@ -21,7 +21,7 @@ use Rattle.clr_clearance.specs.Runs.{AreQuiet, office_before}
 use Rattle.clr_clearance.specs.Safety.{is_clash}
 use Rattle.clr_clearance.proofs.MergeSetLemmas.{order_law}
 use Rattle.clr_clearance.proofs.NameLemmas.{has_is}
-use Rattle.clr_clearance.proofs.ReplyLemmas.{first_quiet}
+use Rattle.clr_clearance.proofs.ReplyLemmas.{first_quiet, reply_at}
 use Rattle.clr_clearance.proofs.SafeLemmas.{quiet_list_law}
 use Rattle.clr_ordered_clearance.specs.Headlines.{NoneClashesInTurn, NoneConflicts}
 use Rattle.clr_ordered_clearance.specs.Laws.{HeadlineInTurnLaw}
@@ -29,7 +29,7 @@ use Rattle.clr_ordered_clearance.specs.MergeSets.{OrderedMergeSet}
 use Rattle.clr_ordered_clearance.specs.Safety.{IsSafeInTurnAt, SafeInTurn, is_conflict}
 use Rattle.clr_ordered_clearance.specs.Turns.{IsTurnOf, MergesComeInTurn, merged_before}
 use Rattle.clr_ordered_clearance.proofs.AnswersInTurn.{answer_free}
-use Rattle.clr_ordered_clearance.proofs.Prefixes.{first_come, reply_at}
+use Rattle.clr_ordered_clearance.proofs.Prefixes.{first_come}
 use Rattle.clr_ordered_clearance.proofs.SafeLemmas.{safe_in_turn}
 
 -- replies ---------------------------------------------------------------------------------------------------------

@@ -71,8 +71,8 @@ AreStuck c members = (found : OpenNeeds) × AreOpenNeeds c found × IsCause foun
 abbrev pub AreTooMany : Setting ℕ → List ℕ → Type 0
 AreTooMany c members = (found : OpenNeeds) × AreOpenNeeds c found × IsLargeKnotLeft found.sides.items (length c.members) members
 
--- the least open need that no member helps; or else an order with its pairs, where no knot is too large; or that there is none, and the members that show it; or a
--- knot that is too large
+-- the least open need that no member helps; or else an order with its pairs, where no knot is too large; or that there is none, and the members that show it;
+-- or a knot that is too large
 abbrev pub IsSceneOrder : Setting ℕ → SceneOrder → Type 0
 IsSceneOrder c (scene_order.Order order pairs) = AreHelped c × AreKnotsFew c × IsOrderBy c order.items pairs.items
 IsSceneOrder c (scene_order.Final need members) = IsFinal c need members.items

@@ -1,5 +1,5 @@
 -- Records that have no fault have none by themselves either.
-use Rattle.std.proofs.Common.{◌≡◌, ◌∙◌, ◌||◌, ℕ, ℤ, ◌+◌, ◌<◌, ◌==◌, Bool, true, false, cond, List, [], ◌∷◌, ◌++◌, Option, Some, None, Result, Ok, Err}
+use Rattle.std.proofs.Common.{◌≡◌, ◌∙◌, ℕ, ℤ, ◌+◌, ◌<◌, ◌==◌, Bool, true, false, cond, List, [], ◌∷◌, ◌++◌, Option, Some, None, Result, Ok, Err}
 use Rattle.std.proofs.Common.{ap, append-nil, arith, is_some, length, refl, sym}
 use Rattle.std.specs.List.{AllByRecursion}
 use Rattle.std.specs.Option.{option_to_list}
@@ -15,7 +15,7 @@ use Rattle.clr_records.proofs.RecordsAgain.{HasField}
 use Rattle.clr_records.proofs.Turns.{joined}
 use Rattle.clr_layer_text.specs.Layers.{Fields, can_be_layer, columns_of, fields_in, fields_of_table, heading_of, row_of, shape_heading_of, whole_row_of}
 use Rattle.clr_layer_text.specs.declared.faults.LayerFault.{LayerFault}
-use Rattle.clr_layer_text.specs.declared.faults.LayerFault.TheVariants.{ColumnTwice, FieldCount, NoColumn}
+use Rattle.clr_layer_text.specs.declared.faults.LayerFault.TheVariants.{ColumnTwice, FieldCount}
 use Rattle.clr_layer_text.specs.declared.headings.Heading.{Heading}
 use Rattle.clr_layer_text.specs.declared.headings.ShapeHeading.{ShapeHeading}
 use Rattle.clr_layer_text.specs.declared.rows.LayerRow.{LayerRow}
@@ -24,26 +24,12 @@ use Rattle.clr_layer_faults.specs.declared.found.FoundFault.{FoundFault}
 use Rattle.clr_layer_faults.specs.FoundFaults.{Record, RowOrFault, below_header, faults_below, faults_from, found_at, has_key, header_in, key_fault, own_keys}
 use Rattle.clr_layer_faults.specs.FoundFaults.{record_fault}
 use Rattle.clr_layer_faults.specs.Refusals.{FaultsTellRefusals}
+use Rattle.clr_layer_faults.proofs.RecordLemmas.{more_keys}
+use Rattle.clr_layer_faults.proofs.RefusalLemmas.{no_fields}
 use Rattle.clr_skipped_records.specs.SoundRecords.{SoundRecordsLaw, SoundTextsLaw, sound_from, sound_records, unless}
 use Rattle.clr_skipped_records.proofs.WalkLemmas.{no_record, no_sound, one_record, one_sound}
 
 -- keys --------------------------------------------------------------------------------------------------
-
--- the keys of a list with one more
-more_keys : (keys : List ℤ) (added key : ℤ) → has_key (keys ++ added ∷ []) key ≡ cond (is_eq (int_cmp added key)) true (has_key keys key)
-more_keys [] added key = by (is_eq (int_cmp added key))
-  where
-    by : (b : Bool) → (b || false) ≡ cond b true false
-    by true = refl
-    by false = refl
-more_keys (other ∷ keys) added key =
-    ap (λ b. is_eq (int_cmp other key) || b) (more_keys keys added key) ∙ by (is_eq (int_cmp other key)) (is_eq (int_cmp added key)) (has_key keys key)
-  where
-    by : (a b t : Bool) → (a || cond b true t) ≡ cond b true (a || t)
-    by true true t = refl
-    by true false t = refl
-    by false true t = refl
-    by false false t = refl
 
 -- two lists have the same keys
 abbrev SameKeys : List ℤ → List ℤ → Type 0
@@ -180,10 +166,6 @@ width_in names table headings is = by (heading_of names KEY.now) (columns_of nam
     by (Ok k) (Ok cs) (Err f) e = absurd cc
     by (Ok k) (Err f) s e = absurd cc
     by (Err f) cs s e = absurd cc
-
-no_fields : (table : TableDef) → fields_in [] table ≡ Err NoColumn
-unfolding fields_in
-no_fields table = refl
 
 width_of : (names : Record) (table : TableDef) (headings : Fields) (b : Bool) → cond b (fields_in names table) (Err ColumnTwice) ≡ Ok headings
     → headings.width ≡ length names

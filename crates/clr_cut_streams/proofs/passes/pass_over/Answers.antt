@@ -1,8 +1,6 @@
-use Rattle.std.proofs.Common.{◌∙◌, Option, SFits, Some, ap, is_some, of_z, rules, sym, to_z, to_z-of_z, w64}
+use Rattle.std.proofs.Common.{◌∙◌, SFits, Some, ap, is_some, of_z, rules, sym, to_z, to_z-of_z, w64}
 use Rattle.std.proofs.lemmas.Result.{err_from_is_err_and}
-use Rattle.clr_layer_text.specs.declared.rows.LayerRow.{LayerRow}
 use Rattle.clr_layer_streams.specs.Streams.{form_of}
-use Rattle.clr_cut_streams.specs.declared.told.Told.{Told}
 use Rattle.clr_cut_streams.proofs.Going.{again, begun, cell_is, ends, fits_there, goes_on, told_of_row, told_on, unread, untold, without_key}
 use Rattle.clr_cut_streams.proofs.TellingOn.{there_as_copied}
 use Rattle.clr_cut_streams.proofs.passes.pass_over.Goals as goal
@@ -23,7 +21,7 @@ returns-in_err-row-clause-fault g c =
 pub returns-in_err-row-clause-source : goal.returns-in_err-row-clause-source
 returns-in_err-row-clause-source g c =
     let p = err_from_is_err_and c.from_residual.result c.from_residual.ensures.1 in
-    rw (p.1, p.2) (told_on (Option LayerRow) Told _ c.in_err-row.field-0.0 c.in_err-row.ensures.source)
+    rw (p.1, p.2) (told_on _ c.in_err-row.field-0.0 c.in_err-row.ensures.source)
 
 pub returns-in_default-clause-whole : goal.returns-in_default-clause-whole
 returns-in_default-clause-whole g c =
@@ -69,7 +67,7 @@ returns-in_err-standing-clause-fault g c =
 pub returns-in_err-standing-clause-source : goal.returns-in_err-standing-clause-source
 returns-in_err-standing-clause-source g c =
     let p = err_from_is_err_and c.from_residual-in_err-standing.result c.from_residual-in_err-standing.ensures.1 in
-    rw (p.1, p.2) (told_of_row Told _ _ _ c.in_err-standing.field-0.0 c.in_ok-row.ensures.reading.unfailed c.in_err-standing.ensures.fault)
+    rw (p.1, p.2) (told_of_row _ _ _ c.in_err-standing.field-0.0 c.in_ok-row.ensures.reading.unfailed c.in_err-standing.ensures.fault)
 
 pub returns-in_err-note_cell-clause-source : goal.returns-in_err-note_cell-clause-source
 returns-in_err-note_cell-clause-source g c =

@@ -6,9 +6,7 @@ use Rattle.clr_rows.specs.declared.tables.TableDef.{TableDef}
 use Rattle.clr_rules.specs.Books.{FitsBook}
 use Rattle.clr_rules.specs.declared.rules.Rule.{Rule}
 use Rattle.clr_cut_rows.specs.Searches.{model_of}
-use Rattle.clr_layer_streams.specs.declared.streams.LayerStream.{LayerStream}
 use Rattle.clr_layer_streams.specs.Sources.{bytes_of}
-use Rattle.clr_cut_streams.specs.declared.told.Told.{Told}
 use Rattle.clr_cut_streams.proofs.Going.{told_on}
 use Rattle.clr_desk_cuts.specs.Inquiries.{asked_by}
 use Rattle.clr_desk_cuts.proofs.PassLemmas.{ended_if, no_header, passed_if}
@@ -24,7 +22,7 @@ returns-in_err-stream-clause-fault g c =
 pub returns-in_err-stream-clause-source : goal.returns-in_err-stream-clause-source
 returns-in_err-stream-clause-source g c =
     let p = err_from_is_err_and c.from_residual.result c.from_residual.ensures.1 in
-    rw (p.1, p.2) (told_on LayerStream Told _ c.in_err-stream.field-0.0 c.in_err-stream.ensures.source)
+    rw (p.1, p.2) (told_on _ c.in_err-stream.field-0.0 c.in_err-stream.ensures.source)
 
 pub returns-in_err-put_line-clause-fault : goal.returns-in_err-put_line-clause-fault
 returns-in_err-put_line-clause-fault g c =

@@ -1,4 +1,4 @@
-use Rattle.std.proofs.Common.{◌≡◌, ◌∙◌, ℕ, false, map, refl, rules}
+use Rattle.std.proofs.Common.{◌≡◌, ◌∙◌, false, map, refl, rules}
 use Rattle.std.proofs.lemmas.Result.{err_from_is_err_and}
 use Rattle.std.specs.Io.KnownBytes.{Appends}
 use Rattle.std.specs.Prelude.{is_err}
@@ -24,7 +24,7 @@ returns-in_err-opened-clause-answer g c =
 pub returns-in_err-opened-clause-source : goal.returns-in_err-opened-clause-source
 returns-in_err-opened-clause-source g c =
     let p = err_from_is_err_and c.from_residual.result c.from_residual.ensures.1 in
-    rw (p.1, p.2) (unread ℕ c.args.office.now _ c.in_err-opened.field-0.0 c.requires.unread.reading.unfailed c.in_err-opened.ensures.fault)
+    rw (p.1, p.2) (unread c.args.office.now _ c.in_err-opened.field-0.0 c.requires.unread.reading.unfailed c.in_err-opened.ensures.fault)
 
 pub returns-in_err-end-clause-source : goal.returns-in_err-end-clause-source
 returns-in_err-end-clause-source g c =
