@@ -1,9 +1,7 @@
 //! Whether entries cover a need under an order, and the first need that none covers.
 
-ghost use Rattle.std.specs.Prelude.{◌≡◌, ◌⊎◌, ℕ, Contains, IfOk, MatchOption, Option};
-ghost use Rattle.std.specs.List.Sorted.{IsStrictlySortedBy};
-ghost use Rattle.clr_needs.specs.Needs.{AreServers, IsPossible, IsPossibleNeed};
-ghost use Rattle.clr_needs.specs.Orders.{version_cmp};
+ghost use Rattle.std.specs.Prelude.{◌⊎◌, ℕ, IfOk, MatchOption, Option, Some};
+ghost use Rattle.clr_needs.specs.Needs.{IsPossible, IsPossibleNeed, IsServing};
 ghost use Rattle.clr_needs.specs.Settings.{Lived};
 ghost use Rattle.clr_needs.specs.Tests.{IsTestOf};
 ghost use Rattle.clr_foot.specs.Scenes.{IsReady, model_of, setting_of};
@@ -22,12 +20,13 @@ use clr_needs::{Need, VersionId};
 use clr_rows::RowView;
 use std::alloc::{AllocError, Global};
 
-/// Returns whether a version is among some.
-fn is_among(versions: &[VersionId], id: VersionId) -> bool
-    requires { IsStrictlySortedBy version_cmp versions.now }
-    ensures { IsTestOf result (Contains versions.now id) }
+/// Returns whether the version of a name serves a possible need.
+fn serves<V: RowView, F: RowFinder>(scene: &Scene<'_, V, F>, need: &Need, id: VersionId) -> bool
+    requires ready { IsReady F.settled (model_of V.content scene.now) }
+    requires possible { IsPossibleNeed (setting_of (model_of V.content scene.now)) need.now }
+    ensures { IsTestOf result (IsServing (setting_of (model_of V.content scene.now)) need.now id) }
 {
-    versions.binary_search(&id).is_ok()
+    scene.is_server(need, id)
 }
 
 /// Returns whether a version covers a need alone: it serves, and stands wherever the subjects do.
@@ -35,14 +34,14 @@ fn covers_alone<V: RowView, F: RowFinder>(
     scene: &Scene<'_, V, F>,
     pairs: &[PositionPair],
     need: &Need,
-    servers: &[VersionId],
     id: VersionId,
 ) -> bool
-    requires { AreServers (setting_of (model_of V.content scene.now)) need.now servers.now }
+    requires ready { IsReady F.settled (model_of V.content scene.now) }
+    requires possible { IsPossibleNeed (setting_of (model_of V.content scene.now)) need.now }
     ensures { (a : Lived ℕ) (b : Option (Lived ℕ)) → IsPossible (setting_of (model_of V.content scene.now)) need.now a b
         → IsTestOf result (CoversAlone (pairs_say pairs.now) (setting_of (model_of V.content scene.now)) need.now a b id) }
 {
-    if !is_among(servers, id) {
+    if !serves(scene, need, id) {
         return false;
     }
     let Some(life) = scene.life(id) else {
@@ -60,16 +59,15 @@ fn cover_together<V: RowView, F: RowFinder>(
     scene: &Scene<'_, V, F>,
     pairs: &[PositionPair],
     need: &Need,
-    servers: &[VersionId],
     one: VersionId,
     two: VersionId,
 ) -> bool
-    requires { AreServers (setting_of (model_of V.content scene.now)) need.now servers.now }
+    requires ready { IsReady F.settled (model_of V.content scene.now) }
+    requires possible { IsPossibleNeed (setting_of (model_of V.content scene.now)) need.now }
     ensures { (a : Lived ℕ) (b : Option (Lived ℕ)) → IsPossible (setting_of (model_of V.content scene.now)) need.now a b
         → IsTestOf result (CoverTogether (pairs_say pairs.now) (setting_of (model_of V.content scene.now)) need.now a b one two) }
 {
-    let _need = need;
-    if !is_among(servers, one) || !is_among(servers, two) {
+    if !serves(scene, need, one) || !serves(scene, need, two) {
         return false;
     }
     match (scene.life(one), scene.life(two)) {
@@ -78,29 +76,48 @@ fn cover_together<V: RowView, F: RowFinder>(
     }
 }
 
+/// Returns whether one of two versions covers a need alone, or both do together.
+fn one_covers<V: RowView, F: RowFinder>(
+    scene: &Scene<'_, V, F>,
+    pairs: &[PositionPair],
+    need: &Need,
+    one: VersionId,
+    two: VersionId,
+) -> bool
+    requires ready { IsReady F.settled (model_of V.content scene.now) }
+    requires possible { IsPossibleNeed (setting_of (model_of V.content scene.now)) need.now }
+    ensures { (a : Lived ℕ) (b : Option (Lived ℕ)) → IsPossible (setting_of (model_of V.content scene.now)) need.now a b
+        → IsTestOf result (WitnessesCover (pairs_say pairs.now) (setting_of (model_of V.content scene.now)) need.now a b one (Some two)) }
+{
+    if covers_alone(scene, pairs, need, one) {
+        return true;
+    }
+    if covers_alone(scene, pairs, need, two) {
+        return true;
+    }
+    cover_together(scene, pairs, need, one, two)
+}
+
 /// Returns whether the versions of an entry cover a need.
 fn covers<V: RowView, F: RowFinder>(
     scene: &Scene<'_, V, F>,
     pairs: &[PositionPair],
     need: &Need,
-    servers: &[VersionId],
     entry: &Entry,
 ) -> bool
-    requires { AreServers (setting_of (model_of V.content scene.now)) need.now servers.now }
+    requires ready { IsReady F.settled (model_of V.content scene.now) }
+    requires possible { IsPossibleNeed (setting_of (model_of V.content scene.now)) need.now }
     ensures { (a : Lived ℕ) (b : Option (Lived ℕ)) → IsPossible (setting_of (model_of V.content scene.now)) need.now a b
         → IsTestOf result (WitnessesCover (pairs_say pairs.now) (setting_of (model_of V.content scene.now)) need.now a b entry.now.one entry.now.two) }
 {
     match entry.two {
-        None => covers_alone(scene, pairs, need, servers, entry.one),
-        Some(two) => {
-            covers_alone(scene, pairs, need, servers, entry.one)
-                || covers_alone(scene, pairs, need, servers, two)
-                || cover_together(scene, pairs, need, servers, entry.one, two)
-        }
+        None => covers_alone(scene, pairs, need, entry.one),
+        Some(two) => one_covers(scene, pairs, need, entry.one, two),
     }
 }
 
-/// Returns whether the subjects of a need never stand together.
+/// Returns whether the subjects of a need never stand together. Where no member goes before another, those of a possible
+/// need can.
 fn subjects_never_meet<V: RowView, F: RowFinder>(
     scene: &Scene<'_, V, F>,
     pairs: &[PositionPair],
@@ -109,6 +126,9 @@ fn subjects_never_meet<V: RowView, F: RowFinder>(
     ensures { (a : Lived ℕ) (b : Option (Lived ℕ)) → IsPossible (setting_of (model_of V.content scene.now)) need.now a b
         → IsTestOf result (SubjectsNeverMeet (pairs_say pairs.now) a b) }
 {
+    if pairs.is_empty() {
+        return false;
+    }
     let Some(second) = need.second else {
         return false;
     };
@@ -127,22 +147,18 @@ fn has_cover<V: RowView, F: RowFinder>(
     pairs: &[PositionPair],
     need: &Need,
     entries: &[Entry],
-) -> Result<bool, AllocError>
+) -> bool
     requires ready { IsReady F.settled (model_of V.content scene.now) }
     requires possible { IsPossibleNeed (setting_of (model_of V.content scene.now)) need.now }
-    ensures { IfOk result (λ told. (a : Lived ℕ) (b : Option (Lived ℕ)) → IsPossible (setting_of (model_of V.content scene.now)) need.now a b
-        → IsTestOf told (HasCover (pairs_say pairs.now) (setting_of (model_of V.content scene.now)) need.now a b entries.now)) }
+    ensures { (a : Lived ℕ) (b : Option (Lived ℕ)) → IsPossible (setting_of (model_of V.content scene.now)) need.now a b
+        → IsTestOf result (HasCover (pairs_say pairs.now) (setting_of (model_of V.content scene.now)) need.now a b entries.now) }
 {
-    if entries.is_empty() {
-        return Ok(false);
-    }
-    let servers = scene.servers(need)?;
     for entry in entries {
-        if covers(scene, pairs, need, servers.as_slice(), entry) {
-            return Ok(true);
+        if covers(scene, pairs, need, entry) {
+            return true;
         }
     }
-    Ok(false)
+    false
 }
 
 /// Returns whether the subjects of a possible need never stand together, or one of some entries covers it.
@@ -151,18 +167,17 @@ fn is_covered<V: RowView, F: RowFinder>(
     pairs: &[PositionPair],
     need: &Need,
     entries: &[Entry],
-) -> Result<bool, AllocError>
+) -> bool
     requires ready { IsReady F.settled (model_of V.content scene.now) }
     requires possible { IsPossibleNeed (setting_of (model_of V.content scene.now)) need.now }
-    ensures { IfOk result (λ told. (a : Lived ℕ) (b : Option (Lived ℕ)) → IsPossible (setting_of (model_of V.content scene.now)) need.now a b
-        → IsTestOf told (SubjectsNeverMeet (pairs_say pairs.now) a b
-        ⊎ HasCover (pairs_say pairs.now) (setting_of (model_of V.content scene.now)) need.now a b entries.now)) }
+    ensures { (a : Lived ℕ) (b : Option (Lived ℕ)) → IsPossible (setting_of (model_of V.content scene.now)) need.now a b
+        → IsTestOf result (SubjectsNeverMeet (pairs_say pairs.now) a b
+        ⊎ HasCover (pairs_say pairs.now) (setting_of (model_of V.content scene.now)) need.now a b entries.now) }
 {
     if subjects_never_meet(scene, pairs, need) {
-        return Ok(true);
+        return true;
     }
-    let told = has_cover(scene, pairs, need, entries)?;
-    Ok(told)
+    has_cover(scene, pairs, need, entries)
 }
 
 /// Returns the least touched need of a scene that no entry covers under an order, and whose subjects can
@@ -181,7 +196,7 @@ pub(crate) fn first_uncovered<V: RowView, F: RowFinder>(
     let sorted = sort_entries(alloc, entries)?;
     let needs = scene.touched_needs()?;
     for need in &needs {
-        if !is_covered(scene, pairs, need, entries_of(sorted.as_slice(), need))? {
+        if !is_covered(scene, pairs, need, entries_of(sorted.as_slice(), need)) {
             return Ok(Some(*need));
         }
     }

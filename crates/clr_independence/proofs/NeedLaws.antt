@@ -1,6 +1,6 @@
 -- Members are dependent exactly where the needs that involve them have one in common.
-use Rattle.std.proofs.Common.{◌≡◌, ◌∙◌, ◌<◌, ◌≤◌, ◌+◌, ℕ, Bool, true, false, List, [], ◌∷◌, ◌++◌, Contains, get_or, length, refl}
-use Rattle.std.proofs.Common.{sym, ap, subst, arith, take, inl, inr}
+use Rattle.std.proofs.Common.{◌≡◌, ◌∙◌, ◌≤◌, ◌+◌, ℕ, Bool, true, false, List, [], ◌∷◌, ◌++◌, length, refl}
+use Rattle.std.proofs.Common.{sym, ap, subst, arith}
 use Rattle.std.proofs.lemmas.List.{length-append}
 use Rattle.clr_needs.specs.declared.needs.Need.{Need}
 use Rattle.clr_needs.specs.Independence.{IsIndependence}
@@ -8,13 +8,10 @@ use Rattle.clr_foot.specs.Involvement.{IsInvolving}
 use Rattle.clr_needs.specs.Needs.{Lists}
 use Rattle.clr_needs.specs.Orders.{need_cmp}
 use Rattle.clr_needs.specs.Settings.{Setting}
-use Rattle.clr_needs.proofs.Reading.{all_taken, one_more, read_in}
-use Rattle.clr_needs.specs.Tests.{IsTestOf}
-use Rattle.clr_needs.proofs.TestLemmas.{it_is, it_is_not}
 use Rattle.clr_foot.proofs.InvolvedLaws.{both_depend}
 use Rattle.clr_groups.proofs.LabelledGroups.{PutAt, earlier, last, put_at}
 use Rattle.clr_independence.specs.declared.member_pairs.MemberPair.{MemberPair}
-use Rattle.clr_independence.specs.Pairs.{AreNeedsOf, IsPairByNeeds, ShareOne, TellsIfApart}
+use Rattle.clr_independence.specs.Pairs.{AreNeedsOf, IsPairByNeeds, TellsIfApart}
 
 -- dependence -------------------------------------------------------------------------------------
 
@@ -32,27 +29,6 @@ module _ (c : Setting ℕ) (count : ℕ) (lists : List (List Need)) (are : AreNe
           )
       by false (n, h, j) = both_depend c n p.first p.second (((are.each p.first t.needs t.first).exactly n).0 h)
           (((are.each p.second t.others t.second).exactly n).0 j)
-
--- a common need ------------------------------------------------------------------------------
-
--- what a read past the end would give isn't looked at
-module _ (needs others : List Need) where
-  abbrev pub NoneShared : ℕ → Type 0
-  NoneShared k = (n : Need) → Contains (take k needs) n → Contains others n → ⊥
-
-  pub one_shared : (k : ℕ) (d : Need) (answer : Bool) → k < length needs → IsTestOf answer (Contains others (get_or needs k d)) → answer ≡ true
-      → ShareOne needs others
-  one_shared k d answer less tells e = (get_or needs k d, read_in needs k d less, it_is answer (Contains others (get_or needs k d)) e tells)
-
-  pub one_not_shared : (k : ℕ) (d : Need) (answer : Bool) → k < length needs → IsTestOf answer (Contains others (get_or needs k d)) → answer ≡ false
-      → NoneShared k → NoneShared (k + 1)
-  one_not_shared k d answer less tells e before n h j = elim (one_more needs k d n less h) [
-    | inl taken ↦ before n taken j
-    | inr same ↦ it_is_not answer (Contains others (get_or needs k d)) e tells (subst (Contains others) same j)
-  ]
-
-  pub none_shared : (k : ℕ) → length needs ≤ k → NoneShared k → ¬ (ShareOne needs others)
-  none_shared k past none (n, h, j) = none n (all_taken needs k n past h) j
 
 -- the needs of one member after another ----------------------------------------------------------
 

@@ -1,7 +1,9 @@
 -- Pairs of members, and which of them are independent.
-use Rattle.std.specs.Prelude.{◌≡◌, ◌+◌, ◌-◌, ◌++◌, ◌⊎◌, ℕ, Bool, true, false, List, Some, Contains, length, map, slice_get}
+use Rattle.std.specs.Prelude.{◌≡◌, ◌≤◌, ◌<◌, ◌+◌, ◌-◌, ◌++◌, ◌⊎◌, ℕ, Bool, true, false, List, Some, Contains, get_or, length, map, slice_get}
 use Rattle.std.specs.List.{flat_map, range_with_len}
 use Rattle.std.specs.List.Sorted.{IsStrictlySortedBy}
+use Rattle.std.specs.Ordering.{is_lt}
+use Rattle.std.specs.declared.cmp.Ordering.TheVariants.{Less}
 use Rattle.clr_needs.specs.declared.needs.Need.{Need}
 use Rattle.clr_needs.specs.Independence.{IsIndependence}
 use Rattle.clr_foot.specs.Involvement.{IsInvolving}
@@ -30,6 +32,13 @@ pub record ArePairs (c : Setting ℕ) (count : ℕ) (pairs : List MemberPair) : 
 -- two lists have a need in common
 abbrev pub ShareOne : List Need → List Need → Type 0
 ShareOne needs others = (n : Need) × Contains needs n × Contains others n
+
+-- the needs from one position to another are below a need, and at the latter stands none that is
+pub record IsPastBelow (needs : List Need) (from : ℕ) (n : Need) (to : ℕ) : Type 0 where
+  pub later : from ≤ to
+  pub within : to ≤ length needs
+  pub below : (k : ℕ) (d : Need) → from ≤ k → k < to → need_cmp (get_or needs k d) n ≡ Less
+  pub stop : (d : Need) → to < length needs → is_lt (need_cmp (get_or needs to d) n) ≡ false
 
 abbrev pub AreAscending : List (List Need) → Type 0
 AreAscending lists = (k : ℕ) (list : List Need) → slice_get lists k ≡ Some list → IsStrictlySortedBy need_cmp list

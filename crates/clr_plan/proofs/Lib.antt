@@ -1,7 +1,6 @@
 pub mod EntryLaws
 pub mod FaultLaws
 pub mod GroupLaws
-pub mod GroupNeedLaws
 pub mod OnePlanLemmas
 pub mod PromiseLaws
 pub mod ReadableLaws

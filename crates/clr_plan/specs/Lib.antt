@@ -1,5 +1,4 @@
 pub mod Certificates
-pub mod GroupNeeds
 pub mod OnePlan
 pub mod OrderedPlans
 pub mod Picked

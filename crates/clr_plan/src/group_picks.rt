@@ -1,4 +1,4 @@
-//! The witnesses of the touched needs of a scene, group by group.
+//! The witnesses of the touched needs of a scene, which are listed group by group.
 
 ghost use Rattle.std.specs.Prelude.{map, IfOk};
 ghost use Rattle.clr_needs.specs.Members.{AreApart};
@@ -8,7 +8,6 @@ ghost use Rattle.clr_groups.specs.GroupNeeds.{IsTouchedAt, group_need_cmp};
 ghost use Rattle.clr_groups.specs.Groups.{AreGroups};
 ghost use Rattle.clr_plan.specs.Picked.{ArePickedFor};
 
-use crate::group_scenes::group_scenes;
 use crate::picked::Picked;
 use clr_cert::{Entries, Entry};
 use clr_finders::RowFinder;
@@ -17,8 +16,9 @@ use clr_groups::GroupNeed;
 use clr_rows::RowView;
 use std::alloc::{AllocError, Global};
 
-/// Returns the touched needs of a scene with the witnesses that are picked for them, each in the
-/// scene of the group in which it is touched.
+/// Returns the touched needs of a scene with the witnesses that are picked for them. The needs are those that are touched
+/// in the scenes of groups. In the scene of all members the same witnesses are picked for them, so that no group has a
+/// scene made for it.
 pub(crate) fn pick_by_group<V: RowView, F: RowFinder>(
     alloc: Global,
     scene: &Scene<'_, V, F>,
@@ -32,10 +32,10 @@ pub(crate) fn pick_by_group<V: RowView, F: RowFinder>(
         (model_of V.content scene.now).sets (map (λ g. g.items) groups.now)) needs.now }
     ensures { IfOk result (ArePickedFor (setting_of (model_of V.content scene.now))) }
 {
-    let parts = group_scenes(alloc, scene, groups)?;
+    let _groups = groups;
     let mut list = Vec::with_capacity(alloc, needs.len())?;
     for touched in needs {
-        match parts[touched.group].pick(&touched.need)? {
+        match scene.pick(&touched.need)? {
             None => return Ok(Picked::Unpicked(touched.need)),
             Some((one, two)) => list.push(Entry {
                 need: touched.need,

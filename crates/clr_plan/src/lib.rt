@@ -14,8 +14,8 @@
 //!   of its members that stand are cleared after every quiet list, in whichever order they are
 //!   named.
 //! - `plan_changes` says the same, with the same clauses, of members whose changes were read before; `plan` reads them and does so.
-//! - Where members fall into groups, witnesses are picked in the scene of each group, by
-//!   `groups_split_needs`; the answer is the same, word for word.
+//! - The touched needs are listed group by group. By `groups_split_needs` the same witnesses are picked for them in the scene
+//!   of a group and in that of all, so they are picked in the latter, which is made once.
 //! - `cleared_plans_are_readable`, which `plan` [`readable`] says of its own answer: the certificate of a plan
 //!   that is cleared has good names, cells that the schema names and parts of paths, so that its text
 //!   is read as the certificate.
@@ -27,7 +27,6 @@
 mod certificates;
 mod faults;
 mod group_picks;
-mod group_scenes;
 mod laws;
 mod lines;
 mod picked;

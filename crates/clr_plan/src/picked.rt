@@ -21,8 +21,7 @@ pub(crate) enum Picked {
     Unpicked(Need),
 }
 
-/// Returns the touched needs of a scene with the witnesses that are picked for them, each in the
-/// scene of its group.
+/// Returns the touched needs of a scene with the witnesses that are picked for them.
 pub(crate) fn pick_all<V: RowView, F: RowFinder>(
     alloc: Global,
     scene: &Scene<'_, V, F>,

@@ -2,9 +2,9 @@
 use Rattle.std.proofs.Common.{◌≡◌, inl, inr, Bool, true, false, ◌||◌, ◌==◌, ℕ, zero, suc, ℤ, pos, List, [], ◌∷◌, map, slice_get, Option, Some, None, length}
 use Rattle.std.proofs.Common.{refl}
 use Rattle.std.proofs.Common.{sym, ap, subst, arith}
-use Rattle.std.specs.Prelude.{int_le, ⊤}
+use Rattle.std.specs.Prelude.{int_le, ⊤, if◌then◌else◌}
 use Rattle.std.specs.List.{list_all, zip, filter_map, cons_option}
-use Rattle.std.proofs.lemmas.Bool.{and_parts, or_cases, or_left, or_right, eqb-true, false≢true}
+use Rattle.std.proofs.lemmas.Bool.{and_parts, or_cases, or_left, or_right, eqb-true, false≢true, true≢false}
 use Rattle.std.proofs.lemmas.Int.{ints, int_min_is, int_max_is}
 use Rattle.std.proofs.lemmas.Map.Views.{list_any-from_Contains}
 use Rattle.clr_rows.specs.declared.places.Place.{Place}
@@ -16,6 +16,7 @@ use Rattle.clr_segments.specs.declared.boxes.Bounds.{Bounds}
 use Rattle.clr_segments.specs.Bounding.{BoxesTouch, InBox, box_between, grown_box}
 use Rattle.clr_segments.specs.Searches.{lies_on, have_common_point}
 use Rattle.clr_segments.proofs.BoxLemmas.{segments_touch, near_touch}
+use Rattle.clr_segments.proofs.Integers.{times_le}
 use Rattle.clr_segments.proofs.PointLemmas.{point_boxed}
 use Rattle.clr_segments.proofs.SearchLemmas.{on_from_search, common_from_search}
 use Rattle.clr_rules.specs.declared.columns.Col.{Col}
@@ -27,7 +28,7 @@ use Rattle.clr_spots.specs.declared.spots.Spot.TheVariants.{Square, Values}
 use Rattle.clr_rules.specs.Books.{has_distance, is_distance}
 use Rattle.clr_rules.specs.Calls.{have_meeting, are_nearer, are_one_point, is_crossing_at, is_plain, are_subjects, is_server, suits}
 use Rattle.clr_spots.specs.Laws.{ServersShare, SharesBeside, SubjectsShare}
-use Rattle.clr_spots.specs.RoleSpots.{squares_of_part, subject_spots, server_spots}
+use Rattle.clr_spots.specs.RoleSpots.{scale_of, scaled_box, scaled_place, squares_by_distance, squares_of_part, subject_spots, server_spots}
 use Rattle.clr_spots.specs.SpotOrder.{same_spot}
 use Rattle.clr_rules.proofs.RoleLemmas.{both_have_roles, both_of_one}
 use Rattle.clr_rows.specs.Held.{Held}
@@ -135,6 +136,39 @@ nearness d (Some o) (Some p) k e =
     let least = (and_parts (int_le (pos 1) d) _ k).0 in
     touching (grown_box (box_between o o) d) (grown_box (box_between p p) d) (near_touch o p d (omega (arith, ints)) (omega (arith, ints)))
 
+-- ---- squares of a distance
+abbrev IsNatural : ℤ → Type 0
+IsNatural z = (n : ℕ) × (z ≡ pos n)
+
+either : (b : Bool) (p q : ℤ) → IsNatural p → IsNatural q → IsNatural (if b then p else q)
+either true p q h k = h
+either false p q h k = k
+
+scale_is : (d : ℤ) → IsNatural (scale_of d)
+scale_is d = either (int_le d (pos 12)) _ _ (1000, refl) (either (int_le d (pos 125)) _ _ (100, refl) (either (int_le d (pos 1250)) _ _ (10, refl) (1, refl)))
+
+scaled_in : (scale : ℕ) (p : Place) (b : Bounds) → InBox p b → InBox (scaled_place (pos scale) p) (scaled_box (pos scale) b)
+scaled_in scale p b h = (
+  (times_le scale b.least.x p.x h.0.0, times_le scale p.x b.most.x h.0.1),
+  (times_le scale b.least.y p.y h.1.0, times_le scale p.y b.most.y h.1.1),
+)
+
+scaled_touch : (scale : ℕ) (b c : Bounds) → BoxesTouch b c → BoxesTouch (scaled_box (pos scale) b) (scaled_box (pos scale) c)
+scaled_touch scale b c w = (scaled_place (pos scale) w.0, scaled_in scale w.0 b w.1, scaled_in scale w.0 c w.2)
+
+pub distance_nearness : (d : ℤ) (o p : Option Place) → is_distance d ≡ true → are_nearer d o p ≡ true
+    → Common (squares_by_distance d o) (squares_by_distance d p)
+distance_nearness d None p k e = absurd (false≢true e)
+distance_nearness d (Some o) None k e = absurd (false≢true e)
+distance_nearness d (Some o) (Some p) k e =
+    let least = (and_parts (int_le (pos 1) d) _ k).0 in
+    let scale = scale_is d in
+    let b = grown_box (box_between o o) d in
+    let c = grown_box (box_between p p) d in
+    let touch = near_touch o p d (omega (arith, ints)) (omega (arith, ints)) in
+    subst (λ (z : ℤ). Common (squares_of (scaled_box z b)) (squares_of (scaled_box z c))) (sym scale.1)
+    (touching (scaled_box (pos scale.0) b) (scaled_box (pos scale.0) c) (scaled_touch scale.0 b c touch))
+
 -- ---- roles
 -- spots of a role are among those of a wider one
 in_wider : (m n : Bool) (xs ys : List Spot) (x : Spot) → (m ≡ true → n ≡ true) → (Listed x xs → Listed x ys) → Listed x (in_role m xs)
@@ -142,19 +176,24 @@ in_wider : (m n : Bool) (xs ys : List Spot) (x : Spot) → (m ≡ true → n ≡
 in_wider true n xs ys x wider more h = listed_in_role x n ys (wider refl) (more h)
 in_wider false n xs ys x wider more h = absurd (false≢true h)
 
+-- a distance has squares of its own for subjects
+abbrev is_near : Rule → Bool
+is_near (Near a b d) = true
+is_near _ = false
+
 -- the spots of a subject, and of a server, are among all those of the row
-subject_listed : (rule : Rule) (n : ℕ) (s : Held) (x : Spot) → Listed x (subject_spots rule n s) → Listed x (all_spots rule s)
+subject_listed : (rule : Rule) (n : ℕ) (s : Held) (x : Spot) → is_near rule ≡ false → Listed x (subject_spots rule n s) → Listed x (all_spots rule s)
 unfolding subject_spots all_spots
-subject_listed (Unique subject columns) n s x h = h
-subject_listed (Partner subject columns server server_columns) n s x h =
+subject_listed (Unique subject columns) n s x f h = h
+subject_listed (Partner subject columns server server_columns) n s x f h =
     joined_front x (in_role (is_of_side subject s) (values_in s columns ∷ [])) (in_role (is_of_side server s) (values_in s server_columns ∷ [])) h
-subject_listed (EndNode subject tip server) n s x h =
+subject_listed (EndNode subject tip server) n s x f h =
     joined_front x (in_role (is_of_side subject s) (square_at (end_of tip s))) (in_role (is_of_side server s) (square_at (point_of s))) h
-subject_listed (Crossing a b server) n s x h =
+subject_listed (Crossing a b server) n s x f h =
     let has = is_of_side a s || is_of_side b s in
     in_wider has (has || is_of_side server s) (squares_of_part (part_of s.1.shape n)) (squares_of_all (boxes_in s.1.shape)) x
     (or_left has (is_of_side server s)) (part_listed s.1.shape n (part_of s.1.shape n) x refl) h
-subject_listed (Near a b d) n s x h = h
+subject_listed (Near a b d) n s x f h = absurd (true≢false f)
 
 server_listed : (rule : Rule) (r : Held) (x : Spot) → Listed x (server_spots rule r) → Listed x (all_spots rule r)
 unfolding server_spots all_spots
@@ -216,7 +255,7 @@ pair_meets (Crossing a b server) ask s t k e =
 pair_meets (Near a b d) ask s t k e =
     let both = and_parts (are_of_sides a b s t) _ e in
     let have = both_have_roles a b s t both.0 in
-    in_both _ _ _ _ have.0 have.1 (nearness d (point_of s) (point_of t) k (and_parts (is_plain ask) _ both.1).1)
+    in_both _ _ _ _ have.0 have.1 (distance_nearness d (point_of s) (point_of t) k (and_parts (is_plain ask) _ both.1).1)
 pair_meets _ ask s t k e = absurd (false≢true e)
 
 -- a spot of a server and of the second subject, if there is one, is common to them
@@ -243,17 +282,52 @@ server_meets (Crossing a b server) ask s (Some t) r e f =
 server_meets rule ask s t r e f = absurd (false≢true (and_parts (is_of (sides rule).server r) (suits rule ask s t r) f).1)
 
 -- ---- rows that meet share a spot
+-- two subjects share a spot of all that they have
+listed_meet : (rule : Rule) (ask : Ask) (s t : Held) → is_near rule ≡ false → has_distance rule ≡ true → are_subjects rule ask s (Some t) ≡ true
+    → Common (all_spots rule s) (all_spots rule t)
+listed_meet rule ask s t f k e =
+    let w = pair_meets rule ask s t k e in
+    (w.0, subject_listed rule ask.first_part s w.0 f w.1, subject_listed rule ask.second_part t w.0 f w.2)
+
+close_meet : (rule : Rule) (ask : Ask) (s t : Held) → is_near rule ≡ true → has_distance rule ≡ true → are_subjects rule ask s (Some t) ≡ true
+    → Common (all_spots rule s) (all_spots rule t)
+unfolding are_subjects all_spots
+close_meet (Near a b d) ask s t f k e =
+    let both = and_parts (are_of_sides a b s t) _ e in
+    let have = both_have_roles a b s t both.0 in
+    in_both _ _ _ _ have.0 have.1 (nearness d (point_of s) (point_of t) k (and_parts (is_plain ask) _ both.1).1)
+close_meet (Unique subject columns) ask s t f k e = absurd (false≢true f)
+close_meet (Partner subject columns server server_columns) ask s t f k e = absurd (false≢true f)
+close_meet (EndNode subject tip server) ask s t f k e = absurd (false≢true f)
+close_meet (Crossing a b server) ask s t f k e = absurd (false≢true f)
+
+all_meet : (rule : Rule) (ask : Ask) (s t : Held) → has_distance rule ≡ true → are_subjects rule ask s (Some t) ≡ true
+    → Common (all_spots rule s) (all_spots rule t)
+all_meet rule ask s t k e = go (is_near rule) refl
+  where
+    go : (near : Bool) → is_near rule ≡ near → Common (all_spots rule s) (all_spots rule t)
+    go true f = close_meet rule ask s t f k e
+    go false f = listed_meet rule ask s t f k e
+
+-- nothing serves under a distance
+served_apart : (rule : Rule) (ask : Ask) (s : Held) (t : Option Held) (r : Held) → is_server rule ask s t r ≡ true → is_near rule ≡ false
+unfolding is_server
+served_apart (Near a b d) ask s t r f = absurd (false≢true (and_parts (is_of (sides (Near a b d)).server r) (suits (Near a b d) ask s t r) f).1)
+served_apart (Unique subject columns) ask s t r f = refl
+served_apart (Partner subject columns server server_columns) ask s t r f = refl
+served_apart (EndNode subject tip server) ask s t r f = refl
+served_apart (Crossing a b server) ask s t r f = refl
+
 pub subjects_share : SubjectsShare
 subjects_share rule ask s None k e = tt
-subjects_share rule ask s (Some t) k e =
-    let w = pair_meets rule ask s t k e in
-    share_by rule s t w.0 (subject_listed rule ask.first_part s w.0 w.1) (subject_listed rule ask.second_part t w.0 w.2)
+subjects_share rule ask s (Some t) k e = let w = all_meet rule ask s t k e in share_by rule s t w.0 w.1 w.2
 
 pub servers_share : ServersShare
 servers_share rule ask s t r e f =
     let m = server_meets rule ask s t r e f in
-    (share_by rule s r m.0.0 (subject_listed rule ask.first_part s m.0.0 m.0.1) (server_listed rule r m.0.0 m.0.2), beside t m.1)
+    let apart = served_apart rule ask s t r f in
+    (share_by rule s r m.0.0 (subject_listed rule ask.first_part s m.0.0 apart m.0.1) (server_listed rule r m.0.0 m.0.2), beside t apart m.1)
   where
-    beside : (u : Option Held) → MeetsBeside rule ask.second_part r u → SharesBeside rule r u
-    beside None w = tt
-    beside (Some u) w = share_by rule r u w.0 (server_listed rule r w.0 w.1) (subject_listed rule ask.second_part u w.0 w.2)
+    beside : (u : Option Held) → is_near rule ≡ false → MeetsBeside rule ask.second_part r u → SharesBeside rule r u
+    beside None apart w = tt
+    beside (Some u) apart w = share_by rule r u w.0 (server_listed rule r w.0 w.1) (subject_listed rule ask.second_part u w.0 apart w.2)

@@ -1,13 +1,14 @@
-//! Boxes of parts and points, and boxes grown by a distance.
+//! Boxes of parts and points, boxes grown by a distance, and scaled ones.
 
-ghost use Rattle.std.specs.Prelude.{◌≡◌, ◌≤◌, ◌≤ℤ◌, ◌+ℤ◌, ◌-ℤ◌, unsigned_abs};
+ghost use Rattle.std.specs.Prelude.{◌≡◌, ◌≤◌, ◌≤ℤ◌, ◌+ℤ◌, ◌-ℤ◌, ◌*ℤ◌, unsigned_abs};
 ghost use Rattle.clr_rows.specs.declared.limits.TheConstants.{GREATEST_COORDINATE};
 ghost use Rattle.clr_rows.specs.Places.{InRange};
 ghost use Rattle.clr_rules.specs.declared.limits.TheConstants.{LEAST_DISTANCE};
 ghost use Rattle.clr_segments.specs.declared.limits.TheConstants.{GREATEST_DISTANCE};
 ghost use Rattle.clr_segments.specs.Bounding.{box_between, grown_box};
-ghost use Rattle.clr_spots.specs.Reach.{IsNear, IsInRange};
-ghost use Rattle.clr_spots.specs.declared.limits.TheConstants.{GREATEST_REACH};
+ghost use Rattle.clr_spots.specs.Reach.{IsGrown, IsGrownPlace, IsInRange, IsNear, IsNearPlace};
+ghost use Rattle.clr_spots.specs.RoleSpots.{scale_of, scaled_box, scaled_place};
+ghost use Rattle.clr_spots.specs.declared.limits.TheConstants.{GREATEST_GROWN, GREATEST_REACH, GREATEST_SCALE};
 
 use clr_rows::Place;
 use clr_segments::{Bounds, box_of};
@@ -28,7 +29,7 @@ fn subtract_distance(x: i64, d: i64) -> i64
     requires d_least { LEAST_DISTANCE ≤ℤ d }
     requires d_most { d ≤ℤ GREATEST_DISTANCE }
     ensures value { result ≡ x -ℤ d }
-    ensures bound { unsigned_abs result ≤ GREATEST_REACH }
+    ensures bound { unsigned_abs result ≤ GREATEST_GROWN }
 {
     x - d
 }
@@ -39,7 +40,7 @@ fn add_distance(x: i64, d: i64) -> i64
     requires d_least { LEAST_DISTANCE ≤ℤ d }
     requires d_most { d ≤ℤ GREATEST_DISTANCE }
     ensures value { result ≡ x +ℤ d }
-    ensures bound { unsigned_abs result ≤ GREATEST_REACH }
+    ensures bound { unsigned_abs result ≤ GREATEST_GROWN }
 {
     x + d
 }
@@ -50,6 +51,7 @@ pub(crate) fn grown_box(bounds: Bounds, d: i64) -> Bounds
     requires d_least { LEAST_DISTANCE ≤ℤ d }
     requires d_most { d ≤ℤ GREATEST_DISTANCE }
     ensures value { result ≡ grown_box bounds d }
+    ensures grown { IsGrown result }
     ensures near { IsNear result }
 {
     Bounds {
@@ -61,5 +63,57 @@ pub(crate) fn grown_box(bounds: Bounds, d: i64) -> Bounds
             x: add_distance(bounds.most.x, d),
             y: add_distance(bounds.most.y, d),
         },
+    }
+}
+
+/// Returns by how much coordinates are multiplied for the squares of a distance.
+pub(crate) fn scale_of(d: i64) -> i64
+    ensures value { result ≡ scale_of d }
+    ensures bound { unsigned_abs result ≤ GREATEST_SCALE }
+{
+    if d <= 12 {
+        1_000
+    } else if d <= 125 {
+        100
+    } else if d <= 1_250 {
+        10
+    } else {
+        1
+    }
+}
+
+/// Returns a coordinate multiplied by a scale.
+fn scaled(x: i64, scale: i64) -> i64
+    requires x { unsigned_abs x ≤ GREATEST_GROWN }
+    requires scale { unsigned_abs scale ≤ GREATEST_SCALE }
+    ensures value { result ≡ scale *ℤ x }
+    ensures bound { unsigned_abs result ≤ GREATEST_REACH }
+{
+    scale * x
+}
+
+/// Returns a place with its coordinates multiplied by a scale.
+fn scaled_place(place: Place, scale: i64) -> Place
+    requires place { IsGrownPlace place }
+    requires scale { unsigned_abs scale ≤ GREATEST_SCALE }
+    ensures value { result ≡ scaled_place scale place }
+    ensures near { IsNearPlace result }
+{
+    Place {
+        x: scaled(place.x, scale),
+        y: scaled(place.y, scale),
+    }
+}
+
+/// Returns a box with each coordinate multiplied by a scale.
+pub(crate) fn scaled_box(bounds: Bounds, scale: i64) -> Bounds
+    requires grown { IsGrown bounds }
+    requires scale { unsigned_abs scale ≤ GREATEST_SCALE }
+    ensures value { result ≡ scaled_box scale bounds }
+    ensures near { IsNear result }
+{
+    Bounds {
+        least: scaled_place(bounds.least, scale),
+        most: scaled_place(bounds.most, scale),
     }
 }

@@ -82,6 +82,7 @@ fn squares_of_shape(alloc: Global, shape: &Shape) -> Result<Spots, AllocError>
 {
     match shape {
         Shape::At(point) => spots_of_box(alloc, box_between(*point, *point)),
+        Shape::Line(first, second) => spots_of_box(alloc, box_between(*first, *second)),
         _ => spots_of_parts(alloc, shape),
     }
 }
@@ -113,12 +114,7 @@ fn crossing_spots(alloc: Global, has_role: bool, held: Held) -> Result<Spots, Al
 }
 
 /// Returns the spots of a row under `Near`, where it has a role.
-pub(crate) fn near_spots(
-    alloc: Global,
-    has_role: bool,
-    d: i64,
-    held: Held,
-) -> Result<Spots, AllocError>
+fn near_spots(alloc: Global, has_role: bool, d: i64, held: Held) -> Result<Spots, AllocError>
     requires distance { is_distance d ≡ true }
     requires coordinates { has_coordinates held.row.now.shape ≡ true }
     ensures list { IfOk result (λ spots. spots.list ≡ unless_many (in_role has_role (squares_near d (point_of (held_of held.entry))))) }

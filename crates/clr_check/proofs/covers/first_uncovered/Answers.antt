@@ -41,13 +41,13 @@ loop-need-preserved g c =
       same = subst (λ (list : List Entry). (e : Entry) → Contains list e ↔ Contains entries e) (sym c.as_slice.ensures.value) c.in_ok-sorted.ensures.same;
       those = c.entries_of.ensures;
       tells = subst (λ (told : Bool). (a : Lived ℕ) (b : Option (Lived ℕ)) → IsPossible s n a b
-          → IsTestOf told (SubjectsNeverMeet before a b ⊎ HasCover before s n a b found)) c.if-not-branch.false
-          c.in_ok-is_covered.ensures;
+          → IsTestOf told (SubjectsNeverMeet before a b ⊎ HasCover before s n a b found)) c.if-not-is_covered.false
+          c.is_covered.ensures;
     } in
     one_before before s (entries_in entries) read k unread c.loop-need-test.true (need_settled before s entries n judged) c.loop-need.invariant
 
-pub returns-then-not-branch : goal.returns-then-not-branch
-returns-then-not-branch g c =
+pub returns-then-not-is_covered : goal.returns-then-not-is_covered
+returns-then-not-is_covered g c =
     let before = pairs_say c.args.pairs.now in
     let s = setting_in g.V.RowView.content c.args.scene.now in
     let entries = c.args.entries.now in
@@ -62,8 +62,8 @@ returns-then-not-branch g c =
       same = subst (λ (list : List Entry). (e : Entry) → Contains list e ↔ Contains entries e) (sym c.as_slice.ensures.value) c.in_ok-sorted.ensures.same;
       those = c.entries_of.ensures;
       tells = subst (λ (told : Bool). (a : Lived ℕ) (b : Option (Lived ℕ)) → IsPossible s n a b
-          → IsTestOf told (SubjectsNeverMeet before a b ⊎ HasCover before s n a b found)) c.if-not-branch.true
-          c.in_ok-is_covered.ensures;
+          → IsTestOf told (SubjectsNeverMeet before a b ⊎ HasCover before s n a b found)) c.if-not-is_covered.true
+          c.is_covered.ensures;
     } in
     let possible = touched_possible s n needs c.in_ok-needs.ensures (read_of read needs k unread c.deref-need-items.ensures.value c.loop-need-test.true) in
     first_after before s (entries_in entries) needs read k unread c.in_ok-needs.ensures c.deref-need-items.ensures.value c.loop-need-test.true

@@ -14,8 +14,13 @@ needs_in v = v.items
 pub loop-second-init : goal.loop-second-init
 loop-second-init c = no_pairs_with (map needs_in c.args.lists.now) c.args.first c.args.pairs.now.items
 
-pub share_one-independent-requires : goal.share_one-independent-requires
-share_one-independent-requires c =
+pub share_one-independent-requires-clause-needs : goal.share_one-independent-requires-clause-needs
+share_one-independent-requires-clause-needs c =
+    let at = there_at needs_in c.args.lists.now c.args.first c.index-lists-first.result c.requires.first c.index-lists-first.is in
+    subst (IsStrictlySortedBy need_cmp) (sym c.as_slice-needs.ensures.value) (c.requires.ascending c.args.first c.index-lists-first.result.items at)
+
+pub share_one-independent-requires-clause-others : goal.share_one-independent-requires-clause-others
+share_one-independent-requires-clause-others c =
     let at = there_at needs_in c.args.lists.now c.loop-second.second c.index-lists-second.result c.loop-second-test.true c.index-lists-second.is in
     subst (IsStrictlySortedBy need_cmp) (sym c.as_slice.ensures.value) (c.requires.ascending c.loop-second.second c.index-lists-second.result.items at)
 

@@ -19,3 +19,17 @@ returns-in-At-clause-wide c =
     ap squares_of c.box_between.ensures.value ∙ one_box (box_between c.in-At.point c.in-At.point)
     ∙ ap (λ (s : Shape). squares_of_all (boxes_in s)) (sym c.in-At.is) in
     subst (λ (xs : List Spot). IfOk c.spots_of_box.result (λ spots. spots.wide ≡ are_many xs)) one c.spots_of_box.ensures.wide
+
+pub returns-in-Line-clause-list : goal.returns-in-Line-clause-list
+returns-in-Line-clause-list c =
+    let one : squares_of c.box_between-in-Line.result ≡ squares_of_all (boxes_in c.args.shape.now) =
+    ap squares_of c.box_between-in-Line.ensures.value ∙ one_box (box_between c.in-Line.first c.in-Line.second)
+    ∙ ap (λ (s : Shape). squares_of_all (boxes_in s)) (sym c.in-Line.is) in
+    subst (λ (xs : List Spot). IfOk c.spots_of_box-in-Line.result (λ spots. spots.list ≡ unless_many xs)) one c.spots_of_box-in-Line.ensures.list
+
+pub returns-in-Line-clause-wide : goal.returns-in-Line-clause-wide
+returns-in-Line-clause-wide c =
+    let one : squares_of c.box_between-in-Line.result ≡ squares_of_all (boxes_in c.args.shape.now) =
+    ap squares_of c.box_between-in-Line.ensures.value ∙ one_box (box_between c.in-Line.first c.in-Line.second)
+    ∙ ap (λ (s : Shape). squares_of_all (boxes_in s)) (sym c.in-Line.is) in
+    subst (λ (xs : List Spot). IfOk c.spots_of_box-in-Line.result (λ spots. spots.wide ≡ are_many xs)) one c.spots_of_box-in-Line.ensures.wide
