@@ -1,13 +1,12 @@
 -- The head of a board: how many designs can go, and which were not looked at with the others.
-use Rattle.std.specs.Prelude.{◌==◌, ℕ, Bool, true, false, not, List, [], ◌∷◌, ◌++◌, codes, count_by, decimal, filter, length, if◌then◌else◌}
-use Rattle.std.specs.List.{list_all, list_any}
+use Rattle.std.specs.Prelude.{◌==◌, ℕ, Bool, true, false, List, [], ◌∷◌, ◌++◌, codes, count_by, decimal, length, if◌then◌else◌}
+use Rattle.std.specs.List.{list_all}
 use Rattle.clr_rows.specs.Contents.{Changes}
 use Rattle.clr_workspaces.specs.Marks.{Name}
 use Rattle.clr_steps.specs.Quiet.{MergeSet}
-use Rattle.clr_clearance.specs.Plans.{members_at}
 use Rattle.clr_html.specs.declared.blocks.Tone.{Tone}
 use Rattle.clr_html.specs.declared.blocks.Tone.TheVariants.{Good, Bad, Neither}
-use Rattle.clr_merge_clashes.specs.ClashSets.{positions_of}
+use Rattle.clr_merge_clashes.specs.Beside.{beside}
 use Rattle.clr_phrases.specs.Lists.{names_text}
 use Rattle.clr_page_parts.specs.Shown.{Shown, Heading, Picture, Verdict, said as paragraph}
 use Rattle.clr_board.specs.declared.states.DesignState.{DesignState}
@@ -55,12 +54,6 @@ tally_text states =
     ++ kind_text (codes ". In conflict: ") kind.IsInConflict states ++ codes "."
 
 -- those that weren't looked at with the others ---------------------------------------------------------
-
-abbrev pub is_beside : List ℕ → ℕ → Bool
-is_beside looked at = not (list_any (λ x. x == at) looked)
-
-abbrev pub beside : MergeSet → List ℕ → List Name
-beside s looked = members_at s (filter (is_beside looked) (positions_of s.members))
 
 abbrev pub beside_text : List Name → List ℕ
 beside_text [] = []

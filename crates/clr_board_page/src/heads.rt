@@ -1,13 +1,12 @@
 //! The head of a board.
 
-ghost use Rattle.std.specs.Prelude.{◌≡◌, ◌++◌, ◌∷◌, [], filter, map, string_bytes, IfOk, OnOk};
-ghost use Rattle.std.specs.List.{list_all, range_with_len};
+ghost use Rattle.std.specs.Prelude.{◌≡◌, ◌++◌, map, string_bytes, IfOk, OnOk};
+ghost use Rattle.std.specs.List.{list_all};
 ghost use Rattle.clr_board.specs.States.{goes};
 ghost use Rattle.clr_merge_sets.specs.MemberChanges.{set_of};
-ghost use Rattle.clr_merge_sets.specs.MergeSetNames.{merge_set};
 ghost use Rattle.clr_page_parts.specs.Shown.{Verdict, section_shown, shown};
-ghost use Rattle.clr_board_page.specs.Heads.{beside, beside_text, board_about, board_tone, board_word, count_of};
-ghost use Rattle.clr_board_page.specs.Heads.{head_shown, is_beside, is_kind, kind_text, tally_text};
+ghost use Rattle.clr_board_page.specs.Heads.{beside_text, board_about, board_tone, board_word, count_of};
+ghost use Rattle.clr_board_page.specs.Heads.{head_shown, is_kind, kind_text, tally_text};
 ghost use Rattle.clr_board_page.specs.Said.{said_in};
 
 use crate::states::designs_table;
@@ -15,7 +14,7 @@ use crate::told::Told;
 use clr_board::DesignState;
 use clr_html::{Block, Section, Tone};
 use clr_member_changes::MemberChanges;
-use clr_merge_sets::names_at;
+use clr_merge_clashes::members_beside;
 use clr_page_parts::Builder;
 use clr_phrases::add_names;
 use std::alloc::{AllocError, Global};
@@ -137,39 +136,6 @@ fn tally(alloc: Global, states: &[DesignState]) -> Result<String, AllocError>
     Ok(text)
 }
 
-/// Adds a position that isn't among those that were looked at.
-fn add_beside(looked: &[usize], at: usize, list: &mut Vec<usize>) -> Result<(), AllocError>
-    ensures { OnOk result (list.new.items ≡ list.old.items ++ filter (is_beside looked.now) (at ∷ [])) }
-{
-    if !looked.contains(&at) {
-        list.push(at)?;
-    }
-    Ok(())
-}
-
-/// Returns the positions from 0 to below a count that weren't looked at.
-fn positions_beside(alloc: Global, count: usize, looked: &[usize]) -> Result<Vec<usize>, AllocError>
-    ensures { IfOk result (λ list. list.items ≡ filter (is_beside looked.now) (range_with_len 0 count)) }
-{
-    let mut list = Vec::new(alloc);
-    for at in 0..count {
-        add_beside(looked, at, &mut list)?;
-    }
-    Ok(list)
-}
-
-/// Returns the names of the members that weren't looked at.
-fn beside<'a>(
-    alloc: Global,
-    members: &[&'a str],
-    looked: &[usize],
-) -> Result<Vec<&'a str>, AllocError>
-    ensures { IfOk result (λ list. map (λ name. name.now) list.items ≡ beside (merge_set [] (map (λ name. name.now) members.now)) looked.now) }
-{
-    let positions = positions_beside(alloc, members.len(), looked)?;
-    names_at(alloc, members, positions.as_slice())
-}
-
 /// Returns what is said of members that weren't looked at.
 fn beside_words(alloc: Global, names: &[&str]) -> Result<String, AllocError>
     ensures { IfOk result (λ text. string_bytes text ≡ beside_text (map (λ name. name.now) names.now)) }
@@ -214,7 +180,7 @@ pub(crate) fn head_of(
     section.add(verdict_of(alloc, members.root, states)?)?;
     let counts = tally(alloc, states)?;
     section.add_paragraph(counts.as_str())?;
-    let others = beside(alloc, members.names, looked)?;
+    let others = members_beside(alloc, members.names, looked)?;
     let words = beside_words(alloc, others.as_slice())?;
     section.add_paragraph(words.as_str())?;
     section.add_heading("The designs")?;

@@ -1,4 +1,5 @@
 mod ClearableLaws
 mod Holding
 mod Looking
+pub mod TrialLists
 mod Trying

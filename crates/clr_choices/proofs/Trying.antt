@@ -1,9 +1,9 @@
 -- Names that are tried one after another.
-use Rattle.std.proofs.Common.{◌≡◌, ◌∙◌, ◌⊎◌, ◌||◌, ◌<◌, ◌≤◌, ◌+◌, ℕ, zero, suc, Bool, true, false, not, cond, List, [], ◌∷◌, ◌++◌, Option, None, Some}
-use Rattle.std.proofs.Common.{append-nil, ap, ap₂, arith, filter, get_or, inl, inr, length, map, refl, slice_get, subst, sym, take}
+use Rattle.std.proofs.Common.{◌≡◌, ◌∙◌, ◌||◌, ◌≤◌, ◌+◌, true, false, not, List, [], ◌∷◌, ◌++◌, ℕ, Option, None, Some}
+use Rattle.std.proofs.Common.{append-nil, ap, ap₂, arith, inl, inr, length, refl, subst, sym, take}
 use Rattle.std.specs.List.{flat_map, list_any}
-use Rattle.std.proofs.lemmas.List.{map-append, take_all, take_more}
-use Rattle.std.proofs.lemmas.List.Elements.{filter-append}
+use Rattle.std.proofs.Math.Bool.{or-false, or-true}
+use Rattle.std.proofs.lemmas.List.{map-append, take_all}
 use Rattle.std.proofs.lemmas.List.Folds.{list_any-append}
 use Rattle.std.proofs.lemmas.Grind.{flat_map-append}
 use Rattle.clr_workspaces.specs.Marks.{Name}
@@ -16,53 +16,12 @@ use Rattle.clr_choices.specs.ChoiceLines.{left_text, refusal_text}
 use Rattle.clr_choices.specs.Clearable.{AreClearable, IsPlanOf}
 use Rattle.clr_choices.specs.Progress.{IsAdded, IsChosen, IsFollowed, IsProgress, IsTried, taken_so_far}
 use Rattle.clr_choices.specs.Trials.{AreTrials, IsRefusal, IsTold, IsTrialAt, Trial, is_taken, taken_in}
+use Rattle.clr_choices.proofs.TrialLists.{get_last, next_trial, none_first, one_more_name, taken_last}
 use Rattle.clr_choices.specs.declared.choices.Choice.{Choice}
 use Rattle.clr_choices.specs.declared.progress.Progress.{Progress}
 use Rattle.clr_choices.specs.declared.trials.TriedName.{TriedName}
 use Rattle.clr_choices.specs.declared.trials.TriedName.TheVariants as answer
 use Rattle.clr_choices.proofs.ClearableLaws.{cleared_clearable, front_clearable}
-
-pub none_first : {X : Type 0} (xs : List X) → take 0 xs ≡ []
-none_first [] = refl
-none_first (x ∷ xs) = refl
-
--- what stands in a list with one more at its end, and what stands before it
-get_last : {X : Type 0} (xs : List X) (x y : X) (at : ℕ) → slice_get (xs ++ x ∷ []) at ≡ Some y
-    → ((slice_get xs at ≡ Some y) × (take at (xs ++ x ∷ []) ≡ take at xs)) ⊎ ((y ≡ x) × (take at (xs ++ x ∷ []) ≡ xs))
-get_last [] x y zero e = inr ((let same : y ≡ x = cc in same), refl)
-get_last [] x y (suc at) e = absurd (cc)
-get_last (z ∷ zs) x y zero e = inl (e, refl)
-get_last (z ∷ zs) x y (suc at) e = elim (get_last zs x y at e) [
-  | inl (there, front) ↦ inl (there, ap (λ l. z ∷ l) front)
-  | inr (same, front) ↦ inr (same, ap (λ l. z ∷ l) front)
-]
-
-pub one_more_name : (names : List Name) (at : ℕ) (name : Name) → at < length names → name ≡ get_or names at name
-    → take (at + 1) names ≡ take at names ++ name ∷ []
-one_more_name names at name less is = take_more names at name less ∙ ap (λ n. take at names ++ n ∷ []) (sym is)
-
--- the last trial takes its name, or leaves it
-taken_last : (ts : List Trial) (t : Trial) → is_taken t ≡ true → taken_in (ts ++ t ∷ []) ≡ taken_in ts ++ t.name ∷ []
-taken_last ts t e =
-    ap (map (λ (u : Trial). u.name)) (filter-append is_taken ts (t ∷ [])) ∙ map-append (λ (u : Trial). u.name) (filter is_taken ts) (filter is_taken (t ∷ []))
-    ∙ ap (λ b. taken_in ts ++ map (λ (u : Trial). u.name) (cond b (t ∷ []) [])) e
-
-left_last : (ts : List Trial) (t : Trial) → is_taken t ≡ false → taken_in (ts ++ t ∷ []) ≡ taken_in ts
-left_last ts t e =
-    ap (map (λ (u : Trial). u.name)) (filter-append is_taken ts (t ∷ [])) ∙ map-append (λ (u : Trial). u.name) (filter is_taken ts) (filter is_taken (t ∷ []))
-    ∙ ap (λ b. taken_in ts ++ map (λ (u : Trial). u.name) (cond b (t ∷ []) [])) e ∙ append-nil (taken_in ts)
-
-or_nothing : (b : Bool) → (b || false) ≡ b
-or_nothing true = refl
-or_nothing false = refl
-
-or_true : (b : Bool) → (b || true) ≡ true
-or_true true = refl
-or_true false = refl
-
--- one more name behind some trials
-abbrev next_trial : List Trial → Name → Option Plan → Trial
-next_trial ts name refusal = record { before = taken_in ts; name = name; refusal = refusal }
 
 module _ (o : Office) (root : Name) where
   trials_last : (names : List Name) (ts : List Trial) (name : Name) (refusal : Option Plan) → AreTrials o root names ts
@@ -112,7 +71,7 @@ module _ (o : Office) (root : Name) where
     none_left : (ts : List Trial) (t : Trial) → is_taken t ≡ true → list_any (λ u. not (is_taken u)) (ts ++ t ∷ []) ≡ list_any (λ u. not (is_taken u)) ts
     none_left ts t e =
         list_any-append (λ u. not (is_taken u)) ts (t ∷ []) ∙ ap (λ b. list_any (λ u. not (is_taken u)) ts || (not b || false)) e
-        ∙ or_nothing (list_any (λ u. not (is_taken u)) ts)
+        ∙ or-false (list_any (λ u. not (is_taken u)) ts)
 
     -- the next of those that are cleared together is taken
     pub followed : IsFollowed old name true new → IsProgress o root names old → IsProgress o root (names ++ name ∷ []) new
@@ -127,7 +86,7 @@ module _ (o : Office) (root : Name) where
           ts ++ t ∷ [],
           trials_last names ts name None are told,
           record {
-            taken = more ∙ sym (taken_last ts t refl);
+            taken = more ∙ sym (taken_last ts t true refl);
             planned = made.planned;
             left = made.left ∙ sym (more_left ts t refl);
             any_left = made.any_left ∙ sym (none_left ts t refl);
@@ -146,7 +105,7 @@ module _ (o : Office) (root : Name) where
           trials_last names ts name None are
               (cleared_clearable o (merge_set root (taken_in ts ++ name ∷ [])) (plan.Cleared c) here.plan here.promises refl),
           record {
-            taken = take_all new.count new.cleared.items (omega (arith, count)) ∙ now ∙ ap (λ l. l ++ name ∷ []) made.taken ∙ sym (taken_last ts t refl);
+            taken = take_all new.count new.cleared.items (omega (arith, count)) ∙ now ∙ ap (λ l. l ++ name ∷ []) made.taken ∙ sym (taken_last ts t true refl);
             planned = subst (λ d. IsPlanOf o (merge_set root new.cleared.items) (plan.Cleared d)) (sym certificate)
                 (subst (λ (ms : List Name). IsPlanOf o (merge_set root ms) (plan.Cleared c)) (sym now) planned);
             left = left ∙ made.left ∙ sym (more_left ts t refl);
@@ -163,12 +122,12 @@ module _ (o : Office) (root : Name) where
           ts ++ t ∷ [],
           trials_last names ts name (Some p) are here,
           record {
-            taken = same ∙ made.taken ∙ sym (left_last ts t refl);
+            taken = same ∙ made.taken ∙ sym (taken_last ts t false refl ∙ append-nil (taken_in ts));
             planned = subst (λ d. IsPlanOf o (merge_set root new.cleared.items) (plan.Cleared d)) (sym certificate)
                 (subst (λ (ms : List Name). IsPlanOf o (merge_set root ms) (plan.Cleared old.certificate)) (sym cleared) made.planned);
             left = left ∙ ap₂ (λ (a b : List ℕ). a ++ b) made.left (text ∙ sym (append-nil (left_text o.schema root t))) ∙ sym
                 (flat_map-append (left_text o.schema root) ts (t ∷ []));
-            any_left = any ∙ sym (list_any-append (λ u. not (is_taken u)) ts (t ∷ []) ∙ or_true (list_any (λ u. not (is_taken u)) ts));
+            any_left = any ∙ sym (list_any-append (λ u. not (is_taken u)) ts (t ∷ []) ∙ or-true (list_any (λ u. not (is_taken u)) ts));
           },
         )
 

@@ -4,7 +4,6 @@ use Rattle.std.proofs.Common.{ap, ap₂, arith, get_or, length, map, refl, subst
 use Rattle.std.specs.Prelude.{slice_get}
 use Rattle.std.specs.List.{cons_option, filter_map}
 use Rattle.std.specs.List.Sorted.{IsStrictlySortedBy}
-use Rattle.std.specs.Option.{option_map}
 use Rattle.std.proofs.lemmas.List.{map-append, take_more}
 use Rattle.std.proofs.lemmas.Option.{slice_get-map}
 use Rattle.clr_rows.specs.Contents.{Changes}
@@ -20,14 +19,11 @@ use Rattle.clr_steps.specs.Readings.{changes_in}
 use Rattle.clr_clearance.specs.MergeSets.{change_sets, setting_by_position}
 use Rattle.clr_clearance.specs.Plans.{members_at}
 use Rattle.clr_merge_clashes.specs.Laws.{merge_set_of_part}
+use Rattle.clr_merge_clashes.proofs.PlanLaw.{map_cons}
 use Rattle.clr_merge_clashes.specs.declared.clash_sets.MergeClash.{MergeClash}
 use Rattle.clr_clash_helpers.specs.Helpers.{AreHelped, AreHelpers, AreHelpersIn, IsHelperAt, Touch}
 use Rattle.clr_clash_helpers.specs.declared.helped.HelpedClash.{HelpedClash}
 use Rattle.clr_clash_helpers.proofs.Possible.{possible_beside}
-
-map_cons : {X Y : Type 0} (f : X → Y) (o : Option X) (xs : List X) → map f (cons_option o xs) ≡ cons_option (option_map f o) (map f xs)
-map_cons f None xs = refl
-map_cons f (Some x) xs = refl
 
 -- what some of the members changed is what stands at their positions
 pub sets_same : (f : Name → Changes) (names : List Name) (positions : List ℕ) → map f (filter_map (slice_get names) positions)

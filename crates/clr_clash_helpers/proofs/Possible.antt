@@ -1,16 +1,12 @@
 -- A need that is possible with some change sets over a root is possible with more of them, where no cell is changed by two.
-use Rattle.std.proofs.Common.{◌≡◌, ◌∙◌, ◌+◌, ◌<◌, ◌≤◌, ℕ, zero, suc, true, List, [], ◌∷◌, ◌++◌, inl, inr, Contains}
+use Rattle.std.proofs.Common.{◌≡◌, ◌∙◌, ◌+◌, ℕ, zero, suc, true, List, [], ◌∷◌, ◌++◌, Contains}
 use Rattle.std.proofs.Common.{ap, arith, length, refl, subst, sym}
 use Rattle.std.specs.Prelude.{slice_get}
 use Rattle.std.specs.List.{cons_option, filter_map, range_with_len}
-use Rattle.std.specs.List.Sorted.{IsStrictlySortedBy}
-use Rattle.std.specs.Ordering.{nat_cmp}
-use Rattle.std.specs.declared.cmp.Ordering.TheVariants.{Less}
 use Rattle.std.proofs.lemmas.List.{length-append}
 use Rattle.clr_rows.specs.Contents.{Changes, Content}
 use Rattle.clr_rules.specs.declared.rules.Rule.{Rule}
-use Rattle.clr_rules.proofs.AskLemmas.{less_number}
-use Rattle.clr_rules.proofs.Elements.{Among, all_by, among}
+use Rattle.clr_rules.proofs.Elements.{among}
 use Rattle.clr_needs.specs.declared.needs.Need.{Need}
 use Rattle.clr_needs.specs.Members.{AreApart, setting}
 use Rattle.clr_needs.specs.Needs.{IsPossibleNeed}
@@ -18,21 +14,7 @@ use Rattle.clr_needs.specs.Parts.{setting_at}
 use Rattle.clr_needs.specs.Settings.{Setting, has}
 use Rattle.clr_needs.proofs.PartLaws.{possible_up}
 use Rattle.clr_needs.proofs.PartPositions.{StandsIn, below_member, is_part}
-
--- positions from one on
-from_on : (from n m : ℕ) → Among m (range_with_len from n) → (from ≤ m) × (m < from + n)
-from_on from zero m h = absurd h
-from_on from (suc n) m (inl same) = (omega (arith, same), omega (arith, same))
-from_on from (suc n) m (inr h) = let (low, high) = from_on (from + 1) n m h in (omega (arith, low), omega (arith, high))
-
-range_rises : (from n : ℕ) → IsStrictlySortedBy nat_cmp (range_with_len from n)
-unfolding IsStrictlySortedBy
-range_rises from zero = tt
-range_rises from (suc n) = (
-  all_by (λ m. nat_cmp from m ≡ Less) (range_with_len (from + 1) n) (λ m h. let (low, high) = from_on (from + 1) n m h in less_number from m
-      (omega (arith, low))),
-  range_rises (from + 1) n,
-)
+use Rattle.clr_merge_clashes.proofs.PartPlaces.{from_on, range_rises}
 
 module _ {X : Type 0} where
   one_back : (x : X) (xs : List X) (k n : ℕ) → filter_map (slice_get (x ∷ xs)) (range_with_len (suc k) n) ≡ filter_map (slice_get xs) (range_with_len k n)

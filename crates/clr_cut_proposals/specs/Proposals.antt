@@ -10,7 +10,7 @@ use Rattle.clr_sql.specs.declared.targets.Dialect.{Dialect}
 use Rattle.clr_sql.specs.declared.targets.Dialect.TheVariants.{PostGis, SpatiaLite}
 use Rattle.clr_sql.specs.declared.targets.Target.{Target}
 use Rattle.clr_sql.specs.Quoting.{quoted_name}
-use Rattle.clr_sql.specs.Relations.{column_name, layer_query}
+use Rattle.clr_sql.specs.Relations.{column_name, layer_query, titled_query}
 use Rattle.clr_cut_proposals.specs.Designs.{design_text}
 use Rattle.clr_cut_proposals.specs.Searches.{found_table, kept_table, new_table, old_table, served_text, touched_text}
 
@@ -52,8 +52,12 @@ found_layer target table = layer_query target table ++ if_found table.name
 unfoldable pub psql_file : Target → TableDef → List ℕ
 psql_file target table = codes "\\copy (" ++ found_layer target table ++ codes ") TO '" ++ table.name ++ codes ".csv' CSV HEADER\n"
 
+-- the same behind the names of their columns
+unfoldable pub titled_layer : Target → TableDef → List ℕ
+titled_layer target table = titled_query target table ++ if_found table.name
+
 unfoldable pub sqlite_file : Target → TableDef → List ℕ
-sqlite_file target table = codes ".headers on\n.mode csv\n.once " ++ table.name ++ codes ".csv\n" ++ found_layer target table ++ codes ";\n"
+sqlite_file target table = codes ".headers off\n.mode csv\n.once " ++ table.name ++ codes ".csv\n" ++ titled_layer target table ++ codes ";\n"
 
 abbrev pub file_by : Dialect → Target → TableDef → List ℕ
 file_by PostGis target table = psql_file target table

@@ -5,7 +5,7 @@ ghost use Rattle.std.specs.List.{flat_map};
 ghost use Rattle.clr_deltas.specs.NamedDeltas.{stored_delta};
 ghost use Rattle.clr_cut_proposals.specs.Designs.{design_text};
 ghost use Rattle.clr_cut_proposals.specs.Proposals.{beginning, file_text, found_layer, found_rows_text, if_found, made_table, proposal_text, psql_file};
-ghost use Rattle.clr_cut_proposals.specs.Proposals.{rows_text, shape_name, sqlite_file, tables_text};
+ghost use Rattle.clr_cut_proposals.specs.Proposals.{rows_text, shape_name, sqlite_file, tables_text, titled_layer};
 ghost use Rattle.clr_cut_proposals.specs.Searches.{kept_table, old_table, served_text, touched_text};
 
 use crate::designs::add_design;
@@ -13,7 +13,7 @@ use crate::searches::{add_served, add_temporary, add_touched};
 use clr_deltas::StoredPart;
 use clr_rows::{Form, Schema, TableDef};
 use clr_rules::Rule;
-use clr_sql::{Dialect, Target, add_columns, add_layer_query, add_name};
+use clr_sql::{Dialect, Target, add_columns, add_layer_query, add_name, add_titled_query};
 use std::alloc::{AllocError, Global};
 
 /// Adds what stands before the statements.
@@ -22,7 +22,8 @@ fn add_beginning(text: &mut Vec<u8>, dialect: Dialect) -> Result<(), AllocError>
 {
     match dialect {
         Dialect::PostGis => text.extend_from_slice(
-            b"\\set ON_ERROR_STOP on\nBEGIN ISOLATION LEVEL REPEATABLE READ;\nSET LOCAL standard_conforming_strings = on;\nSET LOCAL client_encoding = 'UTF8';\n",
+            b"\\set ON_ERROR_STOP on\nBEGIN ISOLATION LEVEL REPEATABLE READ;\n\
+              SET LOCAL standard_conforming_strings = on;\nSET LOCAL client_encoding = 'UTF8';\n",
         ),
         Dialect::SpatiaLite => text.extend_from_slice(b".bail on\nBEGIN;\n"),
     }
@@ -154,6 +155,19 @@ fn add_psql_file(
     text.extend_from_slice(b".csv' CSV HEADER\n")
 }
 
+/// Adds the query of the rows of a table that are found, behind the names of their columns.
+fn add_titled_layer(
+    alloc: Global,
+    text: &mut Vec<u8>,
+    target: &Target,
+    table: &TableDef,
+) -> Result<(), AllocError>
+    ensures { OnOk result (text.new.items ≡ text.old.items ++ titled_layer target.now table.now) }
+{
+    add_titled_query(text, target, table)?;
+    add_if_found(alloc, text, table.name.as_str())
+}
+
 /// Adds what puts the rows of a table that are found into a file by sqlite3.
 fn add_sqlite_file(
     alloc: Global,
@@ -163,10 +177,10 @@ fn add_sqlite_file(
 ) -> Result<(), AllocError>
     ensures { OnOk result (text.new.items ≡ text.old.items ++ sqlite_file target.now table.now) }
 {
-    text.extend_from_slice(b".headers on\n.mode csv\n.once ")?;
+    text.extend_from_slice(b".headers off\n.mode csv\n.once ")?;
     text.extend_from_slice(table.name.as_str().as_bytes())?;
     text.extend_from_slice(b".csv\n")?;
-    add_found_layer(alloc, text, target, table)?;
+    add_titled_layer(alloc, text, target, table)?;
     text.extend_from_slice(b";\n")
 }
 

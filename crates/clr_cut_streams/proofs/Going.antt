@@ -1,5 +1,5 @@
 -- A pass that has gone over some rows of a layer, and one row more.
-use Rattle.std.proofs.Common.{◌≡◌, ◌∙◌, ◌+◌, ℕ, Bool, List, [], ◌∷◌, ◌++◌, None, Option, Some, append-nil, cond, false, length, length-append, min}
+use Rattle.std.proofs.Common.{◌≡◌, ◌∙◌, ◌+◌, ℕ, Bool, List, [], ◌∷◌, ◌++◌, None, Option, Some, Err, append-nil, cond, false, length, length-append, min}
 use Rattle.std.proofs.Common.{ap, arith, refl, subst, sym, true}
 use Rattle.std.specs.Prelude.{is_some, ℤ, pos, unwrap_or, ◌||◌, if◌then◌else◌}
 use Rattle.std.specs.FinMap as finite
@@ -29,10 +29,13 @@ use Rattle.clr_cut_passes.specs.Counts.{counts_of}
 use Rattle.clr_cut_passes.specs.Passes.{CountsOneMoreRow}
 use Rattle.clr_layer_text.specs.declared.rows.LayerRow.{LayerRow}
 use Rattle.clr_layer_text.specs.Layers.{IsFitting, cell_of}
+use Rattle.clr_layer_streams.specs.declared.sources.LayerSource.{LayerSource}
 use Rattle.clr_layer_streams.specs.declared.streams.LayerStream.{LayerStream}
 use Rattle.clr_layer_streams.specs.declared.faults.StreamFault.{StreamFault}
 use Rattle.clr_layer_streams.specs.declared.faults.StreamFault.TheVariants as of_stream
-use Rattle.clr_layer_streams.specs.Streams.{AreAllRows, AreFirstRows, CanGoOn, HasRead, IsFaultOfFields, IsFaultOfNext, LayerForm, form_of, greatest}
+use Rattle.clr_layer_streams.specs.Faults.{is_unreadable as is_unreadable_stream}
+use Rattle.clr_layer_streams.specs.Sources.{CanGoOn, is_failed}
+use Rattle.clr_layer_streams.specs.Streams.{AreAllRows, AreFirstRows, HasRead, IsFaultOfFields, IsFaultOfNext, LayerForm, form_of, greatest}
 use Rattle.clr_layer_streams.specs.Streams.{number_behind, record_behind}
 use Rattle.clr_layer_streams.proofs.ReadingOn.{read_first, taken_behind}
 use Rattle.clr_layer_changes.specs.declared.faults.LayersFault.TheVariants.{KeyTwice, NoKey}
@@ -40,7 +43,7 @@ use Rattle.clr_cut_streams.specs.declared.told.CutText.{CutText}
 use Rattle.clr_cut_streams.specs.declared.told.Told.{Told}
 use Rattle.clr_cut_streams.specs.declared.faults.PassFault.{PassFault}
 use Rattle.clr_cut_streams.specs.declared.faults.PassFault.TheVariants as of_pass
-use Rattle.clr_cut_streams.specs.Faults.{IsTellingFault, pass_fault}
+use Rattle.clr_cut_streams.specs.Faults.{IsTellingFault, is_unreadable, pass_fault}
 use Rattle.clr_cut_streams.specs.Passes.{AreRead, EndsAt, IsPassFault, IsWholePass, Tells}
 use Rattle.clr_cut_streams.specs.Seen.{AreNoted, with_cell_if}
 use Rattle.clr_cut_streams.specs.Sinks.{Sinks}
@@ -89,22 +92,38 @@ number_on rows r n m is next = let long = length-append rows (r ∷ []) in omega
 number_here : (rows : List LayerRow) (n m : ℕ) → n ≡ min (length rows + 1) greatest → m ≡ number_behind n → m ≡ record_behind rows
 number_here rows n m is next = omega arith
 
-module _ {R V F : Type 0} {finder : Ghosts F} (remaining : R → Option (List ℕ)) (content : V → Content) (cut : CutText V F finder) (start : LayerStream R) where
+-- what is told of the source by a fault of its stream
+pub told_on : (X Y : Type 0) (failed : Bool) (e : StreamFault) → failed ≡ is_unreadable_stream {X = X} (Err e)
+    → failed ≡ is_unreadable {X = Y} (Err (pass_fault e))
+told_on X Y failed of_stream.OutOfMemory tells = tells
+told_on X Y failed of_stream.Unreadable tells = tells
+told_on X Y failed (of_stream.Record m fault) tells = tells
+
+-- where a row isn't told of, the source hasn't failed
+pub told_of_row : (Y : Type 0) (failed text_failed notes_failed : Bool) (e : PassFault) → failed ≡ false → IsTellingFault text_failed notes_failed e
+    → failed ≡ is_unreadable {X = Y} (Err e)
+told_of_row Y failed text_failed notes_failed of_pass.OutOfMemory unfailed why = unfailed
+told_of_row Y failed text_failed notes_failed of_pass.Unreadable unfailed why = absurd why
+told_of_row Y failed text_failed notes_failed of_pass.WriteFailed unfailed why = unfailed
+told_of_row Y failed text_failed notes_failed (of_pass.Record m fault) unfailed why = absurd why
+
+module _ {R V F : Type 0} {finder : Ghosts F} (remaining : R → Option (List ℕ)) (content : V → Content) (cut : CutText V F finder) (source : LayerSource R)
+    (start : LayerStream) where
   abbrev pub cells : List LayerRow → List CellId
   cells rows = cells_of_cut (setting_in content cut.rows.now) (form_of start).table rows
 
   -- the rows so far were read from the stream as it was at first, what was told of them went out, and their cells at which the cut has a row are noted
-  pub record IsGoing (now : LayerStream R) (seen : Differences) (sinks : Sinks) (told : Told) : Type 0 where
-    pub going : CanGoOn now
+  pub record IsGoing (to : LayerSource R) (now : LayerStream) (seen : Differences) (sinks : Sinks) (told : Told) : Type 0 where
+    pub going : CanGoOn to
     pub form : form_of now ≡ form_of start
     pub rows : List LayerRow
     pub number : now.number ≡ min (length rows + 1) greatest
-    pub read : (bytes : List ℕ) → HasRead remaining bytes [] start → HasRead remaining bytes rows now
+    pub read : (bytes : List ℕ) → HasRead remaining bytes [] source start → HasRead remaining bytes rows to now
     pub noted : AreNoted seen (cells rows)
     pub out : Tells content cut (form_of start).table sinks rows told
 
-  pub begun : (text notes : Option (List ℕ)) (text_failed notes_failed : Bool) → CanGoOn start → start.number ≡ 1 → text_failed ≡ false → notes_failed ≡ false
-      → IsGoing start no_differences
+  pub begun : (text notes : Option (List ℕ)) (text_failed notes_failed : Bool) → CanGoOn source → start.number ≡ 1 → text_failed ≡ false → notes_failed ≡ false
+      → IsGoing source start no_differences
       (record { text_held = text; text_holds = text; text_failed = text_failed; notes_held = notes; notes_hold = notes; notes_failed = notes_failed })
       (record { counts = counts_of []; printed = 0 })
   unfolding IsDistinct taken
@@ -150,9 +169,10 @@ module _ {R V F : Type 0} {finder : Ghosts F} (remaining : R → Option (List �
       (subst (λ (l : List CellId). AreNoted (with_cell_if (is_some (c.root q)) seen q) l) (sym (cells_more aim c table rows r))
       (one_noted (is_some (c.root q)) seen (cells rows) q so_far))
 
-  pub goes_on : (old now : LayerStream R) (seen noted : Differences) (text_held text_between text_holds notes_held notes_between notes_hold : Option (List ℕ))
+  pub goes_on : (from to : LayerSource R) (old now : LayerStream) (seen noted : Differences)
+      (text_held text_between text_holds notes_held notes_between notes_hold : Option (List ℕ))
       (text_failed text_fails notes_failed notes_fail : Bool) (told next : Told) (r : LayerRow) (x : Standing) (q : CellId)
-      → IsGoing old seen (record {
+      → IsGoing from old seen (record {
         text_held = text_held;
         text_holds = text_between;
         text_failed = text_failed;
@@ -160,15 +180,15 @@ module _ {R V F : Type 0} {finder : Ghosts F} (remaining : R → Option (List �
         notes_hold = notes_between;
         notes_failed = notes_failed;
       }) told
-      → CanGoOn now
+      → CanGoOn to
       → form_of now ≡ form_of old
       → now.number ≡ number_behind old.number
-      → ((bytes : List ℕ) (rows : List LayerRow) → HasRead remaining bytes rows old → HasRead remaining bytes (rows ++ r ∷ []) now)
+      → ((bytes : List ℕ) (rows : List LayerRow) → HasRead remaining bytes rows from old → HasRead remaining bytes (rows ++ r ∷ []) to now)
       → is_some r.key ≡ true
       → q ≡ cell_of (form_of start).table r.key
       → IsToldAt seen noted text_between text_holds notes_between notes_hold told next r x q
       → (text_fails ≡ text_failed) × (notes_fail ≡ notes_failed)
-      → IsGoing now noted (record {
+      → IsGoing to now noted (record {
         text_held = text_held;
         text_holds = text_holds;
         text_failed = text_fails;
@@ -176,7 +196,7 @@ module _ {R V F : Type 0} {finder : Ghosts F} (remaining : R → Option (List �
         notes_hold = notes_hold;
         notes_failed = notes_fail;
       }) next
-  goes_on old now seen noted text_held text_between text_holds notes_held notes_between notes_hold text_failed text_fails
+  goes_on from to old now seen noted text_held text_between text_holds notes_held notes_between notes_hold text_failed text_fails
       notes_failed notes_fail told next r x q so_far going form number more key here told_at sound =
       let out = so_far.out in
       let k = cell_of (form_of start).table r.key in
@@ -203,88 +223,92 @@ module _ {R V F : Type 0} {finder : Ghosts F} (remaining : R → Option (List �
         };
       }
 
-  pub ends : (old now : LayerStream R) (seen : Differences) (sinks : Sinks) (told : Told) → IsGoing old seen sinks told → form_of now ≡ form_of old
-      → ((bytes : List ℕ) (rows : List LayerRow) → HasRead remaining bytes rows old → AreAllRows (form_of now) bytes rows)
-      → IsWholePass remaining content start cut sinks told
-  ends old now seen sinks told so_far form all = (
+  pub ends : (from : LayerSource R) (old now : LayerStream) (seen : Differences) (sinks : Sinks) (told : Told) → IsGoing from old seen sinks told
+      → form_of now ≡ form_of old
+      → ((bytes : List ℕ) (rows : List LayerRow) → HasRead remaining bytes rows from old → AreAllRows (form_of now) bytes rows)
+      → IsWholePass remaining content source start cut sinks told
+  ends from old now seen sinks told so_far form all = (
     so_far.rows,
     λ bytes h. subst (λ (f : LayerForm). AreAllRows f bytes so_far.rows) (form ∙ so_far.form) (all bytes so_far.rows (so_far.read bytes h)),
     so_far.out,
   )
 
   -- one row more was read
-  pub read_with : (old now : LayerStream R) (seen : Differences) (sinks : Sinks) (told : Told) (r : LayerRow) (so_far : IsGoing old seen sinks told)
+  pub read_with : (from to : LayerSource R) (old now : LayerStream) (seen : Differences) (sinks : Sinks) (told : Told) (r : LayerRow)
+      (so_far : IsGoing from old seen sinks told)
       → form_of now ≡ form_of old
-      → ((bytes : List ℕ) (rows : List LayerRow) → HasRead remaining bytes rows old → HasRead remaining bytes (rows ++ r ∷ []) now)
-      → AreRead (λ bytes. HasRead remaining bytes [] start) (form_of start) (so_far.rows ++ r ∷ []) []
-  read_with old now seen sinks told r so_far form more bytes h =
+      → ((bytes : List ℕ) (rows : List LayerRow) → HasRead remaining bytes rows from old → HasRead remaining bytes (rows ++ r ∷ []) to now)
+      → AreRead (λ bytes. HasRead remaining bytes [] source start) (form_of start) (so_far.rows ++ r ∷ []) []
+  read_with from to old now seen sinks told r so_far form more bytes h =
       subst (λ (f : LayerForm). AreFirstRows f bytes (so_far.rows ++ r ∷ []) []) (form ∙ so_far.form)
-      (read_first remaining bytes (so_far.rows ++ r ∷ []) now (more bytes so_far.rows (so_far.read bytes h)))
+      (read_first remaining bytes (so_far.rows ++ r ∷ []) to now (more bytes so_far.rows (so_far.read bytes h)))
 
   -- the row has no key
-  pub without_key : (old now : LayerStream R) (seen : Differences) (sinks : Sinks) (told : Told) (r : LayerRow) (m : ℕ)
-      → IsGoing old seen sinks told
+  pub without_key : (from to : LayerSource R) (old now : LayerStream) (seen : Differences) (sinks : Sinks) (told : Told) (r : LayerRow) (m : ℕ)
+      → IsGoing from old seen sinks told
       → form_of now ≡ form_of old
       → now.number ≡ number_behind old.number
-      → ((bytes : List ℕ) (rows : List LayerRow) → HasRead remaining bytes rows old → HasRead remaining bytes (rows ++ r ∷ []) now)
+      → ((bytes : List ℕ) (rows : List LayerRow) → HasRead remaining bytes rows from old → HasRead remaining bytes (rows ++ r ∷ []) to now)
       → r.key ≡ None
       → m ≡ now.number
-      → EndsAt remaining content start cut sinks m NoKey
-  without_key old now seen sinks told r m so_far form number more none here = (
+      → EndsAt remaining content source start cut sinks m NoKey
+  without_key from to old now seen sinks told r m so_far form number more none here = (
     so_far.rows,
     told,
     so_far.out,
     number_here so_far.rows old.number m so_far.number (here ∙ number),
-    (r, read_with old now seen sinks told r so_far form more, none),
+    (r, read_with from to old now seen sinks told r so_far form more, none),
   )
 
   -- the row has the key of one before it, at which the cut has a row
-  pub again : (old now : LayerStream R) (seen : Differences) (sinks : Sinks) (told : Told) (r : LayerRow) (m : ℕ) (q : CellId)
-      → IsGoing old seen sinks told
+  pub again : (from to : LayerSource R) (old now : LayerStream) (seen : Differences) (sinks : Sinks) (told : Told) (r : LayerRow) (m : ℕ) (q : CellId)
+      → IsGoing from old seen sinks told
       → form_of now ≡ form_of old
       → now.number ≡ number_behind old.number
-      → ((bytes : List ℕ) (rows : List LayerRow) → HasRead remaining bytes rows old → HasRead remaining bytes (rows ++ r ∷ []) now)
+      → ((bytes : List ℕ) (rows : List LayerRow) → HasRead remaining bytes rows from old → HasRead remaining bytes (rows ++ r ∷ []) to now)
       → q ≡ cell_of (form_of start).table r.key
       → is_some (finite.get seen q) ≡ true
       → m ≡ now.number
-      → EndsAt remaining content start cut sinks m KeyTwice
-  again old now seen sinks told r m q so_far form number more at_cell is_seen here = (
+      → EndsAt remaining content source start cut sinks m KeyTwice
+  again from to old now seen sinks told r m q so_far form number more at_cell is_seen here = (
     so_far.rows,
     told,
     so_far.out,
     number_here so_far.rows old.number m so_far.number (here ∙ number),
     (
       r,
-      read_with old now seen sinks told r so_far form more,
+      read_with from to old now seen sinks told r so_far form more,
       Contains-from_any tied_cells (cell_of (form_of start).table r.key) (cells so_far.rows)
           (sym (so_far.noted (cell_of (form_of start).table r.key)) ∙ subst (λ (k : CellId). is_some (finite.get seen k) ≡ true) at_cell is_seen),
     ),
   )
 
   -- the record can't be read
-  pub unread : (old now : LayerStream R) (seen : Differences) (sinks : Sinks) (told : Told) (e : StreamFault)
-      → IsGoing old seen sinks told
-      → IsFaultOfNext remaining old now e
-      → IsPassFault remaining content start cut sinks (pass_fault e)
-  unread old now seen sinks told of_stream.OutOfMemory so_far why = tt
-  unread old now seen sinks told of_stream.Unreadable so_far why = tt
-  unread old now seen sinks told (of_stream.Record m fault) so_far why = (
+  pub unread : (from to : LayerSource R) (old : LayerStream) (seen : Differences) (sinks : Sinks) (told : Told) (number : ℕ) (e : StreamFault)
+      → IsGoing from old seen sinks told
+      → number ≡ number_behind old.number
+      → IsFaultOfNext remaining from to (form_of old) number e
+      → IsPassFault remaining content source start cut sinks (is_failed to) (pass_fault e)
+  unread from to old seen sinks told number of_stream.OutOfMemory so_far next why = tt
+  unread from to old seen sinks told number of_stream.Unreadable so_far next why = why
+  unread from to old seen sinks told number (of_stream.Record m fault) so_far next why = (
     so_far.rows,
     told,
     so_far.out,
-    number_here so_far.rows old.number m so_far.number why.0,
+    number_here so_far.rows old.number m so_far.number (why.0 ∙ next),
     (
       why.1.0,
       λ bytes h.
           subst (λ (f : LayerForm). AreFirstRows f bytes so_far.rows (why.1.0 ∷ [])) so_far.form
-          (taken_behind remaining bytes so_far.rows old now why.1.0 (so_far.read bytes h) so_far.going.config why.1.1),
+          (taken_behind remaining bytes so_far.rows from to old why.1.0 (so_far.read bytes h) so_far.going.config why.1.1),
       subst (λ (f : LayerForm). IsFaultOfFields f why.1.0 fault) so_far.form why.1.2,
     ),
   )
 
   -- a row wasn't told of
-  pub untold : (sinks : Sinks) (e : PassFault) → IsTellingFault sinks.text_failed sinks.notes_failed e → IsPassFault remaining content start cut sinks e
-  untold sinks of_pass.OutOfMemory why = tt
-  untold sinks of_pass.Unreadable why = absurd why
-  untold sinks of_pass.WriteFailed why = why
-  untold sinks (of_pass.Record m fault) why = absurd why
+  pub untold : (sinks : Sinks) (failed : Bool) (e : PassFault) → IsTellingFault sinks.text_failed sinks.notes_failed e
+      → IsPassFault remaining content source start cut sinks failed e
+  untold sinks failed of_pass.OutOfMemory why = tt
+  untold sinks failed of_pass.Unreadable why = absurd why
+  untold sinks failed of_pass.WriteFailed why = why
+  untold sinks failed (of_pass.Record m fault) why = absurd why

@@ -1,5 +1,5 @@
 -- A pass over a layer that is read one record at a time.
-use Rattle.std.specs.Prelude.{◌≡◌, ℕ, List, [], ◌∷◌, ◌++◌, ⊤, Contains, Option, None}
+use Rattle.std.specs.Prelude.{◌≡◌, ℕ, Bool, true, List, [], ◌∷◌, ◌++◌, ⊤, Contains, Option, None}
 use Rattle.clr_rows.specs.Contents.{Content}
 use Rattle.clr_finders.specs.declared.finders.RowFinder.{Ghosts}
 use Rattle.clr_needs.specs.Settings.{Setting}
@@ -8,6 +8,7 @@ use Rattle.clr_layer_changes.specs.declared.faults.LayersFault.{LayersFault}
 use Rattle.clr_layer_changes.specs.declared.faults.LayersFault.TheVariants.{KeyTwice, NoKey, NoTable, TableTwice, Unread}
 use Rattle.clr_layer_text.specs.declared.rows.LayerRow.{LayerRow}
 use Rattle.clr_layer_text.specs.Layers.{cell_of}
+use Rattle.clr_layer_streams.specs.declared.sources.LayerSource.{LayerSource}
 use Rattle.clr_layer_streams.specs.declared.streams.LayerStream.{LayerStream}
 use Rattle.clr_layer_streams.specs.Streams.{AreAllRows, AreFirstRows, HasRead, IsFaultOfFields, LayerForm, form_of, record_behind}
 use Rattle.clr_cut_streams.specs.declared.faults.PassFault.{PassFault}
@@ -26,12 +27,12 @@ pub record Tells {V F : Type 0} {finder : Ghosts F} (content : V → Content) (c
   pub out : WentOut sinks text notes
 
 -- it was over all rows of a layer of which none had been read yet, where the source tells its bytes
-abbrev pub IsOverAll : {R : Type 0} → (R → Option (List ℕ)) → LayerStream R → List LayerRow → Type 0
-IsOverAll remaining stream rows = (bytes : List ℕ) → HasRead remaining bytes [] stream → AreAllRows (form_of stream) bytes rows
+abbrev pub IsOverAll : {R : Type 0} → (R → Option (List ℕ)) → LayerSource R → LayerStream → List LayerRow → Type 0
+IsOverAll remaining source stream rows = (bytes : List ℕ) → HasRead remaining bytes [] source stream → AreAllRows (form_of stream) bytes rows
 
-abbrev pub IsWholePass : {R V F : Type 0} {finder : Ghosts F} → (R → Option (List ℕ)) → (V → Content) → LayerStream R → CutText V F finder → Sinks → Told
-    → Type 0
-IsWholePass remaining content stream cut sinks told = (rows : List LayerRow) × IsOverAll remaining stream rows
+abbrev pub IsWholePass : {R V F : Type 0} {finder : Ghosts F} → (R → Option (List ℕ)) → (V → Content) → LayerSource R → LayerStream → CutText V F finder
+    → Sinks → Told → Type 0
+IsWholePass remaining content source stream cut sinks told = (rows : List LayerRow) × IsOverAll remaining source stream rows
     × Tells content cut (form_of stream).table sinks rows told
 
 -- these are the first rows of a layer, and those records stand behind them, where its text is known
@@ -51,16 +52,17 @@ IsFaultBehind IsText form c rows NoTable = ⊥
 IsFaultBehind IsText form c rows TableTwice = ⊥
 
 -- a pass has told of the rows before the record of a number, which has the fault
-abbrev pub EndsAt : {R V F : Type 0} {finder : Ghosts F} → (R → Option (List ℕ)) → (V → Content) → LayerStream R → CutText V F finder → Sinks → ℕ
-    → LayersFault → Type 0
-EndsAt remaining content stream cut sinks number fault = (rows : List LayerRow) × (told : Told) × Tells content cut (form_of stream).table sinks rows told
+abbrev pub EndsAt : {R V F : Type 0} {finder : Ghosts F} → (R → Option (List ℕ)) → (V → Content) → LayerSource R → LayerStream → CutText V F finder → Sinks
+    → ℕ → LayersFault → Type 0
+EndsAt remaining content source stream cut sinks number fault = (rows : List LayerRow) × (told : Told)
+    × Tells content cut (form_of stream).table sinks rows told
     × (number ≡ record_behind rows)
-    × IsFaultBehind (λ bytes. HasRead remaining bytes [] stream) (form_of stream) (setting_in content cut.rows.now) rows fault
+    × IsFaultBehind (λ bytes. HasRead remaining bytes [] source stream) (form_of stream) (setting_in content cut.rows.now) rows fault
 
--- why a pass ends before the stream does
-abbrev pub IsPassFault : {R V F : Type 0} {finder : Ghosts F} → (R → Option (List ℕ)) → (V → Content) → LayerStream R → CutText V F finder → Sinks → PassFault
-    → Type 0
-IsPassFault remaining content stream cut sinks OutOfMemory = ⊤
-IsPassFault remaining content stream cut sinks Unreadable = ⊤
-IsPassFault remaining content stream cut sinks WriteFailed = HasFailed sinks
-IsPassFault remaining content stream cut sinks (Record number fault) = EndsAt remaining content stream cut sinks number fault
+-- why a pass ends before the stream does, by whether a read of the source has failed
+abbrev pub IsPassFault : {R V F : Type 0} {finder : Ghosts F} → (R → Option (List ℕ)) → (V → Content) → LayerSource R → LayerStream → CutText V F finder
+    → Sinks → Bool → PassFault → Type 0
+IsPassFault remaining content source stream cut sinks failed OutOfMemory = ⊤
+IsPassFault remaining content source stream cut sinks failed Unreadable = failed ≡ true
+IsPassFault remaining content source stream cut sinks failed WriteFailed = HasFailed sinks
+IsPassFault remaining content source stream cut sinks failed (Record number fault) = EndsAt remaining content source stream cut sinks number fault

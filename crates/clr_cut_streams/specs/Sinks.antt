@@ -11,6 +11,18 @@ pub record Sinks : Type 0 where
   pub notes_hold : Option (List ℕ)
   pub notes_failed : Bool
 
+-- two sinks before and after
+abbrev pub sinks_between : {W N : Type 0} → (W → Option (List ℕ)) → (W → Bool) → (N → Option (List ℕ)) → (N → Bool) → (old new : W) → (before after : N)
+    → Sinks
+sinks_between contents failed noted notes_failed old new before after = record {
+  text_held = contents old;
+  text_holds = contents new;
+  text_failed = failed new;
+  notes_held = noted before;
+  notes_hold = noted after;
+  notes_failed = notes_failed after;
+}
+
 -- a text and notes went out
 pub record WentOut (sinks : Sinks) (text notes : List ℕ) : Type 0 where
   pub text_out : Appends sinks.text_held sinks.text_holds text

@@ -13,7 +13,7 @@ use std::alloc::{AllocError, AllocFailed};
 pub enum PassFault {
     /// No memory was found. This fault may come in place of any other answer.
     OutOfMemory,
-    /// The source failed.
+    /// A read of the source failed.
     Unreadable,
     /// A sink failed.
     WriteFailed,

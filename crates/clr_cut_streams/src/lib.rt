@@ -2,7 +2,7 @@
 //!
 //! - `pass_over`: goes over the rows of a layer, writes those that the cut lacks, and notes those that it has
 //!   otherwise. Where the source tells its bytes, it was over all rows of the layer, and the counts are those
-//!   of these rows (`clr_cut_passes`).
+//!   of these rows (`clr_cut_passes`). It fails as unreadable exactly where a read of the source did [`source`].
 //! - `CutText`: a cut, and the cells that its text lists.
 //! - `put_line`: writes a line to a sink, if it isn't empty.
 //! - `passes_show_a_cut` [`tables`, `parts`]: where passes over all rows of a whole, each once, print none and find none

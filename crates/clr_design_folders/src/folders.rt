@@ -1,7 +1,8 @@
 //! The designs of a folder.
 
 use crate::faults::FolderFault;
-use clr_desk_designs::{GivenLayer, LayeredDesign};
+use crate::layered_designs::LayeredDesign;
+use clr_layer_changes::GivenLayer;
 use clr_process_io::{RunFault, read_files};
 use clr_rows::Words;
 use std::alloc::AllocError;

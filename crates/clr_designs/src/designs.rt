@@ -1,9 +1,11 @@
 //! A design that has a wanted content, and LIVE with another content.
 
 ghost use Rattle.std.specs.Prelude.{◌≡◌, IfOk, OnErr};
+ghost use Rattle.clr_rows.specs.Contents.{Content};
 ghost use Rattle.clr_rows.specs.Names.{live_name};
 ghost use Rattle.clr_rows.specs.Schemas.{FitsSchema};
 ghost use Rattle.clr_steps.specs.declared.commands.Command.TheVariants as command;
+ghost use Rattle.clr_layer_changes.specs.Changes.{edits_between};
 ghost use Rattle.clr_designs.specs.Designs.{IsDesignBegun, IsDesignMade, IsLiveReplaced, IsCommandAnswer};
 
 use clr_engine::Office;
@@ -57,6 +59,28 @@ pub(crate) fn apply_edits(
     perform(office, &command)
 }
 
+/// Makes a design: a workspace of this name under LIVE, whose base is LIVE's content and whose current content is the one to which edits lead. These are
+/// the edits between LIVE's content and one that fits the schema. Returns why its workspace can't be created, if it can't: `BadName`, `NameTaken` or
+/// `TooMany`, in this order; then nothing changes. Nothing else is refused. If memory runs out, nothing changes, or the workspace stands with LIVE's content.
+pub fn make_edited_design(
+    alloc: Global,
+    office: &mut Office,
+    name: &str,
+    edits: Edits,
+) -> Result<Option<Reply>, AllocError>
+    requires { (content : Content) × FitsSchema office.old.schema content × (edits ≡ edits_between office.old.live content) }
+    ensures made { IfOk result (λ refused. (content : Content) → FitsSchema office.old.schema content → edits ≡ edits_between office.old.live content
+        → IsDesignMade office.old name.now content refused office.new) }
+    ensures err { OnErr result (IsDesignBegun office.old name.now office.new) }
+{
+    let _sound = office.len();
+    let _admitted = office.live();
+    if let Some(reply) = create_workspace(alloc, office, name)? {
+        return Ok(Some(reply));
+    }
+    apply_edits(alloc, office, name, edits)
+}
+
 /// Makes a design: a workspace of this name under LIVE, whose base is LIVE's content and whose current content is this one. Returns why its
 /// workspace can't be created, if it can't: `BadName`, `NameTaken` or `TooMany`, in this order; then nothing changes. Nothing else is refused.
 /// If memory runs out, nothing changes, or the workspace stands with LIVE's content.
@@ -70,12 +94,8 @@ pub fn make_design(
     ensures made { IfOk result (λ refused. IsDesignMade office.old name.now content.now refused office.new) }
     ensures err { OnErr result (IsDesignBegun office.old name.now office.new) }
 {
-    let _sound = office.len();
     let edits = edits_between(alloc, office.live(), content)?;
-    if let Some(reply) = create_workspace(alloc, office, name)? {
-        return Ok(Some(reply));
-    }
-    apply_edits(alloc, office, name, edits)
+    make_edited_design(alloc, office, name, edits)
 }
 
 /// Puts another content in place of LIVE's. Where it breaks a need that isn't broken in LIVE now, `RuleBroken` with the least such need is returned, and

@@ -1,7 +1,7 @@
 //! Designs that have a wanted content, each made by two commands; LIVE with another content; and the script that makes a design.
 //!
 //! - `make_design` creates a workspace under LIVE and makes the edits in it that lead to a content. The office is the same with one more
-//!   workspace, or the workspace can't be created, and nothing changes (`IsDesignMade`).
+//!   workspace, or the workspace can't be created, and nothing changes (`IsDesignMade`). `make_edited_design` does so by these edits.
 //! - `replace_live` makes the edits in LIVE that lead to a content, unless that breaks a rule (`IsLiveReplaced`).
 //! - `designs_are_made`: the law that both commands are done, and what they leave; and that their edits fit the schema, so that the script which is
 //!   written of them is read back.
@@ -25,7 +25,7 @@ mod writing;
 
 pub use again::{roll_back, set_content, take_away};
 pub use counts::{edit_counts_line, first_removed};
-pub use designs::{make_design, replace_live};
+pub use designs::{make_design, make_edited_design, replace_live};
 pub use laws::{
     again_script_is_read_back, design_script_is_read_back, designs_are_brought_again,
     designs_are_made, designs_were_made_since,

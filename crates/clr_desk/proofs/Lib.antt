@@ -1,10 +1,8 @@
 mod CutMarkLemmas
-mod LayerReportLemmas
 mod OneAgain
 mod OneAnswer
 mod OneChoice
 mod OneCut
 mod OneDeskAnswer
 mod OnePrint
-mod PlaceLemmas
 mod Untorn

@@ -16,7 +16,7 @@ use Rattle.clr_desk_layers.specs.Designs.{IsPrintOfAccepted, IsPrintOfLive, IsPr
 use Rattle.clr_desk_layers.specs.Counted.{IsCounted}
 use Rattle.clr_desk_layers.specs.Since.{IsDesignSincePrint, IsSincePrint}
 use Rattle.clr_desk_designs.specs.Again.{IsAgainPrint, IsAnewPrint, IsDesignAnewPrint}
-use Rattle.clr_desk_designs.specs.declared.layered_designs.LayeredDesign.{LayeredDesign}
+use Rattle.clr_design_folders.specs.declared.layered_designs.LayeredDesign.{LayeredDesign}
 use Rattle.clr_desk_errors.specs.Accepting.{IsAcceptPrint, IsPrintoutOfDraft}
 use Rattle.clr_desk_errors.specs.Mended.{IsMendedPrint}
 use Rattle.clr_desk_prints.specs.Members.{set_asked}

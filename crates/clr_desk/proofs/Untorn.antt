@@ -10,7 +10,7 @@ use Rattle.clr_desk_command_line.specs.declared.asks.GeographicAsk.TheVariants a
 use Rattle.clr_desk_command_line.specs.declared.asks.DatabaseAsk.TheVariants as database
 use Rattle.clr_desk_command_line.specs.declared.asks.LayersAsk.{LayersAsk}
 use Rattle.clr_layer_changes.specs.declared.options.GivenLayer.{GivenLayer}
-use Rattle.clr_desk_designs.specs.declared.layered_designs.LayeredDesign.{LayeredDesign}
+use Rattle.clr_design_folders.specs.declared.layered_designs.LayeredDesign.{LayeredDesign}
 use Rattle.clr_desk_prints.specs.Printing.{IsPrintoutFault, PrintoutOrFault}
 use Rattle.clr_steps.specs.Offices.{Office}
 use Rattle.clr_office_texts.specs.Drafts.{draft_in, opened_in}
@@ -20,7 +20,7 @@ use Rattle.clr_check.specs.Cases.{case_of}
 use Rattle.clr_cut_texts.specs.Marks.{is_cut_text}
 use Rattle.clr_desk.specs.CutMarks.{IsMarkedAlike, IsNotedCut, with_cut_note, with_mark}
 use Rattle.clr_desk.specs.Geographic.{IsGeographicAnswer, IsPrintIf, cut_word, design_options, first_table, folder_options, may_remove_over, options_of}
-use Rattle.clr_desk.specs.LayerWhys.{IsLayersWhyOver}
+use Rattle.clr_desk_faults.specs.LayerWhys.{IsLayersWhyOver}
 use Rattle.clr_desk_merges.specs.Merges.{IsHintedMerge}
 use Rattle.clr_desk_designs.specs.Again.{IsAgainPrint, IsDesignAnewPrint}
 use Rattle.clr_desk_designs.specs.InTurn.{IsDesignsPrint, IsDesignsSincePrint}

@@ -11,7 +11,7 @@ use Rattle.clr_process_io.specs.declared.faults.RunFault.{RunFault}
 use Rattle.clr_process_io.specs.declared.faults.RunFault.TheVariants as run_fault
 use Rattle.clr_desk_command_line.specs.declared.asks.DeskAsk.{DeskAsk}
 use Rattle.clr_desk_command_line.specs.declared.asks.DeskAsk.TheVariants as ask
-use Rattle.clr_desk_designs.specs.declared.layered_designs.LayeredDesign.{LayeredDesign}
+use Rattle.clr_design_folders.specs.declared.layered_designs.LayeredDesign.{LayeredDesign}
 use Rattle.clr_desk_plans.specs.Certificates.{IsCertificatePrint}
 use Rattle.clr_desk_merges.specs.Checks.{IsCheckPrint}
 use Rattle.clr_desk_plans.specs.Choices.{IsChoicePrint}
@@ -22,12 +22,12 @@ use Rattle.clr_desk_clashes.specs.Clashes.{IsClashesPrint}
 use Rattle.clr_desk_formats.specs.Formats.{IsFormatPrint}
 use Rattle.clr_desk.specs.Geographic.{IsGeographicAnswer}
 use Rattle.clr_desk_plans.specs.InOrder.{IsInOrderPrint}
-use Rattle.clr_desk.specs.LayerWhys.{IsLayersWhy}
+use Rattle.clr_desk_faults.specs.LayerWhys.{IsLayersWhy}
 use Rattle.clr_desk_merges.specs.Merges.{IsHintedMerge}
 use Rattle.clr_desk_prints.specs.NameHints.{IsHinted}
 use Rattle.clr_desk_plans.specs.Orders.{IsOrderPrint}
 use Rattle.clr_desk_prints.specs.Printing.{IsPrintoutFault, IsPrintoutIn, IsPrintoutOfCase, Printout, PrintoutOrFault}
-use Rattle.clr_desk.specs.Whys.{IsWhyPrint}
+use Rattle.clr_desk_faults.specs.Whys.{IsWhyPrint}
 use Rattle.clr_desk_errors.specs.Accepting.{IsAcceptPrint, IsPrintoutOfDraft}
 use Rattle.clr_desk_error_lists.specs.ErrorLines.{IsErrorsPrint}
 use Rattle.clr_desk_errors.specs.Mended.{IsMendedPrint}

@@ -16,7 +16,7 @@ use Rattle.clr_desk_layers.specs.Designs.{IsAcceptedOfficePrint, IsDesignPrint, 
 use Rattle.clr_desk_layers.specs.Since.{IsDesignSincePrint}
 use Rattle.clr_desk_designs.specs.Again.{IsAgainPrint, IsDesignAnewPrint}
 use Rattle.clr_desk_designs.specs.InTurn.{IsDesignsPrint, IsDesignsSincePrint}
-use Rattle.clr_desk_designs.specs.declared.layered_designs.LayeredDesign.{LayeredDesign}
+use Rattle.clr_design_folders.specs.declared.layered_designs.LayeredDesign.{LayeredDesign}
 use Rattle.clr_desk_command_line.specs.declared.asks.DesignAsk.{DesignAsk}
 use Rattle.clr_desk_command_line.specs.declared.asks.DesignsAsk.{DesignsAsk}
 use Rattle.clr_desk_pages.specs.Features.{IsFeaturesAnswer}

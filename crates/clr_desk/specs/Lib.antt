@@ -1,11 +1,5 @@
 pub mod Answers
 pub mod CutMarks
 pub mod Databases
-pub mod FaultPlaces
 pub mod Geographic
-pub mod GivenLayers
-pub mod LayerFaults
-pub mod LayerWhys
 pub mod OneAnswer
-pub mod SkippedLayers
-pub mod Whys

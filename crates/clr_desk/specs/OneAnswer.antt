@@ -5,7 +5,7 @@ use Rattle.clr_desk_command_line.specs.declared.asks.DeskAsk.TheVariants as ask
 use Rattle.clr_desk_command_line.specs.declared.asks.GeographicAsk.{GeographicAsk}
 use Rattle.clr_desk_command_line.specs.declared.asks.GeographicAsk.TheVariants as geographic
 use Rattle.clr_layer_changes.specs.declared.options.GivenLayer.{GivenLayer}
-use Rattle.clr_desk_designs.specs.declared.layered_designs.LayeredDesign.{LayeredDesign}
+use Rattle.clr_design_folders.specs.declared.layered_designs.LayeredDesign.{LayeredDesign}
 use Rattle.clr_desk_prints.specs.Printing.{PrintoutOrFault}
 use Rattle.clr_desk.specs.Answers.{IsDeskAnswerTo}
 

@@ -3,29 +3,44 @@
 ghost use Rattle.std.specs.Prelude.{◌≡◌, ◌≢◌, [], false, IfErr, IfOk};
 ghost use Rattle.std.specs.List.{list_any};
 ghost use Rattle.std.specs.Io.KnownBytes.{Appends};
+ghost use Rattle.clr_check.specs.Cases.{case_of};
+ghost use Rattle.clr_desk_merges.specs.Merges.{IsHintedMerge};
 ghost use Rattle.clr_process_io.specs.declared.faults.RunFault.TheVariants as run_fault;
+ghost use Rattle.clr_desk.specs.CutMarks.{IsMarkedAlike};
 ghost use Rattle.clr_desk.specs.Answers.{IsDeskAnswer, IsDeskAnswerTo, IsDeskAnswerWithin, is_too_long_layer};
-ghost use Rattle.clr_desk_prints.specs.Printing.{IsMadePrintout};
+ghost use Rattle.clr_desk_prints.specs.Printing.{IsMadePrintout, IsPrintoutOfCase};
 
 use crate::cut_marks::marked;
 use crate::databases::answer_database;
 use crate::geographic::answer_geographic;
-use crate::layer_whys::answer_layers_why;
-use crate::whys::answer_why;
 use clr_desk_board::answer_board;
 use clr_desk_clashes::answer_clashes;
 use clr_desk_command_line::DeskAsk;
 use clr_desk_designs::LayeredDesign;
 use clr_desk_error_lists::answer_errors;
 use clr_desk_errors::{answer_accept, answer_mended};
+use clr_desk_faults::{answer_layers_why, answer_why};
 use clr_desk_formats::answer_format;
 use clr_desk_layers::GivenLayer;
 use clr_desk_merges::{answer_check, answer_merge};
 use clr_desk_pages::{answer_map, answer_report};
 use clr_desk_plans::{answer_certificate, answer_in_order, answer_keep, answer_work_order};
 use clr_desk_prints::Print;
-use clr_office::{MOST_INPUT_BYTES, RunFault, Sink};
+use clr_office::{MOST_INPUT_BYTES, RunFault, Sink, Words};
 use std::alloc::Global;
+
+/// Returns the office that merges under a certificate leave, marked as a cut where the office text is one.
+fn answer_marked_merge(
+    alloc: Global,
+    office: &[u8],
+    certificate: &[u8],
+    names: &[Words],
+) -> Result<Print, RunFault>
+    ensures { IsMadePrintout (IsMarkedAlike (IsPrintoutOfCase (IsHintedMerge names.now) (case_of office.now certificate.now)) office.now) result }
+{
+    let answer = answer_merge(alloc, office, certificate, names);
+    marked(alloc, office, answer)
+}
 
 /// Returns what is printed for what is asked of two texts, of layers and of designs.
 fn answer_texts(
@@ -43,40 +58,28 @@ fn answer_texts(
             answer_certificate(alloc, office, root.as_str(), names.as_slice())
         }
         DeskAsk::Check => answer_check(alloc, office, second),
-        DeskAsk::Merge(names) => {
-            let answer = answer_merge(alloc, office, second, names.as_slice());
-            marked(alloc, office, answer)
-        }
+        DeskAsk::Merge(names) => answer_marked_merge(alloc, office, second, names.as_slice()),
         DeskAsk::Format => answer_format(alloc, office),
         DeskAsk::Accept => marked(alloc, office, answer_accept(alloc, office)),
         DeskAsk::Mended => answer_mended(alloc, office),
         DeskAsk::Errors => answer_errors(alloc, office),
         DeskAsk::Keep(root, names) => answer_keep(alloc, office, root.as_str(), names.as_slice()),
-        DeskAsk::Clashes(root, names) => answer_clashes(
-            alloc,
-            office,
-            root.as_str(),
-            names.as_slice(),
-        ),
-        DeskAsk::InOrder(ask, root, names) => answer_in_order(
-            alloc,
-            ask,
-            office,
-            root.as_str(),
-            names.as_slice(),
-        ),
+        DeskAsk::Clashes(root, names) => {
+            answer_clashes(alloc, office, root.as_str(), names.as_slice())
+        }
+        DeskAsk::InOrder(ask, root, names) => {
+            answer_in_order(alloc, ask, office, root.as_str(), names.as_slice())
+        }
         DeskAsk::Why(kind) => answer_why(alloc, kind, office, second),
         DeskAsk::WhyLayers(asked) => answer_layers_why(alloc, asked, office, layers),
-        DeskAsk::Geographic(ask) => answer_geographic(alloc, ask, office, second, layers, designs),
-        DeskAsk::Skipping(ask, _) => answer_geographic(alloc, ask, office, second, layers, designs),
+        DeskAsk::Geographic(ask) | DeskAsk::Skipping(ask, _) => {
+            answer_geographic(alloc, ask, office, second, layers, designs)
+        }
         DeskAsk::Database(ask) => answer_database(alloc, ask, office, second),
         DeskAsk::Map(root, names) => answer_map(alloc, office, root.as_str(), names.as_slice()),
-        DeskAsk::Report(root, names) => answer_report(
-            alloc,
-            office,
-            root.as_str(),
-            names.as_slice(),
-        ),
+        DeskAsk::Report(root, names) => {
+            answer_report(alloc, office, root.as_str(), names.as_slice())
+        }
         DeskAsk::Board(root, names) => answer_board(alloc, office, root.as_str(), names.as_slice()),
         DeskAsk::WorkOrder(root, names) => {
             answer_work_order(alloc, office, root.as_str(), names.as_slice())

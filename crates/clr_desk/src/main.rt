@@ -31,12 +31,8 @@
 //!   (`IsGeographicAnswer`); of `accept` the text of the same office with just its broken needs as known, of `mended` the known needs that aren't
 //!   broken any more, and of `errors` the broken needs of LIVE, whether known or not, with status 0 only where all are known; of `edits` the edits that
 //!   take LIVE of one office to LIVE of another, as CSV or as a transaction in SQL, and of `propose` SQL that proposes a cut (`IsDatabaseAnswer`).
-//! - `fault_place` [`place`]: the file, the line and the column of the fault of the office text or the certificate, and nothing of any other.
-//! - `take_layers` [`layers`, `offices`]: each table that is asked for with the text in its place.
-//! - `faults_of_layers` [`faults`]: all that is wrong with layers, each fault with its file, line and column (`AreLayerFaults`). `degrees_of_layers`
-//!   [`degrees`]: the layers whose coordinates look like degrees.
-//! - `split_given` [`split`]: the layer whose records with faults are skipped, as a layer of just the others, and the text of just the skipped ones
-//!   (`IsSplitOver`). That the first is given to `answer`, and the text goes into the file, no contract says.
+//! - `fault_place`, `take_layers`, `faults_of_layers`, `degrees_of_layers` and `split_given` of `clr_desk_faults` say what is wrong with texts and layers,
+//!   and where. That the layer without the records that `split_given` skips is given to `answer`, and the text of those goes into the file, no contract says.
 //! - `texts_have_one_answer` [`answer`]: memory aside, what is asked has one answer alone, but for what the definitions of clashes, of orders, of faults,
 //!   and of sentences, pictures, pages, features, layers and errors leave open.
 //! - `answer_reach`, of `reach`: what goes to both sinks is what `IsReachAnswer` of `clr_desk_cuts` says. It is written as the table is read, so the
@@ -50,32 +46,24 @@ mod answers;
 mod cut_marks;
 mod databases;
 mod designs_over;
-mod fault_places;
 mod geographic;
-mod given_layers;
 mod laws;
-mod layer_faults;
-mod layer_whys;
 mod skipped_files;
-mod skipped_layers;
-mod whys;
 
 use crate::answers::answer;
-use crate::fault_places::fault_place;
-use crate::given_layers::take_layers;
-use crate::layer_faults::{degrees_of_layers, faults_of_layers};
 use crate::skipped_files::{begin_file, drop_file, end_file};
-use crate::skipped_layers::split_given;
 use clr_design_folders::{FolderDesigns, FolderFault, read_designs, unfit_remark};
 use clr_desk_command_line::{AskFault, Asked, DeskAsk, GeographicAsk, ReachAsk, ask_of};
-use clr_desk_cuts::{Aim, ReachOptions, answer_reach};
+use clr_desk_cuts::{Aim, LayerSource, ReachOptions, answer_reach};
+use clr_desk_faults::{
+    SplitLayer, degrees_of_layers, fault_place, faults_of_layers, split_given, take_layers,
+};
 use clr_desk_layers::GivenLayer;
 use clr_office::{Port, RunFault, Sink, Words};
 use clr_process_io::{
     BAD_WORDS, end_run, file_name, print_fault, print_parser_message, put_input_remark, read_files,
     text_at, texts_of_words, words,
 };
-use clr_skipped_records::SplitLayer;
 use clr_streams::Screen;
 use std::alloc::AllocError;
 use std::io::ErrorKind;
@@ -217,6 +205,7 @@ fn answer_stream(rt: &HostRuntime, ask: &ReachAsk, files: &[Words]) -> Result<u8
         rounded: ask.is_rounded,
     };
     let office = text_at(&texts, 0);
+    let mut source = LayerSource::new(rt.alloc(), rt.stdin());
     let mut writer = Port::new(rt.stdout());
     let mut notes = Screen::new(rt.alloc(), Port::new(rt.stderr()), true);
     let ended = answer_reach(
@@ -225,7 +214,7 @@ fn answer_stream(rt: &HostRuntime, ask: &ReachAsk, files: &[Words]) -> Result<u8
         office,
         ask.table.as_str(),
         ask.names.as_slice(),
-        rt.stdin(),
+        &mut source,
         &mut writer,
         &mut notes,
     );

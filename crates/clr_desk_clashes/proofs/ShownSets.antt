@@ -9,9 +9,10 @@ use Rattle.std.proofs.lemmas.Option.{slice_get-get_or}
 use Rattle.clr_rules.proofs.Elements.{Among, contained, kept_among, some_of}
 use Rattle.clr_steps.specs.Offices.{Office}
 use Rattle.clr_steps.specs.Quiet.{MergeSet}
+use Rattle.clr_merge_clashes.specs.Beside.{beside, is_beside}
 use Rattle.clr_merge_clashes.specs.Laws.{ArePositions, AreSmallestSets}
 use Rattle.clr_merge_clashes.specs.declared.clash_sets.MergeClashes.{MergeClashes}
-use Rattle.clr_desk_clashes.specs.Clashes.{AreTold, LinesDecidePlans, NoneIsBeside, beside, is_beside}
+use Rattle.clr_desk_clashes.specs.Clashes.{AreTold, LinesDecidePlans, NoneIsBeside}
 
 -- what isn't beside was looked at
 looked : (found : MergeClashes) (positions : List ℕ) → NoneIsBeside found positions → (at : ℕ) → Contains positions at → Contains found.looked.items at

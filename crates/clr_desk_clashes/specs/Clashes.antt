@@ -14,6 +14,7 @@ use Rattle.clr_merge_sets.specs.declared.plans.Plan.{Plan}
 use Rattle.clr_merge_sets.specs.declared.plans.Plan.TheVariants as plan
 use Rattle.clr_plan.specs.Plans.{IsPlan}
 use Rattle.clr_merge_sets.specs.Plans.{is_cleared, is_out_of_memory}
+use Rattle.clr_merge_clashes.specs.Beside.{beside, is_beside}
 use Rattle.clr_merge_clashes.specs.Laws.{ArePositions, AreSmallestSets, HoldNoSet, merge_set_of_part}
 use Rattle.clr_merge_clashes.specs.MergeClashes.{FindsClashes}
 use Rattle.clr_merge_clashes.specs.declared.clash_sets.MergeClash.{MergeClash}
@@ -37,17 +38,9 @@ helped_text tables s h = clash_text tables s h.clash.now ++ names_line (codes "h
 abbrev pub is_listed_position : ℕ → List ℕ → Bool
 is_listed_position at positions = list_any (λ x. x == at) positions
 
--- a position that isn't among some
-abbrev pub is_beside : List ℕ → ℕ → Bool
-is_beside looked at = not (is_listed_position at looked)
-
 -- a position that is in none of some sets
 abbrev pub is_in_no_set : List MergeClash → ℕ → Bool
 is_in_no_set clashes at = not (list_any (λ (k : MergeClash). is_listed_position at k.members.items) clashes)
-
--- the members that weren't looked at with the others
-abbrev pub beside : MergeSet → List ℕ → List Name
-beside s looked = members_at s (filter (is_beside looked) (range_with_len 0 (length s.members)))
 
 -- the members that are in none of these sets; with one that wasn't looked at with the others they may be in another
 abbrev pub in_no_set : MergeSet → List MergeClash → List Name

@@ -4,11 +4,11 @@ ghost use Rattle.std.specs.List.{flat_map};
 ghost use Rattle.clr_merge_sets.specs.MergeSetNames.{merge_set};
 ghost use Rattle.clr_desk_clashes.specs.Clashes.{clashes_text, helped_text, line_of_some};
 
-use crate::clash_members::{beside, in_no_set};
+use crate::clash_members::in_no_set;
 use clr_clash_helpers::HelpedClash;
 use clr_desk_orders::names_line;
 use clr_lines::{count_line, verdict_line};
-use clr_merge_clashes::MergeClashes;
+use clr_merge_clashes::{MergeClashes, members_beside};
 use clr_merge_sets::names_at;
 use clr_rows::Schema;
 use std::alloc::{AllocError, Global};
@@ -78,7 +78,7 @@ pub(crate) fn clashes_lines(
     let clashes = found.clashes.as_slice();
     let mut lines = count_line(alloc, "clashes", clashes.len())?;
     let sets = sets_lines(alloc, schema, root, members, helped)?;
-    let others = beside(alloc, members, found.looked.as_slice())?;
+    let others = members_beside(alloc, members, found.looked.as_slice())?;
     let beside = line_of_some(alloc, "beside", others.as_slice())?;
     let free = in_no_set(alloc, members, clashes)?;
     let free = names_line(alloc, "free", free.as_slice())?;

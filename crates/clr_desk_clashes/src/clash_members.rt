@@ -1,8 +1,8 @@
-//! The members that are in no set, and those that weren't looked at with the others.
+//! The members that are in no set.
 ghost use Rattle.std.specs.Prelude.{◌≡◌, ◌++◌, ◌∷◌, [], filter, map, IfOk, OnOk};
 ghost use Rattle.std.specs.List.{list_any, range_with_len};
 ghost use Rattle.clr_merge_sets.specs.MergeSetNames.{merge_set};
-ghost use Rattle.clr_desk_clashes.specs.Clashes.{beside, in_no_set, is_beside, is_in_no_set, is_listed_position};
+ghost use Rattle.clr_desk_clashes.specs.Clashes.{in_no_set, is_in_no_set, is_listed_position};
 
 use clr_merge_clashes::MergeClash;
 use clr_merge_sets::names_at;
@@ -31,16 +31,6 @@ fn is_in_no_set(clashes: &[MergeClash], at: usize) -> bool
     !is_in_a_set(clashes, at)
 }
 
-/// Adds a position that isn't among some.
-fn add_beside(looked: &[usize], at: usize, list: &mut Vec<usize>) -> Result<(), AllocError>
-    ensures { OnOk result (list.new.items ≡ list.old.items ++ filter (is_beside looked.now) (at ∷ [])) }
-{
-    if !is_among(looked, at) {
-        list.push(at)?;
-    }
-    Ok(())
-}
-
 /// Adds a position that is in none of some sets.
 fn add_free(clashes: &[MergeClash], at: usize, list: &mut Vec<usize>) -> Result<(), AllocError>
     ensures { OnOk result (list.new.items ≡ list.old.items ++ filter (is_in_no_set clashes.now) (at ∷ [])) }
@@ -49,17 +39,6 @@ fn add_free(clashes: &[MergeClash], at: usize, list: &mut Vec<usize>) -> Result<
         list.push(at)?;
     }
     Ok(())
-}
-
-/// Returns the positions from 0 to below a count that aren't among some.
-fn positions_beside(alloc: Global, count: usize, looked: &[usize]) -> Result<Vec<usize>, AllocError>
-    ensures { IfOk result (λ list. list.items ≡ filter (is_beside looked.now) (range_with_len 0 count)) }
-{
-    let mut list = Vec::new(alloc);
-    for at in 0..count {
-        add_beside(looked, at, &mut list)?;
-    }
-    Ok(list)
 }
 
 /// Returns the positions from 0 to below a count that are in none of some sets.
@@ -75,18 +54,6 @@ fn free_positions(
         add_free(clashes, at, &mut list)?;
     }
     Ok(list)
-}
-
-/// Returns the members that weren't looked at with the others.
-pub(crate) fn beside<'a>(
-    alloc: Global,
-    members: &[&'a str],
-    looked: &[usize],
-) -> Result<Vec<&'a str>, AllocError>
-    ensures { IfOk result (λ list. map (λ name. name.now) list.items ≡ beside (merge_set [] (map (λ name. name.now) members.now)) looked.now) }
-{
-    let positions = positions_beside(alloc, members.len(), looked)?;
-    names_at(alloc, members, positions.as_slice())
 }
 
 /// Returns the members that are in no set.

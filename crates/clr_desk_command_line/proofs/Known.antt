@@ -10,7 +10,7 @@ use Rattle.clr_command_line.proofs.Entering.{AllAsk, IsAsking, asked_of, asks_so
 use Rattle.clr_desk_command_line.specs.declared.asks.Asked.{Asked}
 use Rattle.clr_desk_command_line.specs.Asks.{ask_of_texts, asked_by_name, asked_of_office, geographic_asked, imports_asked, is_readable, members_ask, pictures_ask, reads_values}
 use Rattle.clr_desk_command_line.specs.Databases.{database_asked}
-use Rattle.clr_desk_command_line.specs.Program.{certificates, choices, cuts, exports, groups, imports, old_errors, pictures, program, tellings}
+use Rattle.clr_desk_subcommands.specs.Program.{certificates, choices, cuts, exports, groups, imports, old_errors, pictures, program, tellings}
 
 -- the groups of subcommands, written out
 unfoldable all_groups : ⊤

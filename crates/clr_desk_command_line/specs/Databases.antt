@@ -1,5 +1,6 @@
 -- What is asked for a database, and its files.
-use Rattle.std.specs.Prelude.{ℕ, ℤ, pos, ◌*ℤ◌, ◌==◌, Bool, List, [], ◌∷◌, codes, nat_le, Option, Some, None, if◌then◌else◌, option_and_then, option_map, unsigned_abs}
+use Rattle.std.specs.Prelude.{ℕ, ℤ, pos, ◌*ℤ◌, ◌==◌, Bool, List, [], ◌∷◌, codes, nat_le}
+use Rattle.std.specs.Prelude.{Option, Some, None, if◌then◌else◌, option_and_then, option_map, unsigned_abs}
 use Rattle.std.specs.List.{after_first, before_first, list_any}
 use Rattle.std.specs.Option.{option_map_or}
 use Rattle.std.specs.Str.{bytes_eq}

@@ -8,11 +8,9 @@
 #![tactic(auto)]
 
 mod asks;
-mod command;
 mod complaints;
 mod database_reading;
 mod design_reading;
-mod helps;
 mod layer_reading;
 mod named_layers;
 mod origins;

@@ -27,13 +27,12 @@ ghost use Rattle.clr_desk_command_line.specs.Asks.{
   reach_of,
 };
 ghost use Rattle.clr_desk_command_line.specs.Databases.{database_asked};
-ghost use Rattle.clr_desk_command_line.specs.Program.{program};
+ghost use Rattle.clr_desk_subcommands.specs.Program.{program};
 ghost use Rattle.clr_desk_command_line.specs.declared.asks.DeskAsk.{DeskAsk};
 ghost use Rattle.clr_desk_command_line.specs.declared.asks.DeskAsk.TheVariants.{Errors, Geographic};
 ghost use Rattle.clr_desk_command_line.specs.declared.asks.GeographicAsk.TheVariants.{ErrorFeatures};
 
 use crate::asks::{Asked, DeskAsk, GeographicAsk, OrderAsk, ReachAsk};
-use crate::command::whole_command;
 use crate::complaints::complaint;
 use crate::database_reading::database_ask;
 use crate::layer_reading::geographic_ask;
@@ -42,6 +41,7 @@ use crate::why_reading::{AskAndFiles, why};
 use clap::ArgMatches;
 use clap::error::ErrorKind;
 use clr_command_line::{AskFault, database, database_with, is_set, names};
+use clr_desk_subcommands::whole_command;
 use clr_rows::{Names, Words};
 use std::alloc::{AllocError, Global};
 
@@ -326,8 +326,8 @@ fn refusal(alloc: Global, matches: &ArgMatches) -> Result<AskFault, AllocError> 
 ///
 /// Fails with `Refused` where the words name no subcommand or another count of values than it has, where a layer has no `=`, N is no key, CHOICE is neither
 /// `yes` nor `no`, both COPIED and a script are asked for, or both BAD and several layers are given; where DIALECT is neither `postgis` nor `spatialite`, or X
-/// or Y is no whole number of metres of at most `MOST_ORIGIN_METRES`; or where they ask for help, as `help`, `--help` and `-h`, or for the version, as `--version`
-/// and `-V`; and with `OutOfMemory` for want of memory, which may come in place of any other answer.
+/// or Y is no whole number of metres of at most `MOST_ORIGIN_METRES`; or where they ask for help, as `help`, `--help` and `-h`, or for the version, as
+/// `--version` and `-V`; and with `OutOfMemory` for want of memory, which may come in place of any other answer.
 pub fn ask_of<'a>(alloc: Global, words: &'a [&'a str]) -> Result<(Asked, Vec<Words>), AskFault>
     ensures asks { IfOk result (λ r. ask_of (subcommand_of program (map (λ s. s.now) words.entry.now)) ≡ Some (r.0, r.1.items)) }
     ensures takes { takes program (map (λ s. s.now) words.entry.now) ≡ true

@@ -1,7 +1,7 @@
 -- What is answered of a table and a cut, by how the reading ends.
-use Rattle.std.proofs.Common.{◌≡◌, ◌<◌, ◌≤◌, ℕ, Bool, List, Option, Some, None, Result, Ok, Err, IfOk, OnOk, false, length, refl, subst, sym}
+use Rattle.std.proofs.Common.{◌≡◌, ◌≤◌, ℕ, Bool, List, Option, Some, Result, Ok, Err, IfOk, OnOk, false, length, subst, sym}
 use Rattle.std.specs.Io.KnownBytes.{Appends}
-use Rattle.std.specs.Prelude.{is_err}
+use Rattle.std.specs.Prelude.{IfErr, is_err}
 use Rattle.clr_rows.specs.Names.{live_name}
 use Rattle.clr_rows.specs.Schemas.{table_named}
 use Rattle.clr_workspaces.specs.Marks.{Name}
@@ -19,7 +19,7 @@ use Rattle.clr_desk_cuts.specs.declared.ends.ReachEnd.TheVariants.{NoTable, Unfi
 use Rattle.clr_desk_cuts.specs.declared.options.ReachOptions.{ReachOptions}
 use Rattle.clr_desk_cuts.specs.Listed.{AreListedIn}
 use Rattle.clr_desk_cuts.specs.Members.{AreTogether, live_set}
-use Rattle.clr_desk_cuts.specs.Reach.{Asked, IsDeviceFault, IsPassedEnd, IsReachAnswer, IsReachEnd, IsReachOf, end_line, end_status}
+use Rattle.clr_desk_cuts.specs.Reach.{Asked, IsDeviceFault, IsPassedEnd, IsReachAnswer, IsReachEnd, end_line, end_status, is_read_failed}
 
 -- a pass over the table of a name
 module _ (o : Office) (listed : Differences) (options : ReachOptions) (table : Name) (members : List Name) (known : Option (List ℕ)) (sinks : Sinks) where
@@ -41,32 +41,49 @@ module _ (o : Office) (listed : Differences) (options : ReachOptions) (table : N
   reached_if at (Err e) named together h = tt
 
 -- the text is no office, or memory ran out
-pub unopened : (text : List ℕ) (options : ReachOptions) (table : Name) (names : List Name) (known : Option (List ℕ)) (sinks : Sinks) (e : RunFault)
-    → IsSilent sinks → IsOfficeFault (draft_in text) e → IsReachAnswer text options table names known sinks (Err e)
-unopened text options table names known sinks run_fault.ReadFailed silent why = absurd why
-unopened text options table names known sinks run_fault.WriteFailed silent why = absurd why
-unopened text options table names known sinks run_fault.TooLong silent why = absurd why
-unopened text options table names known sinks run_fault.NoSeparator silent why = absurd why
-unopened text options table names known sinks (run_fault.BadOffice fault) silent why = (why, silent)
-unopened text options table names known sinks (run_fault.BadScript number fault) silent why = absurd why
-unopened text options table names known sinks (run_fault.BadCertificate number fault) silent why = absurd why
-unopened text options table names known sinks run_fault.OutOfMemory silent why = tt
+pub unopened : (text : List ℕ) (options : ReachOptions) (table : Name) (names : List Name) (known : Option (List ℕ)) (sinks : Sinks) (failed : Bool)
+    (e : RunFault) → IsSilent sinks → IsOfficeFault (draft_in text) e → IsReachAnswer text options table names known sinks failed (Err e)
+unopened text options table names known sinks failed run_fault.ReadFailed silent why = absurd why
+unopened text options table names known sinks failed run_fault.WriteFailed silent why = absurd why
+unopened text options table names known sinks failed run_fault.TooLong silent why = absurd why
+unopened text options table names known sinks failed run_fault.NoSeparator silent why = absurd why
+unopened text options table names known sinks failed (run_fault.BadOffice fault) silent why = (why, silent)
+unopened text options table names known sinks failed (run_fault.BadScript number fault) silent why = absurd why
+unopened text options table names known sinks failed (run_fault.BadCertificate number fault) silent why = absurd why
+unopened text options table names known sinks failed run_fault.OutOfMemory silent why = tt
 
--- memory ran out, the source failed, or a sink did
-pub broken_off : (text : List ℕ) (options : ReachOptions) (table : Name) (names : List Name) (known : Option (List ℕ)) (sinks : Sinks) (e : RunFault)
-    → IsDeviceFault sinks e → IsReachAnswer text options table names known sinks (Err e)
-broken_off text options table names known sinks run_fault.ReadFailed why = tt
-broken_off text options table names known sinks run_fault.WriteFailed why = why
-broken_off text options table names known sinks run_fault.TooLong why = absurd why
-broken_off text options table names known sinks run_fault.NoSeparator why = absurd why
-broken_off text options table names known sinks (run_fault.BadOffice fault) why = absurd why
-broken_off text options table names known sinks (run_fault.BadScript number fault) why = absurd why
-broken_off text options table names known sinks (run_fault.BadCertificate number fault) why = absurd why
-broken_off text options table names known sinks run_fault.OutOfMemory why = tt
+-- so nothing was read
+pub unread : (X : Type 0) (text : List ℕ) (failed : Bool) (e : RunFault) → failed ≡ false → IsOfficeFault (draft_in text) e
+    → failed ≡ is_read_failed {X = X} (Err e)
+unread X text failed run_fault.ReadFailed unfailed why = absurd why
+unread X text failed run_fault.WriteFailed unfailed why = unfailed
+unread X text failed run_fault.TooLong unfailed why = unfailed
+unread X text failed run_fault.NoSeparator unfailed why = unfailed
+unread X text failed (run_fault.BadOffice fault) unfailed why = unfailed
+unread X text failed (run_fault.BadScript number fault) unfailed why = unfailed
+unread X text failed (run_fault.BadCertificate number fault) unfailed why = unfailed
+unread X text failed run_fault.OutOfMemory unfailed why = unfailed
+
+-- nor where want of memory is the only fault
+pub unless_lost : (failed : Bool) (r : Result ReachEnd RunFault) → failed ≡ false → IfErr r (λ e. e ≡ run_fault.OutOfMemory) → failed ≡ is_read_failed r
+unless_lost failed (Ok end) unfailed lost = unfailed
+unless_lost failed (Err e) unfailed lost = subst (λ (f : RunFault). failed ≡ is_read_failed {X = ReachEnd} (Err f)) (sym lost) unfailed
+
+-- no end: memory ran out, a read of the source failed, or a sink did
+pub broken_off : (text : List ℕ) (options : ReachOptions) (table : Name) (names : List Name) (known : Option (List ℕ)) (sinks : Sinks) (failed : Bool)
+    (e : RunFault) → IsDeviceFault sinks failed e → IsReachAnswer text options table names known sinks failed (Err e)
+broken_off text options table names known sinks failed run_fault.ReadFailed why = why
+broken_off text options table names known sinks failed run_fault.WriteFailed why = why
+broken_off text options table names known sinks failed run_fault.TooLong why = absurd why
+broken_off text options table names known sinks failed run_fault.NoSeparator why = absurd why
+broken_off text options table names known sinks failed (run_fault.BadOffice fault) why = absurd why
+broken_off text options table names known sinks failed (run_fault.BadScript number fault) why = absurd why
+broken_off text options table names known sinks failed (run_fault.BadCertificate number fault) why = absurd why
+broken_off text options table names known sinks failed run_fault.OutOfMemory why = tt
 
 -- an end, with its line behind what the pass told
 pub answered : (text : List ℕ) (options : ReachOptions) (table : Name) (names : List Name) (known : Option (List ℕ)) (o : Office) (listed : Differences)
-    (text_held text_holds notes_held between notes_hold : Option (List ℕ)) (text_failed notes_failed notes_fail : Bool) (end : ReachEnd) (status : ℕ)
+    (text_held text_holds notes_held between notes_hold : Option (List ℕ)) (text_failed notes_failed notes_fail failed : Bool) (end : ReachEnd) (status : ℕ)
     → length text ≤ MOST_INPUT_BYTES
     → draft_in text ≡ Ok o
     → AreListedIn text listed
@@ -88,8 +105,8 @@ pub answered : (text : List ℕ) (options : ReachOptions) (table : Name) (names 
       notes_held = notes_held;
       notes_hold = notes_hold;
       notes_failed = notes_fail;
-    }) (Ok status)
-answered text options table names known o listed text_held text_holds notes_held between notes_hold text_failed notes_failed notes_fail end status
+    }) failed (Ok status)
+answered text options table names known o listed text_held text_holds notes_held between notes_hold text_failed notes_failed notes_fail failed end status
     short read listed_in is_end goes_on line status_is = (
       short,
       o,

@@ -1,5 +1,5 @@
 -- A pass over a stream as a pass over the table that is asked for.
-use Rattle.std.proofs.Common.{◌≡◌, ℕ, Bool, List, [], ◌++◌, Option, Some, Result, Ok, Err, IfOk, false, inl, inr, refl, subst}
+use Rattle.std.proofs.Common.{◌≡◌, ℕ, Bool, List, [], Option, Some, Result, Ok, Err, IfOk, inl, inr, refl, subst}
 use Rattle.std.specs.Prelude.{IfErr, slice_get}
 use Rattle.std.specs.Io.KnownBytes.{Appends}
 use Rattle.clr_rows.specs.declared.tables.TableDef.{TableDef}
@@ -13,9 +13,10 @@ use Rattle.clr_cut_rows.specs.Searches.{aim_of, setting_in}
 use Rattle.clr_layer_changes.specs.declared.faults.LayersFault.{LayersFault}
 use Rattle.clr_layer_changes.specs.declared.faults.LayersFault.TheVariants as of_layer
 use Rattle.clr_layer_text.specs.declared.rows.LayerRow.{LayerRow}
-use Rattle.clr_layer_text.specs.Layers.{Fields, header_line}
+use Rattle.clr_layer_text.specs.Layers.{header_line}
 use Rattle.clr_layer_streams.specs.declared.faults.StreamFault.{StreamFault}
 use Rattle.clr_layer_streams.specs.declared.faults.StreamFault.TheVariants as of_stream
+use Rattle.clr_layer_streams.specs.declared.sources.LayerSource.{LayerSource}
 use Rattle.clr_layer_streams.specs.declared.streams.LayerStream.{LayerStream}
 use Rattle.clr_layer_streams.specs.Streams.{AreAllRows, HasRead, IsHeaderFault, LayerForm, form_of}
 use Rattle.clr_streams.proofs.Appending.{two_puts}
@@ -25,7 +26,7 @@ use Rattle.clr_cut_streams.specs.declared.told.CutText.{CutText}
 use Rattle.clr_cut_streams.specs.declared.told.Told.{Told}
 use Rattle.clr_cut_streams.specs.Faults.{pass_fault}
 use Rattle.clr_cut_streams.specs.Passes.{IsFaultBehind, IsPassFault, IsWholePass, Tells}
-use Rattle.clr_cut_streams.specs.Sinks.{Sinks}
+use Rattle.clr_cut_streams.specs.Sinks.{IsSilent, Sinks}
 use Rattle.clr_cut_streams.specs.Told.{HasTold}
 use Rattle.clr_desk_cuts.specs.Members.{live_set}
 use Rattle.clr_desk_cuts.specs.Reach.{AreBytes, Asked, HasPassed, IsPassEnd, TellsOfTable, form_with}
@@ -63,15 +64,16 @@ pub record IsCutAsked {V F : Type 0} {finder : Ghosts F} (content : V → Conten
   pub tables : cut.schema.now ≡ asked.office.schema
 
 -- a stream of the table that is asked for, of which the header was read
-pub record IsStreamAsked {R : Type 0} (remaining : R → Option (List ℕ)) (known : Option (List ℕ)) (asked : Asked) (stream : LayerStream R) : Type 0 where
+pub record IsStreamAsked {R : Type 0} (remaining : R → Option (List ℕ)) (known : Option (List ℕ)) (asked : Asked) (source : LayerSource R)
+    (stream : LayerStream) : Type 0 where
   pub tables : (form_of stream).tables ≡ asked.office.schema
   pub table : (form_of stream).table ≡ asked.table
   pub rounded : (form_of stream).rounded ≡ asked.options.rounded
-  pub begun : (bytes : List ℕ) → known ≡ Some bytes → HasRead remaining bytes [] stream
+  pub begun : (bytes : List ℕ) → known ≡ Some bytes → HasRead remaining bytes [] source stream
 
 module _ {R V F : Type 0} {finder : Ghosts F} (remaining : R → Option (List ℕ)) (known : Option (List ℕ)) (content : V → Content) (asked : Asked)
-    (cut : CutText V F finder) (stream : LayerStream R) (def : TableDef) (text_held between text_holds notes_held notes_hold : Option (List ℕ))
-    (text_failed notes_failed : Bool) where
+    (cut : CutText V F finder) (source : LayerSource R) (stream : LayerStream) (def : TableDef)
+    (text_held between text_holds notes_held notes_hold : Option (List ℕ)) (text_failed notes_failed : Bool) where
   abbrev behind : Sinks
   behind = record {
     text_held = between;
@@ -85,7 +87,7 @@ module _ {R V F : Type 0} {finder : Ghosts F} (remaining : R → Option (List �
   abbrev all : Sinks
   all = record behind { text_held = text_held }
 
-  tells : (rows : List LayerRow) (told : Told) → IsCutAsked content asked cut → IsStreamAsked remaining known asked stream
+  tells : (rows : List LayerRow) (told : Told) → IsCutAsked content asked cut → IsStreamAsked remaining known asked source stream
       → slice_get asked.office.schema asked.table ≡ Some def
       → Appends text_held between (header_line def)
       → Tells content cut (form_of stream).table behind rows told
@@ -104,9 +106,10 @@ module _ {R V F : Type 0} {finder : Ghosts F} (remaining : R → Option (List �
     };
   }
 
-  pub passed : (told : Told) → IsCutAsked content asked cut → IsStreamAsked remaining known asked stream → slice_get asked.office.schema asked.table ≡ Some def
+  pub passed : (told : Told) → IsCutAsked content asked cut → IsStreamAsked remaining known asked source stream
+      → slice_get asked.office.schema asked.table ≡ Some def
       → Appends text_held between (header_line def)
-      → IsWholePass remaining content stream cut behind told
+      → IsWholePass remaining content source stream cut behind told
       → HasPassed asked known all told
   passed told is_cut is_stream stands put h = (
     h.0,
@@ -116,14 +119,16 @@ module _ {R V F : Type 0} {finder : Ghosts F} (remaining : R → Option (List �
     tells h.0 told is_cut is_stream stands put h.2,
   )
 
-  pub ended : (e : PassFault) → IsCutAsked content asked cut → IsStreamAsked remaining known asked stream → slice_get asked.office.schema asked.table ≡ Some def
+  pub ended : (failed : Bool) (e : PassFault) → IsCutAsked content asked cut
+      → IsStreamAsked remaining known asked source stream
+      → slice_get asked.office.schema asked.table ≡ Some def
       → Appends text_held between (header_line def)
-      → IsPassFault remaining content stream cut behind e
-      → IsPassEnd asked known all e
-  ended of_pass.OutOfMemory is_cut is_stream stands put h = tt
-  ended of_pass.Unreadable is_cut is_stream stands put h = tt
-  ended of_pass.WriteFailed is_cut is_stream stands put h = h
-  ended (of_pass.Record number fault) is_cut is_stream stands put h = inr (record {
+      → IsPassFault remaining content source stream cut behind failed e
+      → IsPassEnd asked known all failed e
+  ended failed of_pass.OutOfMemory is_cut is_stream stands put h = tt
+  ended failed of_pass.Unreadable is_cut is_stream stands put h = h
+  ended failed of_pass.WriteFailed is_cut is_stream stands put h = h
+  ended failed (of_pass.Record number fault) is_cut is_stream stands put h = inr (record {
     at = (form_of stream).at;
     rows = h.0;
     told = h.1;
@@ -132,38 +137,32 @@ module _ {R V F : Type 0} {finder : Ghosts F} (remaining : R → Option (List �
     why = subst (λ (c : Setting ℕ). IsFaultBehind (AreBytes known) (form_with asked (form_of stream).at) c h.0 fault) is_cut.setting
         (subst (λ (form : LayerForm). IsFaultBehind (AreBytes known) form (setting_in content cut.rows.now) h.0 fault)
         (form_is (form_of stream) asked is_stream.tables is_stream.table is_stream.rounded)
-        (same_fault (λ bytes. HasRead remaining bytes [] stream) (AreBytes known) (form_of stream) (setting_in content cut.rows.now) h.0 fault
+        (same_fault (λ bytes. HasRead remaining bytes [] source stream) (AreBytes known) (form_of stream) (setting_in content cut.rows.now) h.0 fault
         is_stream.begun h.4));
   })
 
-  pub passed_if : (r : Result Told PassFault) → IfOk r (IsWholePass remaining content stream cut behind) → IsCutAsked content asked cut
-      → IsStreamAsked remaining known asked stream
+  pub passed_if : (r : Result Told PassFault) → IfOk r (IsWholePass remaining content source stream cut behind) → IsCutAsked content asked cut
+      → IsStreamAsked remaining known asked source stream
       → slice_get asked.office.schema asked.table ≡ Some def
       → Appends text_held between (header_line def)
       → IfOk r (HasPassed asked known all)
   passed_if (Ok told) h is_cut is_stream stands put = passed told is_cut is_stream stands put h
   passed_if (Err e) h is_cut is_stream stands put = tt
 
-  pub ended_if : (r : Result Told PassFault) → IfErr r (IsPassFault remaining content stream cut behind) → IsCutAsked content asked cut
-      → IsStreamAsked remaining known asked stream
+  pub ended_if : (failed : Bool) (r : Result Told PassFault) → IfErr r (IsPassFault remaining content source stream cut behind failed)
+      → IsCutAsked content asked cut
+      → IsStreamAsked remaining known asked source stream
       → slice_get asked.office.schema asked.table ≡ Some def
       → Appends text_held between (header_line def)
-      → IfErr r (IsPassEnd asked known all)
-  ended_if (Ok told) h is_cut is_stream stands put = tt
-  ended_if (Err e) h is_cut is_stream stands put = ended e is_cut is_stream stands put h
+      → IfErr r (IsPassEnd asked known all failed)
+  ended_if failed (Ok told) h is_cut is_stream stands put = tt
+  ended_if failed (Err e) h is_cut is_stream stands put = ended failed e is_cut is_stream stands put h
 
 -- the header can't be read
-pub no_header : (asked : Asked) (known text notes : Option (List ℕ)) (text_failed notes_failed : Bool) (e : StreamFault)
-    → text_failed ≡ false
-    → notes_failed ≡ false
-    → IsHeaderFault asked.office.schema asked.table known e
-    → IsPassEnd asked known
-    (record { text_held = text; text_holds = text; text_failed = text_failed; notes_held = notes; notes_hold = notes; notes_failed = notes_failed }) (pass_fault e)
-no_header asked known text notes text_failed notes_failed of_stream.OutOfMemory text_sink notes_sink h = tt
-no_header asked known text notes text_failed notes_failed of_stream.Unreadable text_sink notes_sink h = tt
-no_header asked known text notes text_failed notes_failed (of_stream.Record number fault) text_sink notes_sink h = inl (record {
-  why = fault;
-  is = refl;
-  header = h;
-  silent = (refl, refl, text_sink, notes_sink);
-})
+pub no_header : (asked : Asked) (known : Option (List ℕ)) (sinks : Sinks) (failed : Bool) (e : StreamFault)
+    → IsSilent sinks
+    → IsHeaderFault asked.office.schema asked.table known failed e
+    → IsPassEnd asked known sinks failed (pass_fault e)
+no_header asked known sinks failed of_stream.OutOfMemory silent h = tt
+no_header asked known sinks failed of_stream.Unreadable silent h = h
+no_header asked known sinks failed (of_stream.Record number fault) silent h = inl (record { why = fault; is = refl; header = h; silent = silent })

@@ -1,5 +1,5 @@
 -- What follows of tables by name, and of LIVE's finder.
-use Rattle.std.proofs.Common.{◌≡◌, ◌∙◌, ◌<◌, ℕ, Bor, List, [], ◌∷◌, Option, Some, None, get_or, refl, sym}
+use Rattle.std.proofs.Common.{◌≡◌, ◌∙◌, ℕ, Bor, List, [], ◌∷◌, Option, Some, None, get_or, refl, sym}
 use Rattle.std.specs.Prelude.{slice_get}
 use Rattle.std.specs.Option.{IsSome, option_copied}
 use Rattle.std.specs.Str.{bytes_eq}

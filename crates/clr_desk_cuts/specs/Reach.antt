@@ -1,5 +1,5 @@
 -- What is answered where a table is held against the cut of an office text.
-use Rattle.std.specs.Prelude.{◌≡◌, ◌≢◌, ◌⊎◌, ◌<◌, ◌≤◌, ℕ, List, ◌++◌, ⊤, Option, Some, None, Result, Ok, Err}
+use Rattle.std.specs.Prelude.{◌≡◌, ◌≢◌, ◌⊎◌, ◌<◌, ◌≤◌, ℕ, Bool, false, true, List, ◌++◌, ⊤, Option, Some, None, Result, Ok, Err}
 use Rattle.std.specs.Prelude.{codes, count_by, length, nat_eq, slice_get, if◌then◌else◌, ◌&&◌}
 use Rattle.std.specs.FinMap as finite
 use Rattle.std.specs.Fmt.{decimal}
@@ -81,7 +81,7 @@ HasPassed asked known sinks told = (rows : List LayerRow) × AreAllOf asked know
 pub record HasNoHeader (asked : Asked) (known : Option (List ℕ)) (sinks : Sinks) (number : ℕ) (fault : LayersFault) : Type 0 where
   pub why : LayerFault
   pub is : fault ≡ of_layer.Unread why
-  pub header : IsHeaderFault asked.office.schema asked.table known (of_stream.Record number why)
+  pub header : IsHeaderFault asked.office.schema asked.table known false (of_stream.Record number why)
   pub silent : IsSilent sinks
 
 -- the form of the table's rows, where their fields stand so
@@ -100,12 +100,12 @@ pub record HasStopped (asked : Asked) (known : Option (List ℕ)) (sinks : Sinks
 abbrev pub IsRecordFault : Asked → Option (List ℕ) → Sinks → ℕ → LayersFault → Type 0
 IsRecordFault asked known sinks number fault = HasNoHeader asked known sinks number fault ⊎ HasStopped asked known sinks number fault
 
--- why a pass ends before the stream does
-abbrev pub IsPassEnd : Asked → Option (List ℕ) → Sinks → PassFault → Type 0
-IsPassEnd asked known sinks pass_fault.OutOfMemory = ⊤
-IsPassEnd asked known sinks pass_fault.Unreadable = ⊤
-IsPassEnd asked known sinks pass_fault.WriteFailed = HasFailed sinks
-IsPassEnd asked known sinks (pass_fault.Record number fault) = IsRecordFault asked known sinks number fault
+-- why a pass ends before the stream does, by whether a read of the source has failed
+abbrev pub IsPassEnd : Asked → Option (List ℕ) → Sinks → Bool → PassFault → Type 0
+IsPassEnd asked known sinks failed pass_fault.OutOfMemory = ⊤
+IsPassEnd asked known sinks failed pass_fault.Unreadable = failed ≡ true
+IsPassEnd asked known sinks failed pass_fault.WriteFailed = HasFailed sinks
+IsPassEnd asked known sinks failed (pass_fault.Record number fault) = IsRecordFault asked known sinks number fault
 
 -- how a pass ends
 abbrev pub IsPassedEnd : Asked → Option (List ℕ) → Sinks → ReachEnd → Type 0
@@ -125,12 +125,17 @@ IsReachEnd o listed options table members known sinks end = (at : ℕ) × (table
     × AreTogether o (live_set members)
     × IsPassedEnd (record { office = o; listed = listed; options = options; members = members; table = at }) known sinks end
 
--- why there is no end: memory ran out, the source failed, or a sink did
-abbrev pub IsDeviceFault : Sinks → RunFault → Type 0
-IsDeviceFault sinks run_fault.OutOfMemory = ⊤
-IsDeviceFault sinks run_fault.ReadFailed = ⊤
-IsDeviceFault sinks run_fault.WriteFailed = HasFailed sinks
-IsDeviceFault sinks _ = ⊥
+-- why there is no end: memory ran out, a read of the source failed, or a sink did
+abbrev pub IsDeviceFault : Sinks → Bool → RunFault → Type 0
+IsDeviceFault sinks failed run_fault.OutOfMemory = ⊤
+IsDeviceFault sinks failed run_fault.ReadFailed = failed ≡ true
+IsDeviceFault sinks failed run_fault.WriteFailed = HasFailed sinks
+IsDeviceFault sinks failed _ = ⊥
+
+-- whether the answer is that a read of the source failed
+abbrev pub is_read_failed : {X : Type 0} → Result X RunFault → Bool
+is_read_failed (Err run_fault.ReadFailed) = true
+is_read_failed _ = false
 
 -- how many rows were read, printed, found otherwise, and how many of them the cut has, of how many
 abbrev pub passed_line : Told → ℕ → List ℕ
@@ -170,11 +175,11 @@ pub record IsReachOf (o : Office) (listed : Differences) (options : ReachOptions
   pub status_is : status ≡ end_status end
 
 -- what is answered of an office text and of a table that is read
-abbrev pub IsReachAnswer : List ℕ → ReachOptions → Name → List Name → Option (List ℕ) → Sinks → Result ℕ RunFault → Type 0
-IsReachAnswer text options table names known sinks (Ok status) = (length text ≤ MOST_INPUT_BYTES) × (o : Office) × (draft_in text ≡ Ok o)
+abbrev pub IsReachAnswer : List ℕ → ReachOptions → Name → List Name → Option (List ℕ) → Sinks → Bool → Result ℕ RunFault → Type 0
+IsReachAnswer text options table names known sinks failed (Ok status) = (length text ≤ MOST_INPUT_BYTES) × (o : Office) × (draft_in text ≡ Ok o)
     × (listed : Differences)
     × AreListedIn text listed
     × IsReachOf o listed options table (members_or_children o live_name names) known sinks status
-IsReachAnswer text options table names known sinks (Err run_fault.TooLong) = (MOST_INPUT_BYTES < length text) × IsSilent sinks
-IsReachAnswer text options table names known sinks (Err (run_fault.BadOffice fault)) = (draft_in text ≡ Err fault) × IsSilent sinks
-IsReachAnswer text options table names known sinks (Err e) = IsDeviceFault sinks e
+IsReachAnswer text options table names known sinks failed (Err run_fault.TooLong) = (MOST_INPUT_BYTES < length text) × IsSilent sinks
+IsReachAnswer text options table names known sinks failed (Err (run_fault.BadOffice fault)) = (draft_in text ≡ Err fault) × IsSilent sinks
+IsReachAnswer text options table names known sinks failed (Err e) = IsDeviceFault sinks failed e

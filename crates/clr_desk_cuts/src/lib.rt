@@ -2,7 +2,8 @@
 //!
 //! - `answer_reach`: reads a table one record at a time, writes the rows that the cut lacks, and says how many rows it
 //!   read and printed. Where the source tells its bytes, the pass was over all rows of the table, and what is written
-//!   is just the layer of the rows that the cut lacks (`IsReachAnswer`).
+//!   is just the layer of the rows that the cut lacks (`IsReachAnswer`). It answers that a read failed exactly where one
+//!   of its source did [`source`].
 #![tactic(auto)]
 
 mod ends;
@@ -14,6 +15,7 @@ mod options;
 mod passing;
 mod reach;
 
+pub use clr_layer_streams::LayerSource;
 pub use clr_reach::Aim;
 pub use ends::ReachEnd;
 pub use options::ReachOptions;

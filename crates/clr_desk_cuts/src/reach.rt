@@ -3,11 +3,13 @@
 ghost use Rattle.std.specs.Prelude.{◌≡◌, ◌≢◌, false, map, Some, IfErr, IfOk, slice_get};
 ghost use Rattle.clr_clearance.specs.declared.verdicts.Verdict.TheVariants as verdict;
 ghost use Rattle.clr_clearance.specs.MergeSets.{change_sets};
+ghost use Rattle.clr_layer_streams.specs.Sources.{IsUnread, bytes_of, is_failed};
+ghost use Rattle.clr_cut_streams.specs.Sinks.{sinks_between};
 ghost use Rattle.clr_process_io.specs.declared.faults.RunFault.TheVariants as run_fault;
 ghost use Rattle.clr_desk_cuts.specs.declared.ends.ReachEnd.TheVariants as reach_end;
 ghost use Rattle.clr_desk_cuts.specs.Inquiries.{asked_by};
 ghost use Rattle.clr_desk_cuts.specs.Members.{AreTogether, live_set};
-ghost use Rattle.clr_desk_cuts.specs.Reach.{IsDeviceFault, IsPassedEnd, IsReachAnswer, IsReachEnd};
+ghost use Rattle.clr_desk_cuts.specs.Reach.{IsDeviceFault, IsPassedEnd, IsReachAnswer, IsReachEnd, is_read_failed};
 
 use crate::ends::ReachEnd;
 use crate::inquiries::{Inquiry, rows_of_table, table_of};
@@ -18,6 +20,7 @@ use crate::passing::pass;
 use clr_asked_members::members_asked;
 use clr_clearance::Verdict;
 use clr_cut_streams::PassFault;
+use clr_layer_streams::LayerSource;
 use clr_merge_sets::{read_changes, texts_of_names};
 use clr_process_io::{MOST_INPUT_BYTES, RunFault};
 use clr_rows::{LIVE, Words};
@@ -26,34 +29,24 @@ use std::alloc::Global;
 use std::io::Read;
 
 /// Goes over the rows of the table, and returns how that ends.
-fn pass_end<R: Read + Drop, W: Sink, N: Sink>(
+fn pass_end<R: Read, W: Sink, N: Sink>(
     alloc: Global,
     inquiry: &Inquiry<'_>,
-    source: R,
+    source: &mut LayerSource<R>,
     writer: &mut W,
     notes: &mut N,
 ) -> Result<ReachEnd, RunFault>
     requires changes { inquiry.now.changes.now ≡ change_sets inquiry.now.opened.now.office (live_set (map (λ name. name.now) inquiry.now.names.now)) }
     requires together { AreTogether inquiry.now.opened.now.office (live_set (map (λ name. name.now) inquiry.now.names.now)) }
     requires stands { slice_get inquiry.now.opened.now.office.schema inquiry.now.table ≡ Some inquiry.now.def.now }
+    requires unread { IsUnread R.remaining source.old }
     requires writer { W.failed writer.old ≡ false }
     requires notes { N.failed notes.old ≡ false }
-    ensures end { IfOk result (IsPassedEnd (asked_by inquiry.now) (R.remaining source) (record {
-      text_held = W.contents writer.old;
-      text_holds = W.contents writer.new;
-      text_failed = W.failed writer.new;
-      notes_held = N.contents notes.old;
-      notes_hold = N.contents notes.new;
-      notes_failed = N.failed notes.new;
-    })) }
-    ensures fault { IfErr result (IsDeviceFault (record {
-      text_held = W.contents writer.old;
-      text_holds = W.contents writer.new;
-      text_failed = W.failed writer.new;
-      notes_held = N.contents notes.old;
-      notes_hold = N.contents notes.new;
-      notes_failed = N.failed notes.new;
-    })) }
+    ensures end { IfOk result (IsPassedEnd (asked_by inquiry.now) (bytes_of R.remaining source.old)
+        (sinks_between W.contents W.failed N.contents N.failed writer.old writer.new notes.old notes.new)) }
+    ensures source { is_failed source.new ≡ is_read_failed result }
+    ensures fault { IfErr result (IsDeviceFault
+        (sinks_between W.contents W.failed N.contents N.failed writer.old writer.new notes.old notes.new) (is_failed source.new)) }
 {
     match pass(alloc, inquiry, source, writer, notes) {
         Ok(told) => {
@@ -79,35 +72,26 @@ fn unfit_end(fault: Verdict) -> Result<ReachEnd, RunFault>
 }
 
 /// Holds a table against a cut, for designs of the cut, and returns how that ends.
-fn reach_end<R: Read + Drop, W: Sink, N: Sink>(
+#[tactic(auto, using(crate::proofs::AnswerLemmas::unless_lost))]
+fn reach_end<R: Read, W: Sink, N: Sink>(
     alloc: Global,
     opened: &OpenedCut,
     options: ReachOptions,
     table: &str,
     names: &[&str],
-    source: R,
+    source: &mut LayerSource<R>,
     writer: &mut W,
     notes: &mut N,
 ) -> Result<ReachEnd, RunFault>
+    requires unread { IsUnread R.remaining source.old }
     requires writer { W.failed writer.old ≡ false }
     requires notes { N.failed notes.old ≡ false }
     ensures end { IfOk result (IsReachEnd opened.now.office opened.now.listed options table.now (map (λ name. name.now) names.now)
-        (R.remaining source) (record {
-          text_held = W.contents writer.old;
-          text_holds = W.contents writer.new;
-          text_failed = W.failed writer.new;
-          notes_held = N.contents notes.old;
-          notes_hold = N.contents notes.new;
-          notes_failed = N.failed notes.new;
-        })) }
-    ensures fault { IfErr result (IsDeviceFault (record {
-      text_held = W.contents writer.old;
-      text_holds = W.contents writer.new;
-      text_failed = W.failed writer.new;
-      notes_held = N.contents notes.old;
-      notes_hold = N.contents notes.new;
-      notes_failed = N.failed notes.new;
-    })) }
+        (bytes_of R.remaining source.old)
+        (sinks_between W.contents W.failed N.contents N.failed writer.old writer.new notes.old notes.new)) }
+    ensures source { is_failed source.new ≡ is_read_failed result }
+    ensures fault { IfErr result (IsDeviceFault
+        (sinks_between W.contents W.failed N.contents N.failed writer.old writer.new notes.old notes.new) (is_failed source.new)) }
 {
     let office = &opened.office;
     let Some((at, def)) = table_of(office.schema(), table) else {
@@ -138,29 +122,25 @@ fn reach_end<R: Read + Drop, W: Sink, N: Sink>(
 /// Returns the exit status: 0 where no row was printed and none is otherwise; 1 where one is, or where the designs
 /// can't be merged together; 2 where a record has a fault, and then a part of the rows may have been written; 5 where
 /// no table has the name, or no workspace one of the names. Fails with `TooLong` where the text has more than
-/// `MOST_INPUT_BYTES`, with `BadOffice` where it is no office, with `ReadFailed` where the source fails, with
-/// `WriteFailed` where a sink does, and with `OutOfMemory` for want of memory, which may come in place of any other
-/// answer.
-pub fn answer_reach<R: Read + Drop, W: Sink, N: Sink>(
+/// `MOST_INPUT_BYTES`, with `BadOffice` where it is no office, with `ReadFailed` where a read of the source fails, and
+/// only there, with `WriteFailed` where a sink fails, and with `OutOfMemory` for want of memory, which may come in place of
+/// any other answer.
+pub fn answer_reach<R: Read, W: Sink, N: Sink>(
     alloc: Global,
     options: ReachOptions,
     office: &[u8],
     table: &str,
     names: &[Words],
-    source: R,
+    source: &mut LayerSource<R>,
     writer: &mut W,
     notes: &mut N,
 ) -> Result<u8, RunFault>
+    requires unread { IsUnread R.remaining source.old }
     requires writer { W.failed writer.old ≡ false }
     requires notes { N.failed notes.old ≡ false }
-    ensures { IsReachAnswer office.now options table.now names.now (R.remaining source) (record {
-      text_held = W.contents writer.old;
-      text_holds = W.contents writer.new;
-      text_failed = W.failed writer.new;
-      notes_held = N.contents notes.old;
-      notes_hold = N.contents notes.new;
-      notes_failed = N.failed notes.new;
-    }) result }
+    ensures answer { IsReachAnswer office.now options table.now names.now (bytes_of R.remaining source.old)
+        (sinks_between W.contents W.failed N.contents N.failed writer.old writer.new notes.old notes.new) (is_failed source.new) result }
+    ensures source { is_failed source.new ≡ is_read_failed result }
 {
     if office.len() > MOST_INPUT_BYTES {
         return Err(RunFault::TooLong);

@@ -3,13 +3,12 @@ use Rattle.std.proofs.Common.{◌≡◌, ◌∙◌, ◌∷◌, ◌++◌, ◌+◌
 use Rattle.std.proofs.Common.{ap, append-nil, append_assoc, arith, refl, subst, sym}
 use Rattle.std.proofs.lemmas.List.{take_all, take_more}
 use Rattle.clr_rows.specs.Contents.{Content}
-use Rattle.clr_rows.specs.declared.tables.TableDef.{TableDef}
 use Rattle.clr_steps.specs.Offices.{Office}
 use Rattle.clr_layer_changes.specs.declared.options.LayerOptions.{LayerOptions}
 use Rattle.clr_designs.specs.Designs.{with_design}
 use Rattle.clr_desk_prints.specs.Printing.{PrintoutOrFault}
 use Rattle.clr_desk_designs.specs.InTurn.{AreMade, IsFirstRefused, IsMakeable, IsRefusal, counts_text, with_name}
-use Rattle.clr_desk_designs.specs.declared.layered_designs.LayeredDesign.{LayeredDesign}
+use Rattle.clr_design_folders.specs.declared.layered_designs.LayeredDesign.{LayeredDesign}
 
 -- the element at a number
 there : {A : Type 0} (xs : List A) (n : ℕ) (x : A) → n < length xs → x ≡ get_or xs n x → slice_get xs n ≡ Some x

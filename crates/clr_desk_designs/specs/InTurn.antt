@@ -18,7 +18,7 @@ use Rattle.clr_desk_layers.specs.Designs.{IsOfficeText, faulty_layer_printout, r
 use Rattle.clr_desk_layers.specs.Layers.{unfit_print}
 use Rattle.clr_desk_layers.specs.Since.{IsFirstOther, other_schema_word}
 use Rattle.clr_desk_prints.specs.Printing.{PrintoutOrFault, printout_of}
-use Rattle.clr_desk_designs.specs.declared.layered_designs.LayeredDesign.{LayeredDesign}
+use Rattle.clr_design_folders.specs.declared.layered_designs.LayeredDesign.{LayeredDesign}
 
 -- lines about a design, with its name in front
 abbrev pub named_text : Name → List ℕ → List ℕ

@@ -15,7 +15,7 @@ use Rattle.clr_desk_layers.specs.Counted.{removal_in, removal_print}
 use Rattle.clr_desk_layers.specs.Designs.{refusal_print}
 use Rattle.clr_desk_prints.specs.Printing.{PrintoutOrFault, printed}
 use Rattle.clr_desk_designs.specs.InTurn.{AreMade, IsFirstRefused, IsMakeable, IsRefusal, counts_text, named_text}
-use Rattle.clr_desk_designs.specs.declared.layered_designs.LayeredDesign.{LayeredDesign}
+use Rattle.clr_design_folders.specs.declared.layered_designs.LayeredDesign.{LayeredDesign}
 use Rattle.clr_desk_designs.specs.declared.made_designs.MadeDesigns.{MadeDesigns}
 use Rattle.clr_desk_designs.specs.declared.made_designs.MadeDesigns.TheVariants.{Made, Refused}
 
@@ -26,19 +26,19 @@ pub data IsContentRefusal (may_remove : Bool) (o : Office) (name : Name) (conten
   by_reply : (reply : Reply) → removal_in may_remove (edits_between o.live content) ≡ None → design_refusal o name ≡ Some reply
       → print ≡ refusal_print o.schema reply → IsContentRefusal may_remove o name content print
 
--- the design that has a content is made, with its counts as a note; or it can't be made
+-- the design that has a content is made, with its counts as a note; or it can't be made, and the office is as it was
 abbrev pub IsContentMade : Bool → Office → Name → Content → MadeDesigns → Office → Type 0
 IsContentMade may_remove o name content (Made notes) left =
     (removal_in may_remove (edits_between o.live content) ≡ None) × (design_refusal o name ≡ None) × (left ≡ with_design o name content)
     × (notes.items ≡ named_text name (edit_counts_text (edits_between o.live content)))
-IsContentMade may_remove o name content (Refused print) left = IsContentRefusal may_remove o name content (printed print)
+IsContentMade may_remove o name content (Refused print) left = IsContentRefusal may_remove o name content (printed print) × (left ≡ o)
 
--- a design of layers is made, with its counts as a note; or it can't be made
+-- a design of layers is made, with its counts as a note; or it can't be made, and the office is as it was
 abbrev pub IsDesignMade : Content → LayerOptions → Bool → Office → LayeredDesign → MadeDesigns → Office → Type 0
 IsDesignMade taken options may_remove o design (Made notes) left =
     (content : Content) × IsMakeable taken options may_remove o design content × (left ≡ with_design o design.name content)
     × (notes.items ≡ counts_text o design content)
-IsDesignMade taken options may_remove o design (Refused print) left = IsRefusal taken options may_remove o design (printed print)
+IsDesignMade taken options may_remove o design (Refused print) left = IsRefusal taken options may_remove o design (printed print) × (left ≡ o)
 
 -- all designs are made, with their counts as notes; or the first that can't be made is refused
 abbrev pub AreAllMade : Content → LayerOptions → Bool → Office → List LayeredDesign → MadeDesigns → Office → Type 0

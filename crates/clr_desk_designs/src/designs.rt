@@ -7,7 +7,7 @@ ghost use Rattle.clr_desk_errors.specs.Accepting.{IsPrintoutOfDraft};
 ghost use Rattle.clr_desk_prints.specs.Printing.{IsMadePrintout, IsPrintoutIn};
 
 use crate::designs_prints::{designs_print, designs_since_print};
-use crate::layered_designs::LayeredDesign;
+use clr_design_folders::LayeredDesign;
 use clr_desk_prints::{Print, RunFault, notes_of};
 use clr_engine::Office;
 use clr_layer_changes::LayerOptions;

@@ -9,9 +9,9 @@ ghost use Rattle.clr_desk_designs.specs.InTurn.{IsDesignsPrint, IsDesignsSince, 
 ghost use Rattle.clr_desk_prints.specs.Printing.{printed};
 
 use crate::in_turn::make_in_turn;
-use crate::layered_designs::LayeredDesign;
 use crate::made_designs::MadeDesigns;
 use crate::moved_offices::office_with_live;
+use clr_design_folders::LayeredDesign;
 use clr_desk_layers::{first_other, other_schema};
 use clr_desk_prints::Print;
 use clr_engine::{Draft, Office};

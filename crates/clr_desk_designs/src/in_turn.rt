@@ -1,46 +1,48 @@
 //! Designs of layers that are made in an opened office, one after another.
 
-ghost use Rattle.std.specs.Prelude.{IfOk};
+ghost use Rattle.std.specs.Prelude.{◌≡◌, IfOk};
+ghost use Rattle.clr_rows.specs.Contents.{Content};
 ghost use Rattle.clr_rows.specs.Schemas.{FitsSchema};
+ghost use Rattle.clr_layer_changes.specs.Changes.{edits_between};
 ghost use Rattle.clr_desk_designs.specs.Made.{AreAllMade, IsContentMade, IsDesignMade};
 
 use crate::design_names::{named_print, named_text};
-use crate::layered_designs::LayeredDesign;
 use crate::made_designs::MadeDesigns;
-use clr_designs::{edit_counts_line, make_design};
+use clr_change::Edits;
+use clr_design_folders::LayeredDesign;
+use clr_designs::{edit_counts_line, make_edited_design};
 use clr_desk_layers::{print_of_fault, print_of_refusal, removal, removal_in};
 use clr_engine::Office;
-use clr_layer_changes::{LayerOptions, edits_between, wanted_content};
+use clr_layer_changes::{LayerOptions, wanted_edits};
 use clr_rows::Sheet;
 use std::alloc::{AllocError, Global};
 
-/// Makes the design that has a content, and returns how much it changes, or why it can't be made.
-fn make_content(
+/// Makes the design to whose content edits lead, and returns how much it changes, or why it can't be made; then the office is as it was.
+fn make_edited(
     alloc: Global,
     office: &mut Office,
     may_remove: bool,
     name: &str,
-    content: &Sheet,
+    edits: Edits,
 ) -> Result<MadeDesigns, AllocError>
-    requires { FitsSchema office.old.schema content.now }
-    ensures { IfOk result (λ made. IsContentMade may_remove office.old name.now content.now made office.new) }
+    requires { (content : Content) × FitsSchema office.old.schema content × (edits ≡ edits_between office.old.live content) }
+    ensures { IfOk result (λ made. (content : Content) → FitsSchema office.old.schema content → edits ≡ edits_between office.old.live content
+        → IsContentMade may_remove office.old name.now content made office.new) }
 {
-    let edits = edits_between(alloc, office.live(), content)?;
-    let edits = edits.as_slice();
-    if let Some(cell) = removal_in(may_remove, edits) {
+    if let Some(cell) = removal_in(may_remove, edits.as_slice()) {
         let print = removal(alloc, office.schema(), cell)?;
         return Ok(MadeDesigns::Refused(print));
     }
-    let line = edit_counts_line(alloc, edits)?;
+    let line = edit_counts_line(alloc, edits.as_slice())?;
     let note = named_text(alloc, name, line.as_slice())?;
-    if let Some(reply) = make_design(alloc, office, name, content)? {
+    if let Some(reply) = make_edited_design(alloc, office, name, edits)? {
         let print = print_of_refusal(alloc, office.schema(), &reply)?;
         return Ok(MadeDesigns::Refused(print));
     }
     Ok(MadeDesigns::Made(note))
 }
 
-/// Makes a design of layers, and returns how much it changes, or why it can't be made.
+/// Makes a design of layers, and returns how much it changes, or why it can't be made; then the office is as it was.
 fn make_layered(
     alloc: Global,
     office: &mut Office,
@@ -54,8 +56,8 @@ fn make_layered(
     let name = design.name.as_str();
     let layers = design.layers.as_slice();
     let live = office.live();
-    match wanted_content(alloc, office.schema(), live, taken, options, layers)? {
-        Ok(content) => make_content(alloc, office, may_remove, name, &content),
+    match wanted_edits(alloc, office.schema(), live, taken, options, layers)? {
+        Ok(edits) => make_edited(alloc, office, may_remove, name, edits),
         Err(faulty) => {
             let print = print_of_fault(alloc, layers, &faulty)?;
             Ok(MadeDesigns::Refused(print))

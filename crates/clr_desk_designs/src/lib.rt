@@ -15,12 +15,11 @@ mod design_names;
 mod designs;
 mod designs_prints;
 mod in_turn;
-mod layered_designs;
 mod made_designs;
 mod moved_offices;
 mod positions;
 
 pub use again::{answer_design_again, answer_design_anew};
+pub use clr_design_folders::LayeredDesign;
 pub use clr_layer_changes::{GivenLayer, LayerOptions};
 pub use designs::{answer_designs, answer_designs_since};
-pub use layered_designs::LayeredDesign;

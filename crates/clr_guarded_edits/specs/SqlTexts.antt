@@ -18,7 +18,7 @@ use Rattle.clr_sql.specs.declared.targets.Dialect.TheVariants.{PostGis, SpatiaLi
 use Rattle.clr_sql.specs.declared.targets.Target.{Target}
 use Rattle.clr_sql.specs.Conditions.{key_condition, row_condition}
 use Rattle.clr_sql.specs.Quoting.{quoted_name}
-use Rattle.clr_sql.specs.Relations.{column_name, layer_query}
+use Rattle.clr_sql.specs.Relations.{column_name, layer_query, titled_query}
 use Rattle.clr_sql.specs.Shapes.{geometry_text}
 use Rattle.clr_sql.specs.Values.{value_text}
 use Rattle.clr_guarded_edits.specs.Statements.{Statement, Pass, Demand, Make, statements_between}
@@ -36,8 +36,8 @@ psql_pass target table = codes "\\copy (" ++ layer_query target table ++ codes "
 -- sqlite3 leads the table through the filter, whose status is counted as a row is: 1 where it is 0
 unfoldable pub sqlite_pass : Target → TableDef → List ℕ
 sqlite_pass target table =
-    codes ".system rm -f clr_passed.sql\n.headers on\n.mode csv\n.once '|" ++ filter_text table.name
-    ++ codes "; echo \"INSERT INTO clr_row_count VALUES (NULL, 1 - $?);\" > clr_passed.sql'\n" ++ layer_query target table ++ codes ";\n.read clr_passed.sql\n"
+    codes ".system rm -f clr_passed.sql\n.headers off\n.mode csv\n.once '|" ++ filter_text table.name
+    ++ codes "; echo \"INSERT INTO clr_row_count VALUES (NULL, 1 - $?);\" > clr_passed.sql'\n" ++ titled_query target table ++ codes ";\n.read clr_passed.sql\n"
 
 abbrev pub pass_by : Dialect → Target → TableDef → List ℕ
 pass_by PostGis target table = psql_pass target table

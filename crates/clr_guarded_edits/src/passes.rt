@@ -5,7 +5,7 @@ ghost use Rattle.std.specs.List.{flat_map};
 ghost use Rattle.clr_guarded_edits.specs.SqlTexts.{filter_text, pass_text, psql_pass, sqlite_pass};
 
 use clr_rows::TableDef;
-use clr_sql::{Dialect, Target, add_layer_query};
+use clr_sql::{Dialect, Target, add_layer_query, add_titled_query};
 use std::alloc::AllocError;
 
 /// Adds the filter that a table of this name is led through.
@@ -30,12 +30,12 @@ fn add_psql_pass(text: &mut Vec<u8>, target: &Target, table: &TableDef) -> Resul
 fn add_sqlite_pass(text: &mut Vec<u8>, target: &Target, table: &TableDef) -> Result<(), AllocError>
     ensures { OnOk result (text.new.items ≡ text.old.items ++ sqlite_pass target.now table.now) }
 {
-    text.extend_from_slice(b".system rm -f clr_passed.sql\n.headers on\n.mode csv\n.once '|")?;
+    text.extend_from_slice(b".system rm -f clr_passed.sql\n.headers off\n.mode csv\n.once '|")?;
     add_filter(text, table.name.as_str())?;
     text.extend_from_slice(
         b"; echo \"INSERT INTO clr_row_count VALUES (NULL, 1 - $?);\" > clr_passed.sql'\n",
     )?;
-    add_layer_query(text, target, table)?;
+    add_titled_query(text, target, table)?;
     text.extend_from_slice(b";\n.read clr_passed.sql\n")
 }
 

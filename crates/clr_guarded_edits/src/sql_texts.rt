@@ -50,7 +50,8 @@ fn add_beginning(
     match dialect {
         Dialect::PostGis => {
             text.extend_from_slice(
-                b"\\set ON_ERROR_STOP on\nBEGIN ISOLATION LEVEL REPEATABLE READ;\nSET LOCAL standard_conforming_strings = on;\nSET LOCAL client_encoding = 'UTF8';\n",
+                b"\\set ON_ERROR_STOP on\nBEGIN ISOLATION LEVEL REPEATABLE READ;\n\
+                  SET LOCAL standard_conforming_strings = on;\nSET LOCAL client_encoding = 'UTF8';\n",
             )?;
             add_locks(text, tables)
         }

@@ -123,7 +123,7 @@ module _ (tables : List TableDef) (live : Content) (options : LayerOptions) wher
 
 -- one content in place of another ---------------------------------------------------------------
 
-over_both : (content : Content) (es fs : List (CellId × Option Row)) → over content (es ++ fs) ≡ over (over content es) fs
+pub over_both : (content : Content) (es fs : List (CellId × Option Row)) → over content (es ++ fs) ≡ over (over content es) fs
 unfolding over
 over_both content [] fs = refl
 over_both content (e ∷ es) fs = over_both (set_cell content e.0 e.1) es fs

@@ -1,6 +1,7 @@
 //! The edits that lead from one content to another.
 
-ghost use Rattle.std.specs.Prelude.{◌≡◌, IfOk};
+ghost use Rattle.std.specs.Prelude.{◌≡◌, map, IfOk};
+ghost use Rattle.std.specs.FinMap as finite;
 ghost use Rattle.clr_change.specs.Edits.{after_edits};
 ghost use Rattle.clr_layer_changes.specs.Changes.{edit_of, edits_between};
 
@@ -19,6 +20,17 @@ fn edit_of(cell: CellId, change: &Change) -> Result<Edit, AllocError>
     }
 }
 
+/// Returns the edits that make changes, in the order of cells.
+pub(crate) fn edits_of(alloc: Global, changes: &ChangeSet) -> Result<Edits, AllocError>
+    ensures { IfOk result (λ edits. edits ≡ map edit_of (finite.entries changes.now)) }
+{
+    let mut edits = Vec::new(alloc);
+    for (cell, change) in changes.iter() {
+        edits.push(edit_of(*cell, change)?)?;
+    }
+    Ok(Edits::new(edits))
+}
+
 /// Returns the edits that lead from one content to another: one for each cell at which they differ, in the order of cells. Where they don't
 /// differ there is none.
 pub fn edits_between(alloc: Global, base: &Sheet, current: &Sheet) -> Result<Edits, AllocError>
@@ -26,9 +38,5 @@ pub fn edits_between(alloc: Global, base: &Sheet, current: &Sheet) -> Result<Edi
     ensures leads { IfOk result (λ edits. after_edits base.now edits ≡ current.now) }
 {
     let changes = ChangeSet::between(alloc, base, current)?;
-    let mut edits = Vec::new(alloc);
-    for (cell, change) in changes.iter() {
-        edits.push(edit_of(*cell, change)?)?;
-    }
-    Ok(Edits::new(edits))
+    edits_of(alloc, &changes)
 }

@@ -14,7 +14,7 @@ use clr_rows::{CellId, Row, Schema, Sheet};
 use std::alloc::{AllocError, Global};
 
 /// Returns, for each cell of a table that has a row, the change that leaves no row there.
-fn without_rows(
+pub(crate) fn without_rows(
     alloc: Global,
     content: &Sheet,
     table: u16,
@@ -31,7 +31,10 @@ fn without_rows(
 }
 
 /// Adds the rows of a sheet behind others.
-fn add_rows(cells: &mut Vec<(CellId, Option<Row>)>, rows: &Sheet) -> Result<(), AllocError>
+pub(crate) fn add_rows(
+    cells: &mut Vec<(CellId, Option<Row>)>,
+    rows: &Sheet,
+) -> Result<(), AllocError>
     ensures { OnOk result (cells.new.items ≡ cells.old.items ++ with_rows (finite.entries rows.now)) }
 {
     for (cell, row) in rows.iter() {
@@ -59,7 +62,7 @@ fn is_given(layers: &[GivenLayer], name: &str) -> bool
 
 /// Returns the number of a layer's table. Fails with `TableTwice` at 0 where a layer before it has the same table, and with `NoTable` at 0
 /// where no table has the name.
-fn table_of(
+pub(crate) fn table_of(
     schema: &Schema,
     earlier: &[GivenLayer],
     layer: &GivenLayer,

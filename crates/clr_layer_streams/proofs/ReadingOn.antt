@@ -1,27 +1,21 @@
 -- One record more is read of a layer, or there is none.
-use Rattle.std.proofs.Common.{◌≡◌, ◌∙◌, ◌+◌, ℕ, Bool, List, [], ◌∷◌, ◌++◌, Option, Some, None, Result, Ok, Err, true, false, length, min, inr, refl, sym}
-use Rattle.std.proofs.Common.{ap, append-nil, arith, length-append, subst}
-use Rattle.std.specs.Bool.{OnFalse}
-use Rattle.std.specs.Prelude.{option_map, slice_get, if◌then◌else◌}
+use Rattle.std.proofs.Common.{◌≡◌, ◌∙◌, ◌+◌, ℕ, List, [], ◌∷◌, ◌++◌, Option, Some, None, Result, Ok, Err, true, false, length, min, refl}
+use Rattle.std.proofs.Common.{ap, append-nil, arith, length-append}
 use Rattle.csv.specs.Machine.{Read, next_record}
 use Rattle.csv.specs.Reading.{NextIs, ReadRecord, Reached, ReadsNext, TookRecord, default_config, pending_of, records, strip_bom}
 use Rattle.csv.specs.declared.parser.State.{State}
 use Rattle.csv.specs.declared.parser.State.TheVariants as st
 use Rattle.csv.proofs.ReadFacts.{reached-more, rows-end, rows-more}
-use Rattle.clr_readings.specs.Readings.{◌>>=◌, Fails}
-use Rattle.clr_rows.specs.declared.tables.TableDef.{TableDef}
+use Rattle.clr_readings.specs.Readings.{◌>>=◌}
 use Rattle.clr_records.specs.Records.{at_record, in_turn}
 use Rattle.clr_records.proofs.RecordTurns.{all_read}
-use Rattle.clr_layer_text.specs.declared.faults.LayerFault.{LayerFault}
 use Rattle.clr_layer_text.specs.declared.rows.LayerRow.{LayerRow}
-use Rattle.clr_layer_text.specs.Faults.{layer_lacks_memory}
 use Rattle.clr_layer_text.specs.Headings.{seen_headings}
-use Rattle.clr_layer_text.specs.Layers.{fields_of_table, row_of}
-use Rattle.clr_layer_streams.specs.declared.faults.StreamFault.{StreamFault}
-use Rattle.clr_layer_streams.specs.declared.faults.StreamFault.TheVariants.{OutOfMemory, Record}
+use Rattle.clr_layer_text.specs.Layers.{row_of}
+use Rattle.clr_layer_streams.specs.declared.sources.LayerSource.{LayerSource}
 use Rattle.clr_layer_streams.specs.declared.streams.LayerStream.{LayerStream}
-use Rattle.clr_layer_streams.specs.Faults.{record_fault}
-use Rattle.clr_layer_streams.specs.Streams.{AreAllRows, AreFirstRows, BeginsWith, HasRead, IsFaultOfFirst, IsHeaderFault, form_of, greatest, number_behind}
+use Rattle.clr_layer_streams.specs.Sources.{below}
+use Rattle.clr_layer_streams.specs.Streams.{AreAllRows, AreFirstRows, BeginsWith, HasRead, form_of, greatest, number_behind}
 
 -- items read in turn, and one more
 in_turn_more : {X A E : Type 0} (f : ℕ → X → Result A E) (n : ℕ) (xs : List X) (x : X) (found : List A) (a : A) → in_turn f n xs ≡ Ok found
@@ -59,79 +53,56 @@ begins_more bytes left s s2 list fields (Some rest) reached reads = by (next_rec
     by None is next = absurd cc
     by (Some p) is next = (p.1, p.2, rw next.1 (reached-more default_config st.StartRecord s (strip_bom bytes) left list p reached is))
 
-module _ {R : Type 0} (remaining : R → Option (List ℕ)) (bytes : List ℕ) (rows : List LayerRow) (old new : LayerStream R)
-    (so_far : HasRead remaining bytes rows old) (config : old.reader.config ≡ default_config) where
-  pub one_more : (fields : List (List ℕ)) (r : LayerRow) → ReadRecord remaining old.reader new.reader true fields
+module _ {R : Type 0} (remaining : R → Option (List ℕ)) (bytes : List ℕ) (rows : List LayerRow) (from to : LayerSource R) (old new : LayerStream)
+    (so_far : HasRead remaining bytes rows from old) (config : from.reader.config ≡ default_config) where
+  pub one_more : (fields : List (List ℕ)) (r : LayerRow) → ReadRecord (below remaining) from.reader to.reader true fields
       → new.schema.now ≡ old.schema.now → new.table ≡ old.table → new.rounded ≡ old.rounded → new.headings ≡ old.headings
       → new.number ≡ number_behind old.number
-      → row_of old.schema.now old.table old.rounded (seen_headings old.headings) fields ≡ Ok r → HasRead remaining bytes (rows ++ r ∷ []) new
+      → row_of old.schema.now old.table old.rounded (seen_headings old.headings) fields ≡ Ok r → HasRead remaining bytes (rows ++ r ∷ []) to new
   one_more fields r reads schema table rounded headings number is =
-      let m = rows-more remaining old.reader new.reader fields default_config st.StartRecord (strip_bom bytes) so_far.left (so_far.names ∷ so_far.others)
-      config so_far.source so_far.reached reads in
+      let m = rows-more (below remaining) from.reader to.reader fields default_config st.StartRecord (strip_bom bytes) so_far.left
+      (so_far.names ∷ so_far.others) config so_far.unread so_far.reached reads in
       record {
         names = so_far.names;
         others = so_far.others ++ fields ∷ [];
         left = m.0;
         reached = m.2;
-        source = m.1;
+        unread = m.1;
         headings = rw (schema, table, headings) so_far.headings;
         read = rw (schema, table, rounded, headings) (in_turn_more _ 2 so_far.others fields rows r so_far.read (λ m. ap (at_record m) is));
         number = number ∙ ap number_behind so_far.number ∙ number_more rows r;
       }
 
-  pub all_rows : (fields : List (List ℕ)) → ReadRecord remaining old.reader new.reader false fields → AreAllRows (form_of old) bytes rows
+  pub all_rows : (fields : List (List ℕ)) → ReadRecord (below remaining) from.reader to.reader false fields → AreAllRows (form_of old) bytes rows
   all_rows fields reads =
       let read : records default_config (strip_bom bytes) ≡ so_far.names ∷ so_far.others = all_read default_config (strip_bom bytes) _ (
-        old.reader.state,
+        from.reader.state,
         so_far.left,
         so_far.reached,
-        rows-end remaining old.reader new.reader fields default_config so_far.left config so_far.source reads,
+        rows-end (below remaining) from.reader to.reader fields default_config so_far.left config so_far.unread reads,
       ) in
       rw (read, so_far.headings) so_far.read
 
 -- what was read so far is what a text begins with
-pub read_first : {R : Type 0} (remaining : R → Option (List ℕ)) (bytes : List ℕ) (rows : List LayerRow) (stream : LayerStream R)
-    → HasRead remaining bytes rows stream → AreFirstRows (form_of stream) bytes rows []
-read_first remaining bytes rows stream so_far = record {
+pub read_first : {R : Type 0} (remaining : R → Option (List ℕ)) (bytes : List ℕ) (rows : List LayerRow) (source : LayerSource R) (stream : LayerStream)
+    → HasRead remaining bytes rows source stream → AreFirstRows (form_of stream) bytes rows []
+read_first remaining bytes rows source stream so_far = record {
   names = so_far.names;
   others = so_far.others;
-  begins = rw append-nil (stream.reader.state, so_far.left, so_far.reached);
+  begins = rw append-nil (source.reader.state, so_far.left, so_far.reached);
   headings = so_far.headings;
   read = so_far.read;
 }
 
 -- a record that was taken stands behind what was read so far
-pub taken_behind : {R : Type 0} (remaining : R → Option (List ℕ)) (bytes : List ℕ) (rows : List LayerRow) (old new : LayerStream R) (fields : List (List ℕ))
-    → HasRead remaining bytes rows old → old.reader.config ≡ default_config → TookRecord remaining old.reader new.reader fields
-    → AreFirstRows (form_of old) bytes rows (fields ∷ [])
-taken_behind remaining bytes rows old new fields so_far config took = record {
+pub taken_behind : {R : Type 0} (remaining : R → Option (List ℕ)) (bytes : List ℕ) (rows : List LayerRow) (from to : LayerSource R) (stream : LayerStream)
+    (fields : List (List ℕ)) → HasRead remaining bytes rows from stream → from.reader.config ≡ default_config
+    → TookRecord (below remaining) from.reader to.reader fields → AreFirstRows (form_of stream) bytes rows (fields ∷ [])
+taken_behind remaining bytes rows from to stream fields so_far config took = record {
   names = so_far.names;
   others = so_far.others;
-  begins = begins_more bytes so_far.left old.reader.state new.reader.state (so_far.names ∷ so_far.others) fields
-      (pending_of (remaining new.reader.rdr) new.reader) so_far.reached (rw (config, so_far.source) at took);
+  begins = begins_more bytes so_far.left from.reader.state to.reader.state (so_far.names ∷ so_far.others) fields
+      (pending_of (below remaining to.reader.rdr) to.reader) so_far.reached (rw (config, so_far.unread) at took);
   headings = so_far.headings;
   read = so_far.read;
 }
-
--- a first record that is no header of the table
-pub header_fault : (tables : List TableDef) (table : ℕ) (known : Option (List ℕ)) (fields : List (List ℕ)) (fault : LayerFault) (found : StreamFault)
-    (after : Option (List ℕ)) (s2 : State) → ReadsNext default_config st.StartRecord (option_map strip_bom known) after true fields s2
-    → Fails layer_lacks_memory fault (fields_of_table fields (slice_get tables table)) → found ≡ record_fault 1 fault → IsHeaderFault tables table known found
-header_fault tables table known fields fault found after s2 reads failed is =
-    subst (IsHeaderFault tables table known) (sym is) (by (layer_lacks_memory fault) failed)
-  where
-    one : (o : Option Read) (ys : List ℕ) → NextIs o true fields s2 ys → fields_of_table fields (slice_get tables table) ≡ Err fault
-        → IsFaultOfFirst tables table o fault
-    one None ys next f = absurd cc
-    one (Some p) ys next f = inr (rw next.1 at f)
-
-    first : (bytes : List ℕ) (after : Option (List ℕ)) → ReadsNext default_config st.StartRecord (Some (strip_bom bytes)) after true fields s2
-        → fields_of_table fields (slice_get tables table) ≡ Err fault
-        → IsFaultOfFirst tables table (next_record default_config st.StartRecord [] [] (strip_bom bytes)) fault
-    first bytes None h f = absurd h
-    first bytes (Some ys) h f = one (next_record default_config st.StartRecord [] [] (strip_bom bytes)) ys h f
-
-    by : (b : Bool) → OnFalse b (fields_of_table fields (slice_get tables table) ≡ Err fault)
-        → IsHeaderFault tables table known (if b then OutOfMemory else Record 1 fault)
-    by true f = tt
-    by false f = (refl, λ bytes k. first bytes after (rw k at reads) f)

@@ -12,18 +12,17 @@ use csv::{Error, ErrorKind};
 pub enum StreamFault {
     /// No memory was found. This fault may come in place of any other answer.
     OutOfMemory,
-    /// The source failed.
+    /// A read of the source failed.
     Unreadable,
     /// The record of this number, counted from 1, has a fault.
     Record(usize, LayerFault),
 }
 
-/// Returns why a record of a number can't be read, by the error of the reader.
+/// Returns why a record of a number can't be read where no read of the source has failed, by the error of the reader.
 pub(crate) fn fault_of(number: usize, error: &Error) -> StreamFault
     ensures { result ≡ fault_of number (error_kind error.now) }
 {
     match error.kind() {
-        ErrorKind::Io(_) => StreamFault::Unreadable,
         ErrorKind::Utf8 { .. } => StreamFault::Record(number, LayerFault::NotCsv),
         _ => StreamFault::OutOfMemory,
     }

@@ -3,70 +3,65 @@
 ghost use Rattle.std.specs.Prelude.{◌≡◌, [], ℕ, List, Some, IfErr, IfOk, IfSome, OnOk};
 ghost use Rattle.clr_layer_text.specs.Layers.{IsFitting};
 ghost use Rattle.clr_layer_text.specs.declared.rows.LayerRow.{LayerRow as OneRow};
-ghost use Rattle.clr_layer_streams.specs.Streams.{CanGoOn, GoesOn, HasRead, IsFaultOfNext, IsHeaderFault, form_of, number_behind};
+ghost use Rattle.clr_layer_streams.specs.Faults.{is_unreadable};
+ghost use Rattle.clr_layer_streams.specs.Sources.{CanGoOn, IsUnread, bytes_of, is_failed};
+ghost use Rattle.clr_layer_streams.specs.Streams.{GoesOn, HasRead, IsFaultOfNext, IsHeaderFault, form_of, number_behind};
 
-use crate::faults::{StreamFault, fault_of, record_fault};
+use crate::faults::{StreamFault, record_fault};
+use crate::sources::LayerSource;
 use clr_layer_text::{Headings, LayerFault, LayerRow, find_headings, read_row};
 use clr_rows::Schema;
-use csv::{Reader, ReaderBuilder, StringRecord};
 use std::alloc::Global;
 use std::io::Read;
 
-/// A layer that is read one record at a time. It keeps one record, and what its reader holds back.
+/// A layer that is read one record at a time, from a source that is handed over for each: how its rows are read, and
+/// the number of the record that was read last.
 #[derive(Drop)]
-pub struct LayerStream<'a, R> {
-    pub(crate) alloc: Global,
-    pub(crate) schema: &'a Schema,
-    pub(crate) table: u16,
-    pub(crate) rounded: bool,
-    pub(crate) headings: Headings,
-    pub(crate) reader: Reader<R>,
-    pub(crate) record: StringRecord,
-    pub(crate) number: usize,
+pub struct LayerStream<'a> {
+    alloc: Global,
+    schema: &'a Schema,
+    table: u16,
+    rounded: bool,
+    headings: Headings,
+    number: usize,
 }
 
-impl<'a, R: Read + Drop> LayerStream<'a, R> {
+impl<'a> LayerStream<'a> {
     /// Reads the header of a table's layer. Coordinates that are finer than a millimetre are refused
     /// by `next_row`, or rounded where `rounded` says so.
     ///
-    /// Fails with `Unreadable` where the source does; at record 1 with `NotCsv` where the header isn't
-    /// UTF-8, with `Unfit` and `NoTable` where the schema hasn't the table, with `NoColumn` where the header
-    /// lacks one of its names or where there is no record, and with `ColumnTwice` where it has one of them
+    /// Fails with `Unreadable` where a read of the source fails, and only there; at record 1 with `NotCsv` where the
+    /// header isn't UTF-8, with `Unfit` and `NoTable` where the schema hasn't the table, with `NoColumn` where the
+    /// header lacks one of its names or where there is no record, and with `ColumnTwice` where it has one of them
     /// twice; and with `OutOfMemory` for want of memory, which may come in place of any other answer.
-    pub fn open(
+    pub fn open<R: Read>(
         alloc: Global,
         schema: &'a Schema,
         table: u16,
         rounded: bool,
-        source: R,
-    ) -> Result<LayerStream<'a, R>, StreamFault>
-        ensures begun { (bytes : List ℕ) → R.remaining source ≡ Some bytes → IfOk result (HasRead R.remaining bytes []) }
-        ensures reading { IfOk result CanGoOn }
+        source: &mut LayerSource<R>,
+    ) -> Result<LayerStream<'a>, StreamFault>
+        requires { IsUnread R.remaining source.old }
+        ensures begun { (bytes : List ℕ) → bytes_of R.remaining source.old ≡ Some bytes
+            → IfOk result (HasRead R.remaining bytes [] source.new) }
+        ensures reading { OnOk result (CanGoOn source.new) }
         ensures schema { IfOk result (λ stream. (form_of stream).tables ≡ schema.entry.now) }
         ensures table { IfOk result (λ stream. (form_of stream).table ≡ table) }
         ensures rounded { IfOk result (λ stream. (form_of stream).rounded ≡ rounded) }
         ensures number { IfOk result (λ stream. stream.number ≡ 1) }
-        ensures fault { IfErr result (IsHeaderFault schema.entry.now table (R.remaining source)) }
+        ensures source { is_failed source.new ≡ is_unreadable result }
+        ensures fault { IfErr result (IsHeaderFault schema.entry.now table (bytes_of R.remaining source.old) (is_failed source.new)) }
     {
-        let mut reader = ReaderBuilder::new()
-            .has_headers(false)
-            .flexible(true)
-            .from_reader(alloc, source);
-        let mut record = StringRecord::new(alloc);
-        match reader.read_record(&mut record) {
-            Ok(true) => {}
-            Ok(false) => return Err(StreamFault::Record(1, LayerFault::NoColumn)),
-            Err(error) => return Err(fault_of(1, &error)),
+        if !source.read_record(1)? {
+            return Err(StreamFault::Record(1, LayerFault::NoColumn));
         }
-        match find_headings(alloc, &record, schema.def(table)) {
+        match find_headings(alloc, source.last(), schema.def(table)) {
             Ok(headings) => Ok(LayerStream {
                 alloc,
                 schema,
                 table,
                 rounded,
                 headings,
-                reader,
-                record,
                 number: 1,
             }),
             Err(fault) => Err(record_fault(1, fault)),
@@ -75,25 +70,27 @@ impl<'a, R: Read + Drop> LayerStream<'a, R> {
 
     /// Returns the row of the next record, or none behind the last one.
     ///
-    /// Fails with `Unreadable` where the source does, with the number of the record and its first fault as
-    /// `clr_layer_text: read_layer` does, and with `OutOfMemory` for want of memory, which may come in place of
-    /// any other answer. The fields of each record are tested by themselves, so `NotCsv` comes at the record
+    /// Fails with `Unreadable` where a read of the source fails, and only there; with the number of the record and its
+    /// first fault as `clr_layer_text: read_layer` does; and with `OutOfMemory` for want of memory, which may come in
+    /// place of any other answer. The fields of each record are tested by themselves, so `NotCsv` comes at the record
     /// that isn't UTF-8.
-    pub fn next_row(&mut self) -> Result<Option<LayerRow>, StreamFault>
-        requires { CanGoOn self.old }
-        ensures row { (bytes : List ℕ) (rows : List OneRow) → HasRead R.remaining bytes rows self.old
-            → IfOk result (λ row. GoesOn R.remaining bytes rows row self.new) }
+    pub fn next_row<R: Read>(
+        &mut self,
+        source: &mut LayerSource<R>,
+    ) -> Result<Option<LayerRow>, StreamFault>
+        requires { CanGoOn source.old }
+        ensures row { (bytes : List ℕ) (rows : List OneRow) → HasRead R.remaining bytes rows source.old self.old
+            → IfOk result (λ row. GoesOn R.remaining bytes rows row source.new self.new) }
         ensures fits { IfOk result (λ row. IfSome row (IsFitting (form_of self.old).tables (form_of self.old).table)) }
-        ensures reading { OnOk result (CanGoOn self.new) }
+        ensures reading { OnOk result (CanGoOn source.new) }
         ensures form { form_of self.new ≡ form_of self.old }
         ensures number { self.new.number ≡ number_behind self.old.number }
-        ensures fault { IfErr result (IsFaultOfNext R.remaining self.old self.new) }
+        ensures source { is_failed source.new ≡ is_unreadable result }
+        ensures fault { IfErr result (IsFaultOfNext R.remaining source.old source.new (form_of self.old) self.new.number) }
     {
         self.number = self.number.saturating_add(1);
-        match self.reader.read_record(&mut self.record) {
-            Ok(true) => {}
-            Ok(false) => return Ok(None),
-            Err(error) => return Err(fault_of(self.number, &error)),
+        if !source.read_record(self.number)? {
+            return Ok(None);
         }
         let row = read_row(
             self.alloc,
@@ -101,7 +98,7 @@ impl<'a, R: Read + Drop> LayerStream<'a, R> {
             self.table,
             self.rounded,
             &self.headings,
-            &self.record,
+            source.last(),
         );
         match row {
             Ok(row) => Ok(Some(row)),

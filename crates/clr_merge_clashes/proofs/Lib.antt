@@ -3,7 +3,7 @@ mod FreeSets
 pub mod Lists
 mod LookedLaw
 mod PartMergeSets
-mod PartPlaces
-mod PlanLaw
+pub mod PartPlaces
+pub mod PlanLaw
 mod SetLaws
 mod Sharing

@@ -20,6 +20,10 @@ numbers_more k =
     let same : 0 + k ≡ k = omega arith in
     ap (range_with_len 0) next ∙ one_number_more 0 k ∙ ap (λ x. range_with_len 0 k ++ x ∷ []) same
 
+-- the numbers from 0 on that pass a test, and one more
+pub kept_more : (p : ℕ → Bool) (k : ℕ) → filter p (range_with_len 0 (k + 1)) ≡ filter p (range_with_len 0 k) ++ filter p (k ∷ [])
+kept_more p k = ap (filter p) (numbers_more k) ∙ filter-append p (range_with_len 0 k) (k ∷ [])
+
 module _ {X : Type 0} (p : X → Bool) where
   pub filter_last : (xs : List X) (x : X) → filter p (xs ++ x ∷ []) ≡ filter p xs ++ filter p (x ∷ [])
   filter_last xs x = filter-append p xs (x ∷ [])

@@ -117,7 +117,7 @@ read_rises ps (j ∷ js) rises sorted below =
 
 -- ranges ---------------------------------------------------------------------------------------------
 
-from_on : (from n m : ℕ) → Among m (range_with_len from n) → (from ≤ m) × (m < from + n)
+pub from_on : (from n m : ℕ) → Among m (range_with_len from n) → (from ≤ m) × (m < from + n)
 from_on from zero m h = absurd h
 from_on from (suc n) m (inl same) = (omega (arith, same), omega (arith, same))
 from_on from (suc n) m (inr h) = let (low, high) = from_on (from + 1) n m h in (omega (arith, low), omega (arith, high))

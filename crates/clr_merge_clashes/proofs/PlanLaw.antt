@@ -40,7 +40,7 @@ use Rattle.clr_merge_clashes.proofs.PartMergeSets.{part_mergeable}
 
 -- change sets of some members --------------------------------------------------------------------
 
-map_cons : {X Y : Type 0} (f : X → Y) (o : Option X) (xs : List X) → map f (cons_option o xs) ≡ cons_option (option_map f o) (map f xs)
+pub map_cons : {X Y : Type 0} (f : X → Y) (o : Option X) (xs : List X) → map f (cons_option o xs) ≡ cons_option (option_map f o) (map f xs)
 map_cons f None xs = refl
 map_cons f (Some x) xs = refl
 

@@ -3,3 +3,4 @@ pub mod Laws
 pub mod SharedCells
 pub mod MergeClashes
 pub mod ClashSets
+pub mod Beside

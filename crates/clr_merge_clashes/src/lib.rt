@@ -12,9 +12,10 @@
 //! - `all_are_looked_at`: where no cell is changed by two members, all are looked at.
 //! - `clashes_decide_plans`: of members without conflicts and shared cells, the plan of some is cleared
 //!   exactly where they hold none of the smallest clashes of their scene.
-//! - `sets_at`: the change sets at some positions.
+//! - `sets_at`: the change sets at some positions. `members_beside`: the members that weren't looked at with the others.
 #![tactic(auto)]
 
+mod beside;
 mod clash_sets;
 mod clashes;
 mod laws;
@@ -25,6 +26,7 @@ mod pairs;
 mod places;
 mod shared_cells;
 
+pub use beside::members_beside;
 pub use clash_sets::{MergeClash, MergeClashes};
 pub use clashes::{merge_clashes, merge_clashes_of};
 pub use laws::{all_are_looked_at, clashes_decide_plans, sets_decide_plans};

@@ -4,13 +4,11 @@ use Rattle.std.specs.List.{list_all}
 use Rattle.std.proofs.lemmas.Bool.{and_parts, false≢true, ltb-true, or_left}
 use Rattle.clr_order_search.specs.declared.open_needs.OpenNeed.{OpenNeed}
 use Rattle.clr_order_search.specs.OpenNeeds.{has}
-use Rattle.clr_order_search.proofs.Rests.{at_of, itself}
+use Rattle.clr_order_search.proofs.Positions.{each_of}
+use Rattle.clr_order_search.proofs.Rests.{itself}
 use Rattle.clr_order_knots.specs.OpenNeeds.{AreWithin, IsWithin}
 use Rattle.clr_order_knots.proofs.Lists.{all_at}
 use Rattle.clr_order_tests.specs.Within.{is_within, may_help}
-
-all_has : (p : ℕ → Bool) (xs : List ℕ) → list_all p xs ≡ true → (m : ℕ) → has xs m ≡ true → p m ≡ true
-all_has p xs all m h = let (k, e) = at_of xs m h in all_at p xs all k m e
 
 not_both : (b : Bool) → not b ≡ true → b ≡ true → ⊥
 not_both true isnt is = false≢true isnt
@@ -34,11 +32,11 @@ module _ (count : ℕ) (need : OpenNeed) (is : is_within count need ≡ true) wh
   sides = and_parts below helping parts.1
 
   helps : (m : ℕ) → has need.helpers.items m ≡ true → (nat_lt m count ≡ true) × (not (has need.blockers.items m) ≡ true)
-  helps m h = and_parts (nat_lt m count) (not (has need.blockers.items m)) (all_has (may_help count need) need.helpers.items sides.1 m h)
+  helps m h = and_parts (nat_lt m count) (not (has need.blockers.items m)) (each_of (may_help count need) need.helpers.items sides.1 m h)
 
   pub need_within : IsWithin count need
   need_within = record {
-    blockers = λ m h. ltb-true m count (all_has (λ x. nat_lt x count) need.blockers.items sides.0 m h);
+    blockers = λ m h. ltb-true m count (each_of (λ x. nat_lt x count) need.blockers.items sides.0 m h);
     helpers = λ m h. ltb-true m count (helps m h).0;
     apart = λ m h k. not_both (has need.blockers.items m) (helps m h).1 k;
     blocked = has_one need.blockers.items parts.0;

@@ -32,7 +32,8 @@ pub record IsMade (tables : List TableDef) (at : ℕ) (table : TableDef) (rounde
   pub count : split.count ≡ length (faults_in tables at table rounded records)
 
 -- one part is a layer of just those records that have no fault, and the other one has just the others, each with what is wrong with it
-pub record IsSplit (tables : List TableDef) (at : ℕ) (table : TableDef) (rounded : Bool) (records : List Record) (headings : Fields) (split : SplitLayer) : Type 0 where
+pub record IsSplit (tables : List TableDef) (at : ℕ) (table : TableDef) (rounded : Bool) (records : List Record) (headings : Fields)
+    (split : SplitLayer) : Type 0 where
   pub taken : records_in split.taken.items ≡ Some (sound_records tables at table rounded headings records)
   pub skipped : split.skipped.items ≡ skipped_text table records (faults_in tables at table rounded records)
   pub count : split.count ≡ length (faults_in tables at table rounded records)

@@ -1,2 +1,3 @@
+mod Pieces
 mod QuotingLemmas
 mod Texts

@@ -10,7 +10,7 @@ use Rattle.clr_metres.specs.Metres.{metres_text}
 use Rattle.clr_sql.specs.declared.targets.Dialect.{Dialect}
 use Rattle.clr_sql.specs.declared.targets.Dialect.TheVariants.{PostGis, SpatiaLite}
 use Rattle.clr_sql.specs.declared.targets.Target.{Target}
-use Rattle.clr_sql.specs.Quoting.{quoted_name}
+use Rattle.clr_sql.specs.Quoting.{quoted_name, quoted_text}
 
 -- the function that gives the WKT of a geometry with three decimals
 abbrev pub wkt_function : Dialect → List ℕ
@@ -39,3 +39,18 @@ shape_column target _ = wkt_column target
 abbrev pub layer_query : Target → TableDef → List ℕ
 layer_query target table =
     codes "SELECT \"KEY\"" ++ flat_map column_name table.columns ++ shape_column target table.shape ++ codes " FROM " ++ quoted_name table.name
+
+abbrev pub column_title : List ℕ × Kind → List ℕ
+column_title column = codes ", " ++ quoted_text column.0
+
+abbrev pub shape_title : Form → List ℕ
+shape_title form.Bare = []
+shape_title _ = codes ", 'WKT'"
+
+-- a row with the names of a layer's columns
+abbrev pub titles : TableDef → List ℕ
+titles table = codes "SELECT 'KEY'" ++ flat_map column_title table.columns ++ shape_title table.shape
+
+-- the rows of a table behind the names of their columns: sqlite3 prints no names of its own for a query without rows
+abbrev pub titled_query : Target → TableDef → List ℕ
+titled_query target table = titles table ++ codes " UNION ALL " ++ layer_query target table

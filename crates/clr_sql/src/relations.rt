@@ -4,9 +4,20 @@ ghost use Rattle.std.specs.Prelude.{◌≡◌, ◌++◌, codes, OnOk};
 ghost use Rattle.std.specs.List.{flat_map};
 ghost use Rattle.clr_metres.specs.Metres.{metres_text};
 ghost use Rattle.clr_sql.specs.Quoting.{quoted_name};
-ghost use Rattle.clr_sql.specs.Relations.{column_name, flat_function, layer_query, shape_column, wkt_column, wkt_function};
+ghost use Rattle.clr_sql.specs.Relations.{
+  column_name,
+  column_title,
+  flat_function,
+  layer_query,
+  shape_column,
+  shape_title,
+  titled_query,
+  titles,
+  wkt_column,
+  wkt_function,
+};
 
-use crate::quoting::add_name;
+use crate::quoting::{add_name, add_text};
 use crate::targets::{Dialect, Target};
 use clr_metres::add_metres;
 use clr_rows::{Form, Kind, Place, TableDef, Words};
@@ -106,4 +117,49 @@ pub fn add_layer_query(
     add_columns(text, table.columns.as_slice())?;
     add_shape_column(text, target, table.shape)?;
     add_from(text, table.name.as_str())
+}
+
+/// Adds the names of columns as texts, each behind a comma.
+fn add_column_titles(text: &mut Vec<u8>, columns: &[(Words, Kind)]) -> Result<(), AllocError>
+    ensures { OnOk result (text.new.items ≡ text.old.items ++ flat_map column_title columns.now) }
+{
+    for column in columns {
+        text.extend_from_slice(b", ")?;
+        add_text(text, column.0.as_str().as_bytes())?;
+    }
+    Ok(())
+}
+
+/// Adds the name of the column of shapes as a text, in a table whose rows have any.
+fn add_shape_title(text: &mut Vec<u8>, form: Form) -> Result<(), AllocError>
+    ensures { OnOk result (text.new.items ≡ text.old.items ++ shape_title form) }
+{
+    match form {
+        Form::Bare => Ok(()),
+        _ => text.extend_from_slice(b", 'WKT'"),
+    }
+}
+
+/// Adds a row with the names of a layer's columns.
+fn add_titles(text: &mut Vec<u8>, table: &TableDef) -> Result<(), AllocError>
+    ensures { OnOk result (text.new.items ≡ text.old.items ++ titles table.now) }
+{
+    text.extend_from_slice(b"SELECT 'KEY'")?;
+    add_column_titles(text, table.columns.as_slice())?;
+    add_shape_title(text, table.shape)
+}
+
+/// Adds the query of the rows of a table behind a row with the names of their columns, as
+/// `SELECT 'KEY', 'code' UNION ALL SELECT "KEY", "code" FROM "pipe"`: sqlite3 prints no names of its own for a query without rows. If memory runs out, part of
+/// it may have been added.
+pub fn add_titled_query(
+    text: &mut Vec<u8>,
+    target: &Target,
+    table: &TableDef,
+) -> Result<(), AllocError>
+    ensures { OnOk result (text.new.items ≡ text.old.items ++ titled_query target.now table.now) }
+{
+    add_titles(text, table)?;
+    text.extend_from_slice(b" UNION ALL ")?;
+    add_layer_query(text, target, table)
 }

@@ -5,7 +5,7 @@ use crate::layers::{TABLES, lines_of};
 use crate::networks::schema_of;
 use crate::questions::check_of;
 use crate::texts::unfold;
-use clr_layer_streams::{LayerStream, StreamFault};
+use clr_layer_streams::{LayerSource, LayerStream, StreamFault};
 use clr_layer_text::{header_line, row_line};
 use std::alloc::Global;
 use std::io;
@@ -44,16 +44,17 @@ fn fault_words(alloc: Global, fault: StreamFault) -> Option<String> {
 }
 
 /// Returns the text of the rows that are read, or the fault.
-fn text_of<R: Read + Drop>(alloc: Global, name: &str, rounded: bool, source: R) -> Option<String> {
+fn text_of<R: Read + Drop>(alloc: Global, name: &str, rounded: bool, reader: R) -> Option<String> {
     let schema = schema_of(alloc, TABLES)?;
     let table = schema.table(name).unwrap_or(9);
-    let mut stream = match LayerStream::open(alloc, &schema, table, rounded, source) {
+    let mut source = LayerSource::new(alloc, reader);
+    let mut stream = match LayerStream::open(alloc, &schema, table, rounded, &mut source) {
         Ok(stream) => stream,
         Err(fault) => return fault_words(alloc, fault),
     };
     let mut text = header_line(alloc, schema.def(table)?).ok()?;
     for _ in 0..MOST_RECORDS {
-        match stream.next_row() {
+        match stream.next_row(&mut source) {
             Ok(Some(row)) => {
                 let line = row_line(alloc, &row).ok()?;
                 text.extend_from_slice(line.as_slice()).ok()?;

@@ -1,6 +1,6 @@
 use Rattle.std.proofs.Common.{◌∙◌, ◌++◌, ◌∷◌, [], ap, filter, sym}
 use Rattle.clr_board.specs.Settling.{goes_at}
-use Rattle.clr_board.proofs.Numbers.{kept_more}
+use Rattle.clr_merge_clashes.proofs.Lists.{kept_more}
 use Rattle.clr_board.proofs.settling.goers_of.Goals as goal
 
 pub loop-at-preserved : goal.loop-at-preserved

@@ -1,7 +1,8 @@
 use Rattle.std.proofs.Common.{◌≡◌, ◌∙◌, ◌++◌, ◌∷◌, [], ap, codes, map}
 use Rattle.clr_merge_sets.specs.MemberChanges.{set_of}
+use Rattle.clr_merge_clashes.specs.Beside.{beside}
 use Rattle.clr_page_parts.specs.Shown.{Shown, Heading, Picture, Verdict, said, shown}
-use Rattle.clr_board_page.specs.Heads.{beside, beside_text, board_about, board_tone, board_word, tally_text}
+use Rattle.clr_board_page.specs.Heads.{beside_text, board_about, board_tone, board_word, tally_text}
 use Rattle.clr_board_page.specs.Said.{said_in}
 use Rattle.clr_board_page.specs.States.{designs_table}
 use Rattle.clr_board_page.proofs.Sections.{head_whole}

@@ -2,7 +2,7 @@ use Rattle.std.proofs.Common.{List, subst, sym, take}
 use Rattle.std.proofs.lemmas.List.{take_all}
 use Rattle.clr_workspaces.specs.Marks.{Name}
 use Rattle.clr_choices.specs.Progress.{IsProgress}
-use Rattle.clr_choices.proofs.Trying.{none_first, one_more_name}
+use Rattle.clr_choices.proofs.TrialLists.{none_first, one_more_name}
 use Rattle.clr_choices.proofs.choices.go_through.Goals as goal
 
 pub loop-name-init : goal.loop-name-init

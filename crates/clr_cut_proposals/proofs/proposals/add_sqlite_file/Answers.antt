@@ -1,6 +1,6 @@
 use Rattle.std.proofs.Common.{◌∙◌, codes}
 use Rattle.std.proofs.lemmas.Result.{on_ok_weaker}
-use Rattle.clr_cut_proposals.specs.Proposals.{found_layer, sqlite_file}
+use Rattle.clr_cut_proposals.specs.Proposals.{sqlite_file, titled_layer}
 use Rattle.clr_cut_proposals.proofs.Pieces.{last_piece, pieces_5}
 use Rattle.clr_cut_proposals.proofs.proposals.add_sqlite_file.Goals as goal
 
@@ -9,7 +9,7 @@ unfolding sqlite_file
 returns c =
     on_ok_weaker c.extend_from_slice-4.result
     (λ e. e ∙ rw (
-      c.in_ok-add_found_layer.ensures,
+      c.in_ok-add_titled_layer.ensures,
       c.in_ok-extend_from_slice-3.ensures.items,
       c.in_ok-extend_from_slice-2.ensures.items,
       c.in_ok-extend_from_slice.ensures.items,
@@ -17,8 +17,8 @@ returns c =
       c.as_str.ensures,
     )
     (pieces_5 c.args.text.now.items
-    (codes ".headers on\n.mode csv\n.once ")
+    (codes ".headers off\n.mode csv\n.once ")
     c.args.table.now.name
     (codes ".csv\n")
-    (found_layer c.args.target.now c.args.table.now)
+    (titled_layer c.args.target.now c.args.table.now)
     (codes ";\n"))) (last_piece c.extend_from_slice-4.result _ _ _ c.extend_from_slice-4.ensures.items)

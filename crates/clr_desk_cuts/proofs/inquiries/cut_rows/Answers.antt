@@ -1,4 +1,4 @@
-use Rattle.std.proofs.Common.{◌≡◌, ◌∙◌, Bor, Option, Some, ap, arith, length, map, subst, sym}
+use Rattle.std.proofs.Common.{◌∙◌, Bor, Option, Some, ap, arith, length, map, subst, sym}
 use Rattle.std.specs.Option.{option_copied}
 use Rattle.std.proofs.lemmas.List.{length-map}
 use Rattle.clr_finders.specs.RowMaps.{FiledRows}

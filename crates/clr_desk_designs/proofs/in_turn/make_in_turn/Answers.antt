@@ -3,7 +3,7 @@ use Rattle.clr_desk_prints.specs.Printing.{printed}
 use Rattle.clr_desk_designs.specs.InTurn.{with_name}
 use Rattle.clr_desk_designs.specs.Made.{IsDesignMade}
 use Rattle.clr_desk_designs.specs.declared.made_designs.MadeDesigns.{MadeDesigns}
-use Rattle.clr_desk_designs.proofs.TurnLemmas.{all_made, first_refused, next_made, none_made}
+use Rattle.clr_desk_designs.proofs.TurnLemmas.{all_made, first_refused, next_made}
 use Rattle.clr_desk_designs.proofs.in_turn.make_in_turn.Goals as goal
 
 pub loop-design-preserved : goal.loop-design-preserved
@@ -30,7 +30,7 @@ returns-in-Refused c =
     let design = c.design-item.result in
     let refused = subst (λ (m : MadeDesigns). IsDesignMade taken options may_remove mid design m left) c.in-Refused.is c.in_ok-note.ensures in
     first_refused taken options may_remove c.args.office.now c.args.designs.now c.loop-design.design-index mid c.loop-design.notes.items design _ _
-    c.loop-design-test.true c.design-item.is c.loop-design.invariant refused
+    c.loop-design-test.true c.design-item.is c.loop-design.invariant refused.0
     (c.in_ok-named-in-Refused.ensures ∙ ap (λ name. with_name name (printed c.in-Refused.print)) c.as_str.ensures)
 
 pub returns : goal.returns

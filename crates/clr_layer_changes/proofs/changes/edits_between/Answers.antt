@@ -1,33 +1,18 @@
-use Rattle.std.proofs.Common.{◌≡◌, ◌++◌, ◌∷◌, List, [], map, append_assoc, append-nil, sym, ap, subst, ◌∙◌}
-use Rattle.std.specs.Map.Iter.{deref_pair}
-use Rattle.std.proofs.lemmas.Map.Iter.{rest_more}
-use Rattle.clr_rows.specs.declared.cells.CellId.{CellId}
-use Rattle.clr_rows.specs.declared.cells.Change.{Change}
-use Rattle.clr_change.specs.Edits.{after_edits}
+use Rattle.std.proofs.Common.{◌≡◌, List, ap, map, subst, sym, ◌∙◌}
+use Rattle.std.proofs.lemmas.Result.{IfOk-weaker}
+use Rattle.std.specs.FinMap as finite
+use Rattle.clr_rows.specs.Contents.{Changes}
 use Rattle.clr_change.specs.declared.edits.Edit.{Edit}
-use Rattle.clr_layer_changes.specs.Changes.{edit_of, edits_between}
+use Rattle.clr_change.specs.Edits.{after_edits}
+use Rattle.clr_layer_changes.specs.Changes.{edit_of}
 use Rattle.clr_layer_changes.proofs.EditLemmas.{edits_lead}
 use Rattle.clr_layer_changes.proofs.changes.edits_between.Goals as goal
-
-pushed : (so_far : List Edit) (e : CellId × Change) (edit : Edit) (left all : List (CellId × Change)) → all ≡ e ∷ left → edit ≡ edit_of e
-    → (so_far ++ edit ∷ []) ++ map edit_of left ≡ so_far ++ map edit_of all
-pushed so_far e edit left all rest same =
-    append_assoc so_far (edit ∷ []) _ ∙ (λ i. so_far ++ (same i ∷ map edit_of left)) ∙ ap (λ (es : List (CellId × Change)). so_far ++ map edit_of es) (sym rest)
-
-pub loop-cell-preserved : goal.loop-cell-preserved
-loop-cell-preserved c =
-    let left = c.next.new.self in
-    let rest = rest_more deref_pair c.loop-cell.cell-iterator left c.next.result (c.in-Some.cell, c.in-Some.change) c.in-Some.is c.next.ensures.steps in
-    ap (λ (edits : List Edit). edits ++ map edit_of left) c.in_ok-push.ensures.items
-    ∙ pushed c.loop-cell.edits.items (c.in-Some.cell.now, c.in-Some.change.now) c.in_ok-edit_of.field-0 left c.loop-cell.cell-iterator rest
-    c.in_ok-edit_of.ensures
-    ∙ c.loop-cell.invariant
 
 pub returns-clause-leads : goal.returns-clause-leads
 returns-clause-leads c =
     let base = c.args.base.now in
     let current = c.args.current.now in
-    let items = c.loop-cell.edits.items in
-    let edits : items ≡ edits_between base current = sym (append-nil items) ∙ ap (λ (es : List (CellId × Change)). items ++ map edit_of es)
-    (sym c.in-None.ensures.steps.0) ∙ c.loop-cell.invariant in
-    subst (λ (es : List Edit). after_edits base es ≡ current) (sym (c.new.ensures ∙ edits)) (edits_lead base current)
+    IfOk-weaker c.edits_of.result _ _
+    (λ edits is. subst (λ (es : List Edit). after_edits base es ≡ current)
+    (sym (is ∙ ap (λ (s : Changes). map edit_of (finite.entries s)) c.in_ok-changes.ensures)) (edits_lead base current))
+    c.edits_of.ensures

@@ -1,9 +1,0 @@
-use Rattle.std.proofs.Common.{◌∙◌, ◌++◌, ◌∷◌, [], ap, filter, sym}
-use Rattle.clr_board_page.specs.Heads.{is_beside}
-use Rattle.clr_board_page.proofs.Numbers.{kept_more}
-use Rattle.clr_board_page.proofs.heads.positions_beside.Goals as goal
-
-pub loop-at-preserved : goal.loop-at-preserved
-loop-at-preserved c =
-    c.in_ok-add_beside.ensures ∙ ap (λ ks. ks ++ filter (is_beside c.args.looked.now) (c.loop-at.at ∷ [])) c.loop-at.invariant
-    ∙ sym (kept_more (is_beside c.args.looked.now) c.loop-at.at)

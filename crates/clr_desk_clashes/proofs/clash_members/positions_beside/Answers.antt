@@ -1,9 +1,0 @@
-use Rattle.std.proofs.Common.{◌∙◌, ◌++◌, ◌∷◌, [], ap, filter, sym}
-use Rattle.clr_desk_clashes.specs.Clashes.{is_beside}
-use Rattle.clr_desk_clashes.proofs.Positions.{positions_more}
-use Rattle.clr_desk_clashes.proofs.clash_members.positions_beside.Goals as goal
-
-pub loop-at-preserved : goal.loop-at-preserved
-loop-at-preserved c =
-    c.in_ok-add_beside.ensures ∙ ap (λ ks. ks ++ filter (is_beside c.args.looked.now) (c.loop-at.at ∷ [])) c.loop-at.invariant
-    ∙ sym (positions_more (is_beside c.args.looked.now) c.loop-at.at)

@@ -1,8 +1,0 @@
-use Rattle.std.proofs.Common.{◌≡◌, filter}
-use Rattle.std.specs.List.{range_with_len}
-use Rattle.clr_desk_clashes.specs.Clashes.{is_beside}
-use Rattle.clr_desk_clashes.proofs.clash_members.positions_beside.Given as goal
-
--- the positions so far that stand beside another in a clash
-abbrev pub invariant-loop-at : goal.invariant-loop-at
-invariant-loop-at l = l.list.items ≡ filter (is_beside l.looked) (range_with_len 0 l.at)

@@ -1,7 +1,0 @@
-use Rattle.std.proofs.Common.{◌∙◌, refl}
-use Rattle.std.proofs.lemmas.Result.{IfOk-weaker}
-use Rattle.clr_desk_command_line.proofs.command.bare_command.Goals as goal
-
--- the table describes the program
-pub returns : goal.returns
-returns c = IfOk-weaker c.command_of.result _ _ (λ command is. is ∙ refl) c.command_of.ensures

@@ -1,9 +1,0 @@
-use Rattle.std.proofs.Common.{◌∙◌, refl}
-use Rattle.std.proofs.lemmas.Result.{IfOk-weaker}
-use Rattle.clr_desk_command_line.specs.Program.{imports}
-use Rattle.clr_desk_command_line.proofs.command.with_imports.Goals as goal
-
--- the table describes the group
-pub returns : goal.returns
-unfolding imports
-returns c = IfOk-weaker c.with_subcommands.result _ _ (λ command is. is ∙ refl) c.with_subcommands.ensures

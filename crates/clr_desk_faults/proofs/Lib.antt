@@ -1,0 +1,2 @@
+mod LayerReportLemmas
+mod PlaceLemmas

@@ -1,0 +1,6 @@
+pub mod FaultPlaces
+pub mod GivenLayers
+pub mod LayerFaults
+pub mod LayerWhys
+pub mod SkippedLayers
+pub mod Whys

@@ -1,0 +1,9 @@
+use Rattle.std.proofs.Common.{◌∙◌, refl}
+use Rattle.std.proofs.lemmas.Result.{IfOk-weaker}
+use Rattle.clr_desk_subcommands.specs.Program.{certificates}
+use Rattle.clr_desk_subcommands.proofs.command.with_certificates.Goals as goal
+
+-- the table describes the group
+pub returns : goal.returns
+unfolding certificates
+returns c = IfOk-weaker c.with_subcommands.result _ _ (λ command is. is ∙ refl) c.with_subcommands.ensures
