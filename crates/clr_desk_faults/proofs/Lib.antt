@@ -1,2 +1,3 @@
+mod KeyedReportLemmas
 mod LayerReportLemmas
 mod PlaceLemmas

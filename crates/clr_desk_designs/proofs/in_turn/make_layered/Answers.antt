@@ -1,5 +1,6 @@
 use Rattle.std.proofs.Common.{◌≡◌, List, Result, Ok, Err, ap, refl, subst, sym, ◌∙◌}
 use Rattle.std.proofs.lemmas.Result.{IfOk-weaker}
+use Rattle.clr_change.specs.declared.edits.Edit.{Edit}
 use Rattle.clr_rows.specs.Contents.{Content}
 use Rattle.clr_workspaces.specs.Marks.{Name}
 use Rattle.clr_steps.specs.Offices.{Office}

@@ -1,0 +1,2 @@
+mod OrderFiles
+mod UnfitNights

@@ -1,0 +1,4 @@
+pub mod FaultLemmas
+pub mod HeldLemmas
+pub mod LawLemmas
+pub mod RoundLemmas
