@@ -1,4 +1,3 @@
-mod Causes
 mod Each
 mod Lent
 mod Numbers

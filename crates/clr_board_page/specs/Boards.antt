@@ -17,11 +17,14 @@ use Rattle.clr_page_parts.specs.Commands.{word_text, words_text}
 use Rattle.clr_page_parts.specs.Shown.{Shown, Heading, Lines, Paragraph, section_shown}
 use Rattle.clr_board.specs.declared.boards.Board.{Board}
 use Rattle.clr_board.specs.Boards.{IsBoard}
-use Rattle.clr_board_page.specs.Clashes.{AreCausesOf, clashes_shown}
+use Rattle.clr_page_parts.specs.ClashCauses.{AreCausesOf}
+use Rattle.clr_board_page.specs.Clashes.{clashes_shown}
 use Rattle.clr_board_page.specs.Designs.{AreDesignSections}
 use Rattle.clr_board_page.specs.Heads.{head_shown}
+use Rattle.clr_board_page.specs.LeftOut.{left_out_shown}
 use Rattle.clr_board_page.specs.Orders.{turns_shown}
 use Rattle.clr_board_page.specs.Said.{said_by}
+use Rattle.clr_board_page.specs.declared.left_out.LeftOut.{LeftOut}
 
 -- the foot -------------------------------------------------------------------------------------------
 
@@ -45,24 +48,28 @@ foot_shown s goers =
 
 -- the page -------------------------------------------------------------------------------------------
 
--- how all stand, the clashes, who goes first, the old errors of the root if it has some, each design, and the commands
-abbrev pub board_shown : Office → MergeSet → MergeClashes → Board → List CauseWords → List (List Shown) → List (List Shown)
-board_shown o s found board causes designs =
+-- how all stand, the designs that are left out if some are, the clashes, who goes first, the old errors of the root if it has some, each design, and the
+-- commands
+abbrev pub board_shown : Office → MergeSet → MergeClashes → Board → List LeftOut → List CauseWords → List (List Shown) → List (List Shown)
+board_shown o s found board lefts causes designs =
     head_shown s (said_by s board) board.states.items (change_sets o s) found.looked.items
-    ∷ clashes_shown (said_by s board) causes
+    ∷ (left_out_shown lefts
+    ++ (clashes_shown (said_by s board) causes
     ∷ turns_shown s.members board.goers.items board.order board.turns.items
-    ∷ (old_errors_shown o s.root ++ designs ++ foot_shown s board.goers.items ∷ [])
+    ∷ (old_errors_shown o s.root ++ designs ++ foot_shown s board.goers.items ∷ [])))
 
--- the page of the board of members with these clashes
-pub record IsBoardPage (o : Office) (s : MergeSet) (found : MergeClashes) (page : HtmlPage) : Type 0 where
-  pub board : Board
+-- the page of a board of members with these clashes, and of designs that are left out
+pub record IsBoardPage (o : Office) (s : MergeSet) (found : MergeClashes) (board : Board) (lefts : List LeftOut) (page : HtmlPage) : Type 0 where
   pub causes : List CauseWords
   pub designs : List (List Shown)
-  pub stands : IsBoard o s found board
   pub told : AreCausesOf o s found.clashes.items causes
   pub each : AreDesignSections o (said_by s board) (enumerate_from 0 s.members) designs
   pub title : page.title.items ≡ codes "The designs of " ++ s.root
-  pub sections : map section_shown page.sections.items ≡ board_shown o s found board causes designs
+  pub sections : map section_shown page.sections.items ≡ board_shown o s found board lefts causes designs
 
+abbrev pub IsTextOfBoard : Office → MergeSet → MergeClashes → Board → List LeftOut → List ℕ → Type 0
+IsTextOfBoard o s found board lefts text = (page : HtmlPage) × IsBoardPage o s found board lefts page × (text ≡ html_page_text page)
+
+-- of the board of members with these clashes, where no design is left out
 abbrev pub IsBoardText : Office → MergeSet → MergeClashes → List ℕ → Type 0
-IsBoardText o s found text = (page : HtmlPage) × IsBoardPage o s found page × (text ≡ html_page_text page)
+IsBoardText o s found text = (board : Board) × IsBoard o s found board × IsTextOfBoard o s found board [] text

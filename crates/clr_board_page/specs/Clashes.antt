@@ -2,31 +2,14 @@
 use Rattle.std.specs.Prelude.{◌==◌, ◌+◌, ℕ, List, [], ◌∷◌, ◌++◌, Option, Some, codes, decimal, length, slice_get, if◌then◌else◌}
 use Rattle.std.specs.List.{flat_map}
 use Rattle.clr_workspaces.specs.Marks.{Name}
-use Rattle.clr_steps.specs.Offices.{Office}
-use Rattle.clr_steps.specs.Quiet.{MergeSet}
-use Rattle.clr_clearance.specs.MergeSets.{change_sets}
 use Rattle.clr_merge_clashes.specs.ClashSets.{positions_of}
-use Rattle.clr_merge_clashes.specs.Laws.{merge_set_of_part}
-use Rattle.clr_merge_clashes.specs.declared.clash_sets.MergeClash.{MergeClash}
 use Rattle.clr_clash_helpers.specs.declared.helped.HelpedClash.{HelpedClash}
 use Rattle.clr_plan_sentences.specs.declared.told_rows.CauseWords.{CauseWords}
-use Rattle.clr_plan_sentences.specs.Causes.{IsCause}
 use Rattle.clr_page_parts.specs.Causes.{cause_shown}
 use Rattle.clr_page_parts.specs.Shown.{Shown, Heading, Paragraph, Picture}
 use Rattle.clr_board_page.specs.declared.links.Anchor.TheVariants.{ClashSet}
 use Rattle.clr_board_page.specs.Links.{designs_text, heading_text, paragraph_text}
 use Rattle.clr_board_page.specs.Said.{Said}
-
--- why the designs of a clash can't be merged in every order, among themselves
-abbrev pub IsCauseOfClash : Office → MergeSet → MergeClash → CauseWords → Type 0
-IsCauseOfClash o s k cause =
-    IsCause o (merge_set_of_part s k.members.items) (change_sets o (merge_set_of_part s k.members.items)) k.cause cause
-
--- of each clash
-abbrev pub AreCausesOf : Office → MergeSet → List MergeClash → List CauseWords → Type 0
-AreCausesOf o s [] [] = Unit {0}
-AreCausesOf o s (k ∷ ks) (cause ∷ causes) = IsCauseOfClash o s k cause × AreCausesOf o s ks causes
-AreCausesOf o s _ _ = ⊥
 
 -- the number of a clash, and its designs
 abbrev pub clash_head : List Name → ℕ → HelpedClash → List ℕ

@@ -2,6 +2,7 @@ pub mod Boards
 pub mod Clashes
 pub mod Designs
 pub mod Heads
+pub mod LeftOut
 pub mod Links
 pub mod Orders
 pub mod Said

@@ -3,13 +3,13 @@
 ghost use Rattle.std.specs.Prelude.{◌≡◌, ◌++◌, codes, map, IfOk};
 ghost use Rattle.clr_merge_sets.specs.MemberChanges.{AreMembers, set_of};
 ghost use Rattle.clr_board.specs.Boards.{IsBoard};
-ghost use Rattle.clr_board_page.specs.Boards.{IsBoardPage, IsBoardText};
+ghost use Rattle.clr_board_page.specs.Boards.{IsBoardPage, IsBoardText, IsTextOfBoard};
 
-use crate::clash_causes::causes_of;
 use crate::clash_sections::clashes_section;
 use crate::design_sections::design_sections;
 use crate::feet::foot_of;
 use crate::heads::head_of;
+use crate::left_out::{LeftOut, left_out_sections};
 use crate::order_sections::order_section;
 use crate::told::Told;
 use clr_board::{Board, board_of};
@@ -18,7 +18,7 @@ use clr_html::{HtmlPage, write_page};
 use clr_member_changes::MemberChanges;
 use clr_merge_clashes::MergeClashes;
 use clr_merge_sets::rows_of_root;
-use clr_page_parts::old_errors_of;
+use clr_page_parts::{causes_of, old_errors_of};
 use clr_plan_sentences::Setting;
 use std::alloc::{AllocError, Global};
 
@@ -31,15 +31,15 @@ fn title_of(alloc: Global, root: &str) -> Result<Vec<u8>, AllocError>
     Ok(title)
 }
 
-/// Returns the page of a board of members, with these clashes.
+/// Returns the page of a board of members with these clashes, and of designs that are left out.
 fn page_of(
     setting: Setting<'_>,
     found: &MergeClashes,
     board: &Board<'_>,
+    left_out: &[LeftOut],
 ) -> Result<HtmlPage, AllocError>
-    requires members { AreMembers setting.office.now (set_of setting.members.now) setting.members.now }
-    requires board { IsBoard setting.office.now (set_of setting.members.now) found.now board.now }
-    ensures { IfOk result (IsBoardPage setting.entry.office.now (set_of setting.entry.members.now) found.now) }
+    requires { AreMembers setting.office.now (set_of setting.members.now) setting.members.now }
+    ensures { IfOk result (IsBoardPage setting.entry.office.now (set_of setting.entry.members.now) found.now board.now left_out.now) }
 {
     let (alloc, office, members) = (setting.alloc, setting.office, setting.members);
     let told = Told {
@@ -58,6 +58,7 @@ fn page_of(
         board.states.as_slice(),
         found.looked.as_slice(),
     )?;
+    let mut lefts = left_out_sections(alloc, left_out)?;
     let clashes = clashes_section(told, causes.as_slice())?;
     let order = order_section(told, goers, &board.order)?;
     let mut errors = old_errors_of(setting)?;
@@ -66,6 +67,7 @@ fn page_of(
     let foot = foot_of(alloc, members.root, members.names, goers)?;
     let mut sections = Vec::new(alloc);
     sections.push(head)?;
+    sections.append(&mut lefts)?;
     sections.push(clashes)?;
     sections.push(order)?;
     sections.append(&mut errors)?;
@@ -73,6 +75,23 @@ fn page_of(
     sections.push(foot)?;
     let title = title_of(alloc, members.root)?;
     Ok(HtmlPage { title, sections })
+}
+
+/// Returns a board of members with these clashes, which was made in this office, as the text of a page of hypertext in one file, which loads nothing; and
+/// behind its head the designs that are left out, each with the lines that say why. All else is as for `board_page`.
+pub fn board_text(
+    setting: Setting<'_>,
+    found: &MergeClashes,
+    board: &Board<'_>,
+    left_out: &[LeftOut],
+) -> Result<Vec<u8>, AllocError>
+    requires { AreMembers setting.office.now (set_of setting.members.now) setting.members.now }
+    ensures page { IfOk result (λ text. IsTextOfBoard setting.entry.office.now (set_of setting.entry.members.now) found.now board.now left_out.now
+        text.items) }
+{
+    let page = page_of(setting, found, board, left_out)?;
+    let text = write_page(setting.alloc, &page)?;
+    Ok(text)
 }
 
 /// Returns the board of members of a root with their clashes, which were found in this office, as the text of a page of hypertext in one file,
@@ -96,7 +115,5 @@ pub fn board_page(
         members,
     };
     let board = board_of(alloc, office, members, found)?;
-    let page = page_of(setting, found, &board)?;
-    let text = write_page(alloc, &page)?;
-    Ok(text)
+    board_text(setting, found, &board, &[])
 }

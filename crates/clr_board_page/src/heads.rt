@@ -81,8 +81,10 @@ fn board_tone(states: &[DesignState]) -> Tone
     }
 }
 
-/// Returns how many designs can go now.
-fn board_word(alloc: Global, states: &[DesignState]) -> Result<String, AllocError>
+/// Returns how many designs can go now of those that stand so, in words.
+///
+/// For example, `2 of 3 designs can go now`.
+pub fn board_word(alloc: Global, states: &[DesignState]) -> Result<String, AllocError>
     ensures { IfOk result (λ text. string_bytes text ≡ board_word states.now) }
 {
     if states.is_empty() {

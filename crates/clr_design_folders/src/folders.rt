@@ -38,7 +38,7 @@ fn unread(rt: &HostRuntime, path: &str) -> FolderFault {
 }
 
 /// Returns that what has this name can't be opened or read, or that memory ran out.
-fn unread_by(rt: &HostRuntime, path: &str, error: &Error) -> FolderFault {
+pub(crate) fn unread_by(rt: &HostRuntime, path: &str, error: &Error) -> FolderFault {
     match error.kind() {
         ErrorKind::OutOfMemory => FolderFault::OutOfMemory,
         _ => unread(rt, path),
@@ -134,6 +134,22 @@ fn is_folder(rt: &HostRuntime, path: &str) -> bool {
     }
 }
 
+/// Returns the design of a folder, and adds the files of its layers to others.
+pub(crate) fn design_in(
+    rt: &HostRuntime,
+    folder: &str,
+    name: &str,
+    files: &mut Vec<Words>,
+) -> Result<LayeredDesign, FolderFault> {
+    let path = path_in(rt, folder, name)?;
+    if !is_folder(rt, path.as_str()) {
+        return Err(unfit(rt, path.as_str(), NOT_A_DESIGN));
+    }
+    let layers = layers_in(rt, path.as_str(), files)?;
+    let name = Words::from_str(rt.alloc(), name)?;
+    Ok(LayeredDesign { name, layers })
+}
+
 /// Returns the designs of a folder, in the order of their names, whose bytes count; a design has the name of its folder, and a layer is of the table that
 /// its file names. Names that begin with a dot are passed over. The files of offices stand before those of the layers. Fails with `Unfit` where the folder
 /// has no folder, where something in it is none, where something in one of these is no file `TABLE.csv`, or where one has no such file; with `Unread` where
@@ -147,14 +163,8 @@ pub fn read_designs(
     let mut files = Vec::new(rt.alloc());
     let names = names_in(rt, folder)?;
     for name in &names {
-        let path = path_in(rt, folder, name.as_str())?;
-        if !is_folder(rt, path.as_str()) {
-            return Err(unfit(rt, path.as_str(), NOT_A_DESIGN));
-        }
         let mut of_design = copies_of(rt, offices)?;
-        let layers = layers_in(rt, path.as_str(), &mut of_design)?;
-        let name = Words::from_str(rt.alloc(), name.as_str())?;
-        designs.push(LayeredDesign { name, layers })?;
+        designs.push(design_in(rt, folder, name.as_str(), &mut of_design)?)?;
         files.push(of_design)?;
     }
     if designs.is_empty() {

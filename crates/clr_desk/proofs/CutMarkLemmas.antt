@@ -42,7 +42,7 @@ fault_of P change stays (run_fault.BadCertificate number fault) made =
     (Err (run_fault.BadCertificate number fault), made, stays (run_fault.BadCertificate number fault))
 
 -- what is made of an answer is made of what is to be printed
-made_of : (P : PrintoutOrFault → Type 0) (change : PrintoutOrFault → PrintoutOrFault) → ((e : RunFault) → Err e ≡ change (Err e))
+pub made_of : (P : PrintoutOrFault → Type 0) (change : PrintoutOrFault → PrintoutOrFault) → ((e : RunFault) → Err e ≡ change (Err e))
     → (answer result : Result Print RunFault) → IsMadeOf change answer result → IsMadePrintout P answer
     → IsMadePrintout (λ print. (bare : PrintoutOrFault) × P bare × (print ≡ change bare)) result
 made_of P change stays (Ok bare) (Ok print) is made = (printed bare, made, is)

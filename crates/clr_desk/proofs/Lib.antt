@@ -1,8 +1,10 @@
 mod CutMarkLemmas
+mod NameLemmas
 mod OneAgain
 mod OneAnswer
 mod OneChoice
 mod OneCut
 mod OneDeskAnswer
+mod OneIds
 mod OnePrint
 mod Untorn

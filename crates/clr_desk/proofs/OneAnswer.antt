@@ -54,6 +54,7 @@ use Rattle.clr_desk_prints.specs.Members.{members_or_children}
 use Rattle.clr_desk_prints.specs.NameHints.{with_lines}
 use Rattle.clr_desk_prints.specs.Printing.{PrintoutOrFault, printout_of}
 use Rattle.clr_desk_plans.specs.Certificates.{IsPlanPrint}
+use Rattle.clr_desk_plans.specs.Lines.{AreLinesOfSet}
 use Rattle.clr_desk_orders.specs.PlanPrints.{plan_print}
 use Rattle.clr_desk_merges.specs.Checks.{IsCheckPrint, check_print}
 use Rattle.clr_desk_plans.specs.Choices as choices
@@ -92,6 +93,13 @@ module _ (o : Office) (s : MergeSet) where
       let one = found_plan p (subst FoundMemory is found) in
       let two = found_plan q (subst FoundMemory is_too found_too) in
       is ∙ same_plan_print p q (one_plan o s p q planned.plan planned_too.plan one two) ∙ sym is_too
+
+  pub one_lines_print : IsOnePrint (AreLinesOfSet o s)
+  one_lines_print print other (p, planned, is) (q, planned_too, is_too) found found_too =
+      let one : is_out_of_memory p ≡ false = found_by_status _ _ (subst FoundMemory is found) in
+      let two : is_out_of_memory q ≡ false = found_by_status _ _ (subst FoundMemory is_too found_too) in
+      let same = same_text o.schema s.members s.root p q (one_plan o s p q planned.plan planned_too.plan one two) in
+      is ∙ (λ i. printout_of (same.0 i) [] (not (same.1 i)) ((one ∙ sym two) i)) ∙ sym is_too
 
 -- verdicts and merges ------------------------------------------------------------------------
 

@@ -1,5 +1,5 @@
 -- No text and no certificate has a failed write as its fault.
-use Rattle.std.proofs.Common.{◌≡◌, ℕ, Bool, true, false, List, [], ◌∷◌, Err, Ok, Result, rules, subst, sym}
+use Rattle.std.proofs.Common.{◌≡◌, ℕ, Bool, true, false, List, [], ◌∷◌, Option, Some, None, Err, Ok, Result, nat_eq, rules, subst, sym}
 use Rattle.clr_process_io.specs.declared.faults.RunFault.{RunFault}
 use Rattle.clr_process_io.specs.declared.faults.RunFault.TheVariants as run_fault
 use Rattle.clr_desk_command_line.specs.declared.asks.DeskAsk.{DeskAsk}
@@ -8,13 +8,27 @@ use Rattle.clr_desk_command_line.specs.declared.asks.OrderAsk.TheVariants as ord
 use Rattle.clr_desk_command_line.specs.declared.asks.GeographicAsk.{GeographicAsk}
 use Rattle.clr_desk_command_line.specs.declared.asks.GeographicAsk.TheVariants as geographic
 use Rattle.clr_desk_command_line.specs.declared.asks.DatabaseAsk.TheVariants as database
+use Rattle.clr_desk_command_line.specs.declared.asks.JsonAsk.TheVariants as json
 use Rattle.clr_desk_command_line.specs.declared.asks.LayersAsk.{LayersAsk}
 use Rattle.clr_layer_changes.specs.declared.options.GivenLayer.{GivenLayer}
 use Rattle.clr_design_folders.specs.declared.layered_designs.LayeredDesign.{LayeredDesign}
-use Rattle.clr_desk_prints.specs.Printing.{IsPrintoutFault, PrintoutOrFault}
+use Rattle.clr_desk_prints.specs.Printing.{IsPrintoutFault, Printout, PrintoutOrFault}
 use Rattle.clr_steps.specs.Offices.{Office}
 use Rattle.clr_office_texts.specs.Drafts.{draft_in, opened_in}
 use Rattle.clr_rule_text.specs.declared.faults.TextFault.{TextFault}
+use Rattle.clr_records.specs.Records.{records_in}
+use Rattle.clr_ids.specs.declared.faults.IdFault.{IdFault}
+use Rattle.clr_ids.specs.declared.records.IdRecord.{IdRecord}
+use Rattle.clr_ids.specs.Texts.{book_in_text}
+use Rattle.clr_layer_ids.specs.declared.named_texts.RowsForm.{RowsForm}
+use Rattle.clr_layer_ids.specs.declared.named_texts.RowsForm.TheVariants.{Layer, Edits}
+use Rattle.clr_layer_ids.specs.Fields.{Record}
+use Rattle.clr_layer_ids.specs.NamedTexts.{named_text}
+use Rattle.clr_desk_edits.specs.declared.forms.EditsForm.TheVariants.{Records}
+use Rattle.clr_desk_edits.specs.Edits.{IsEditsAnswer}
+use Rattle.clr_desk_ids.specs.NamedPrints.{by_book, named_if_done, named_if_read, named_or_missing, named_print}
+use Rattle.clr_desk_pages.specs.Features.{IsFeaturesAnswer}
+use Rattle.clr_desk.specs.Names.{IsByBook, IsByRead, IsNamed, with_ids_if}
 use Rattle.clr_desk.specs.Answers.{IsDeskAnswer, IsDeskAnswerWithin, Sinks}
 use Rattle.clr_check.specs.Cases.{case_of}
 use Rattle.clr_cut_texts.specs.Marks.{is_cut_text}
@@ -54,17 +68,59 @@ untorn_unless : (is_of_cut : Bool) (P : PrintoutOrFault → Type 0) (name : List
 untorn_unless true P name never is = absurd cc
 untorn_unless false P name never made = never made
 
+-- a failed write isn't what ids make of something else
+unnamed_print : (book : List IdRecord) (form : RowsForm) (plain : Printout) → Err run_fault.WriteFailed ≡ named_print book form plain → ⊥
+unnamed_print book form plain is = by_done (nat_eq plain.status 0) is
+  where
+    by_text : (named : Result (List ℕ) (List ℕ)) → Err run_fault.WriteFailed ≡ named_or_missing plain named → ⊥
+    by_text (Ok text) e = absurd cc
+    by_text (Err name) e = absurd cc
+
+    by_records : (records : Option (List Record)) → Err run_fault.WriteFailed ≡ named_if_read book form plain records → ⊥
+    by_records None e = absurd cc
+    by_records (Some records) e = by_text (named_text book form records) e
+
+    by_done : (done : Bool) → Err run_fault.WriteFailed ≡ named_if_done done book form plain → ⊥
+    by_done true e = by_records (records_in plain.text) e
+    by_done false e = absurd cc
+
+unnamed_by : (form : RowsForm) (read : Result (List IdRecord) (ℕ × IdFault)) (plain : Printout) → Err run_fault.WriteFailed ≡ by_book form read plain → ⊥
+unnamed_by form (Ok book) plain is = unnamed_print book form plain is
+unnamed_by form (Err e) plain is = absurd cc
+
+unnamed : (ids : Option (List ℕ)) (form : RowsForm) (bare : PrintoutOrFault) → Err run_fault.WriteFailed ≡ with_ids_if ids form bare
+    → bare ≡ Err run_fault.WriteFailed
+unnamed None form bare is = sym is
+unnamed (Some text) form (Ok plain) is = absurd (unnamed_by form (book_in_text text) plain is)
+unnamed (Some text) form (Err e) is = sym is
+
+untorn_named : (P : PrintoutOrFault → Type 0) (ids : Option (List ℕ)) (form : RowsForm) → (P (Err run_fault.WriteFailed) → ⊥)
+    → IsNamed ids form P (Err run_fault.WriteFailed) → ⊥
+untorn_named P ids form never (bare, made, is) = never (subst P (unnamed ids form bare is) made)
+
+untorn_by_book : (P : Option (List IdRecord) → PrintoutOrFault → Type 0) (ids : Option (List ℕ))
+    → ((book : Option (List IdRecord)) → P book (Err run_fault.WriteFailed) → ⊥) → IsByBook P ids (Err run_fault.WriteFailed) → ⊥
+untorn_by_book P None never made = never None made
+untorn_by_book P (Some text) never made = by (book_in_text text) made
+  where
+    by : (read : Result (List IdRecord) (ℕ × IdFault)) → IsByRead P read (Err run_fault.WriteFailed) → ⊥
+    by (Ok book) h = never (Some book) h
+    by (Err e) h = absurd cc
+
 -- what is printed of layers that are asked about is never a failed write
 untorn_layers : (asked : LayersAsk) (office : List ℕ) (layers : List GivenLayer) (read : Result Office TextFault)
     → IsLayersWhyOver asked office layers (Err run_fault.WriteFailed) read → ⊥
 untorn_layers asked office layers (Ok o) h = search rules
 untorn_layers asked office layers (Err e) h = search rules
 
-module _ (office second : List ℕ) (layers : List GivenLayer) (designs : List LayeredDesign) where
-  untorn_geographic : (asked : GeographicAsk) → IsGeographicAnswer asked office second layers designs (Err run_fault.WriteFailed) → ⊥
-  untorn_geographic (geographic.Features root names system) h = search rules
+module _ (office second : List ℕ) (ids : Option (List ℕ)) (layers : List GivenLayer) (designs : List LayeredDesign) where
+  untorn_geographic : (asked : GeographicAsk) → IsGeographicAnswer asked office second ids layers designs (Err run_fault.WriteFailed) → ⊥
+  untorn_geographic (geographic.Features root names system) h =
+      untorn_by_book (λ book. IsFeaturesAnswer root names system book (opened_in office)) ids (λ book torn. search rules) h
   untorn_geographic (geographic.Layer table workspace) h =
-      untorn_noted (IsPrintoutIn (IsHinted (IsLayerPrint table workspace) (workspace ∷ [])) (opened_in office)) office (λ torn. search rules) h
+      let P = IsPrintoutIn (IsHinted (IsLayerPrint table workspace) (workspace ∷ [])) (opened_in office) in
+      untorn_named (IsNotedCut P office) ids (Layer table) (untorn_noted P office (λ torn. search rules)) h
+  untorn_geographic (geographic.Ids tables first) h = search rules
   untorn_geographic (geographic.Office tables rounded) h =
       untorn_unless (is_cut_text office) (IsPrintoutIn (IsOfficePrint (options_of 1 rounded) layers) (opened_in office)) (first_table layers)
       (λ torn. search rules) h
@@ -100,7 +156,7 @@ module _ (office second : List ℕ) (layers : List GivenLayer) (designs : List L
       untorn_marked (IsPrintoutIn (IsDesignsSincePrint second (folder_options asked) may_remove designs) (opened_in office)) office
       (λ torn. search rules) h
 
-  pub untorn : (asked : DeskAsk) → IsDeskAnswerWithin asked office second layers designs (Err run_fault.WriteFailed) → ⊥
+  pub untorn : (asked : DeskAsk) → IsDeskAnswerWithin asked office second ids layers designs (Err run_fault.WriteFailed) → ⊥
   untorn (ask.Certificate root names) h = search rules
   untorn ask.Check h = search rules
   untorn (ask.Merge names) h =
@@ -118,14 +174,22 @@ module _ (office second : List ℕ) (layers : List GivenLayer) (designs : List L
   untorn (ask.Why kind) h = search rules
   untorn (ask.WhyLayers asked) h = untorn_layers asked office layers (draft_in office) h
   untorn (ask.Map root names) h = search rules
-  untorn (ask.Report root names) h = search rules
+  untorn (ask.Report root names source) h = search rules
   untorn (ask.Board root names) h = search rules
   untorn (ask.WorkOrder root names) h = search rules
   untorn (ask.Geographic asked) h = untorn_geographic asked h
   untorn (ask.Skipping asked file) h = untorn_geographic asked h
-  untorn (ask.Database database.Edits) h = search rules
+  untorn (ask.Database database.Edits) h = untorn_named (IsEditsAnswer Records office second) ids Edits (λ torn. search rules) h
   untorn (ask.Database (database.SqlEdits sql)) h = search rules
   untorn (ask.Database (database.Proposal sql)) h = search rules
+  untorn (ask.Plan root names) h = search rules
+  untorn (ask.Json (json.Plan root names)) h = search rules
+  untorn (ask.Json json.Check) h = search rules
+  untorn (ask.Json (json.Keep root names)) h = search rules
+  untorn (ask.Json (json.Clashes root names)) h = search rules
+  untorn (ask.Json (json.Order root names)) h = search rules
+  untorn (ask.Json (json.WorkOrder root names)) h = search rules
+  untorn (ask.Json (json.Board root names)) h = search rules
 
 -- a fault that is answered is that of the texts
 pub fault_answered : (IsPrint IsRight : PrintoutOrFault → Type 0) (sinks : Sinks) (e : RunFault) → (IsRight (Err run_fault.WriteFailed) → ⊥)

@@ -1,6 +1,7 @@
 -- What is printed for what is asked of one or two texts and of layers, and what is left of the sinks.
 use Rattle.std.specs.Prelude.{◌≡◌, ◌∷◌, ◌||◌, ◌⊎◌, ℕ, Bool, true, false, List, Option, Result, Ok, Err}
 use Rattle.std.specs.List.{list_any}
+use Rattle.std.specs.Option.{option_map_or}
 use Rattle.std.specs.Io.KnownBytes.{Appends}
 use Rattle.clr_check.specs.Cases.{case_of}
 use Rattle.clr_office_reading.specs.Offices.{known_in}
@@ -23,6 +24,8 @@ use Rattle.clr_desk_formats.specs.Formats.{IsFormatPrint}
 use Rattle.clr_desk.specs.Geographic.{IsGeographicAnswer}
 use Rattle.clr_desk_plans.specs.InOrder.{IsInOrderPrint}
 use Rattle.clr_desk_faults.specs.LayerWhys.{IsLayersWhy}
+use Rattle.clr_desk_plans.specs.Lines.{ArePlanLines}
+use Rattle.clr_desk_json.specs.Answers.{IsJsonAnswer}
 use Rattle.clr_desk_merges.specs.Merges.{IsHintedMerge}
 use Rattle.clr_desk_prints.specs.NameHints.{IsHinted}
 use Rattle.clr_desk_plans.specs.Orders.{IsOrderPrint}
@@ -33,49 +36,60 @@ use Rattle.clr_desk_error_lists.specs.ErrorLines.{IsErrorsPrint}
 use Rattle.clr_desk_errors.specs.Mended.{IsMendedPrint}
 use Rattle.clr_desk_pages.specs.Maps.{IsMapPrint}
 use Rattle.clr_desk_pages.specs.Reports.{IsReportPrint}
+use Rattle.clr_sources.specs.Sources.{source_text}
 
--- what is to be printed for what is asked of an office text, a second text, layers and designs
-abbrev pub IsDeskAnswerWithin : DeskAsk → List ℕ → List ℕ → List GivenLayer → List LayeredDesign → PrintoutOrFault → Type 0
-IsDeskAnswerWithin (ask.Certificate root names) office second layers designs print =
+-- what is to be printed for what is asked of an office text, a second text, that of a book of ids if one is given, layers and designs
+abbrev pub IsDeskAnswerWithin : DeskAsk → List ℕ → List ℕ → Option (List ℕ) → List GivenLayer → List LayeredDesign → PrintoutOrFault → Type 0
+IsDeskAnswerWithin (ask.Certificate root names) office second ids layers designs print =
     IsPrintoutIn (IsHinted (IsCertificatePrint root names) (root ∷ names)) (opened_in office) print
-IsDeskAnswerWithin ask.Check office certificate layers designs print = IsPrintoutOfCase IsCheckPrint (case_of office certificate) print
-IsDeskAnswerWithin (ask.Merge names) office certificate layers designs print =
+IsDeskAnswerWithin ask.Check office certificate ids layers designs print = IsPrintoutOfCase IsCheckPrint (case_of office certificate) print
+IsDeskAnswerWithin (ask.Merge names) office certificate ids layers designs print =
     IsMarkedAlike (IsPrintoutOfCase (IsHintedMerge names) (case_of office certificate)) office print
-IsDeskAnswerWithin ask.Format office second layers designs print = IsPrintoutIn IsFormatPrint (opened_in office) print
-IsDeskAnswerWithin ask.Accept office second layers designs print = IsMarkedAlike (IsPrintoutOfDraft IsAcceptPrint (draft_in office)) office print
-IsDeskAnswerWithin ask.Mended office second layers designs print = IsPrintoutOfDraft (IsMendedPrint (known_in office)) (draft_in office) print
-IsDeskAnswerWithin ask.Errors office second layers designs print = IsPrintoutOfDraft (IsErrorsPrint (known_in office)) (draft_in office) print
-IsDeskAnswerWithin (ask.Keep root names) office second layers designs print =
+IsDeskAnswerWithin ask.Format office second ids layers designs print = IsPrintoutIn IsFormatPrint (opened_in office) print
+IsDeskAnswerWithin ask.Accept office second ids layers designs print = IsMarkedAlike (IsPrintoutOfDraft IsAcceptPrint (draft_in office)) office print
+IsDeskAnswerWithin ask.Mended office second ids layers designs print = IsPrintoutOfDraft (IsMendedPrint (known_in office)) (draft_in office) print
+IsDeskAnswerWithin ask.Errors office second ids layers designs print = IsPrintoutOfDraft (IsErrorsPrint (known_in office)) (draft_in office) print
+IsDeskAnswerWithin (ask.Keep root names) office second ids layers designs print =
     IsPrintoutIn (IsHinted (IsChoicePrint root names) (root ∷ names)) (opened_in office) print
-IsDeskAnswerWithin (ask.Clashes root names) office second layers designs print =
+IsDeskAnswerWithin (ask.Clashes root names) office second ids layers designs print =
     IsPrintoutIn (IsHinted (IsClashesPrint root names) (root ∷ names)) (opened_in office) print
-IsDeskAnswerWithin (ask.InOrder asked root names) office second layers designs print =
+IsDeskAnswerWithin (ask.InOrder asked root names) office second ids layers designs print =
     IsPrintoutIn (IsHinted (IsInOrderPrint asked root names) (root ∷ names)) (opened_in office) print
-IsDeskAnswerWithin (ask.Why kind) office second layers designs print = IsWhyPrint kind office second print
-IsDeskAnswerWithin (ask.Map root names) office second layers designs print =
+IsDeskAnswerWithin (ask.Why kind) office second ids layers designs print = IsWhyPrint kind office second print
+IsDeskAnswerWithin (ask.Map root names) office second ids layers designs print =
     IsPrintoutIn (IsHinted (IsMapPrint root names) (root ∷ names)) (opened_in office) print
-IsDeskAnswerWithin (ask.Report root names) office second layers designs print =
-    IsPrintoutIn (IsHinted (IsReportPrint root names) (root ∷ names)) (opened_in office) print
-IsDeskAnswerWithin (ask.Board root names) office second layers designs print =
+IsDeskAnswerWithin (ask.Report root names source) office second ids layers designs print =
+    IsPrintoutIn (IsHinted (IsReportPrint (source_text source.as_of source.file office) root names) (root ∷ names)) (opened_in office) print
+IsDeskAnswerWithin (ask.Board root names) office second ids layers designs print =
     IsPrintoutIn (IsHinted (IsBoardPrint root names) (root ∷ names)) (opened_in office) print
-IsDeskAnswerWithin (ask.WorkOrder root names) office second layers designs print =
+IsDeskAnswerWithin (ask.WorkOrder root names) office second ids layers designs print =
     IsPrintoutIn (IsHinted (IsOrderPrint root names) (root ∷ names)) (opened_in office) print
-IsDeskAnswerWithin (ask.WhyLayers asked) office second layers designs print = IsLayersWhy asked office layers print
-IsDeskAnswerWithin (ask.Geographic asked) office second layers designs print = IsGeographicAnswer asked office second layers designs print
-IsDeskAnswerWithin (ask.Skipping asked file) office second layers designs print = IsGeographicAnswer asked office second layers designs print
-IsDeskAnswerWithin (ask.Database asked) office second layers designs print = IsDatabaseAnswer asked office second print
+IsDeskAnswerWithin (ask.WhyLayers asked) office second ids layers designs print = IsLayersWhy asked office layers print
+IsDeskAnswerWithin (ask.Geographic asked) office second ids layers designs print =
+    IsGeographicAnswer asked office second ids layers designs print
+IsDeskAnswerWithin (ask.Skipping asked file) office second ids layers designs print =
+    IsGeographicAnswer asked office second ids layers designs print
+IsDeskAnswerWithin (ask.Database asked) office second ids layers designs print = IsDatabaseAnswer asked office second ids print
+IsDeskAnswerWithin (ask.Plan root names) office second ids layers designs print =
+    IsPrintoutIn (IsHinted (ArePlanLines root names) (root ∷ names)) (opened_in office) print
+IsDeskAnswerWithin (ask.Json asked) office second ids layers designs print = IsJsonAnswer asked office second print
 
 -- what is answered, where it is given whether a text is too long
-abbrev pub IsDeskAnswerIf : Bool → DeskAsk → List ℕ → List ℕ → List GivenLayer → List LayeredDesign → PrintoutOrFault → Type 0
-IsDeskAnswerIf true asked office second layers designs print = print ≡ Err run_fault.TooLong
-IsDeskAnswerIf false asked office second layers designs print = IsDeskAnswerWithin asked office second layers designs print
+abbrev pub IsDeskAnswerIf : Bool → DeskAsk → List ℕ → List ℕ → Option (List ℕ) → List GivenLayer → List LayeredDesign → PrintoutOrFault → Type 0
+IsDeskAnswerIf true asked office second ids layers designs print = print ≡ Err run_fault.TooLong
+IsDeskAnswerIf false asked office second ids layers designs print = IsDeskAnswerWithin asked office second ids layers designs print
 
 abbrev pub is_too_long_layer : GivenLayer → Bool
 is_too_long_layer layer = is_too_long layer.text.items
 
-abbrev pub IsDeskAnswerTo : DeskAsk → List ℕ → List ℕ → List GivenLayer → List LayeredDesign → PrintoutOrFault → Type 0
-IsDeskAnswerTo asked office second layers designs print =
-    IsDeskAnswerIf (is_too_long office || is_too_long second || list_any is_too_long_layer layers) asked office second layers designs print
+-- a book of ids is too long, where one is given
+abbrev pub are_too_long_ids : Option (List ℕ) → Bool
+are_too_long_ids ids = option_map_or is_too_long ids false
+
+abbrev pub IsDeskAnswerTo : DeskAsk → List ℕ → List ℕ → Option (List ℕ) → List GivenLayer → List LayeredDesign → PrintoutOrFault → Type 0
+IsDeskAnswerTo asked office second ids layers designs print =
+    IsDeskAnswerIf (is_too_long office || is_too_long second || are_too_long_ids ids || list_any is_too_long_layer layers) asked office second ids layers
+    designs print
 
 -- the sink of the text and that of the notes: what each held before and holds now, where it tells, and whether it failed
 pub record Sinks : Type 0 where

@@ -1,8 +1,11 @@
 -- What is printed in the texts of geographic information systems, and of such texts.
-use Rattle.std.specs.Prelude.{◌≡◌, ℕ, Bool, true, false, List, [], ◌∷◌, ◌&&◌, not, codes}
+use Rattle.std.specs.Prelude.{◌≡◌, ℕ, Bool, true, false, List, [], ◌∷◌, ◌&&◌, not, codes, Option, unwrap_or}
 use Rattle.clr_workspaces.specs.Marks.{Name}
 use Rattle.clr_cut_texts.specs.Marks.{is_cut_text}
+use Rattle.clr_layer_ids.specs.declared.named_texts.RowsForm.TheVariants.{Layer}
+use Rattle.clr_desk_ids.specs.GrownIds.{IsIdsPrint}
 use Rattle.clr_desk.specs.CutMarks.{IsMarkedAlike, IsNotedCut}
+use Rattle.clr_desk.specs.Names.{IsByBook, IsNamed}
 use Rattle.clr_desk_edits.specs.Cuts.{IsCutAnswer}
 use Rattle.clr_office_reading.specs.Offices.{known_in}
 use Rattle.clr_office_texts.specs.Drafts.{draft_in, opened_in}
@@ -57,40 +60,44 @@ IsPrintIf false one other = other
 abbrev pub IsUnlessCut : (PrintoutOrFault → Type 0) → (text : List ℕ) → List GivenLayer → PrintoutOrFault → Type 0
 IsUnlessCut IsPrint text layers print = IsPrintIf (is_cut_text text) (print ≡ unfit_print cut_word (first_table layers)) (IsPrint print)
 
--- what is to be printed for what is asked of an office text, a second one, which is that of the office from which layers were copied, layers, and designs
-abbrev pub IsGeographicAnswer : GeographicAsk → List ℕ → List ℕ → List GivenLayer → List LayeredDesign → PrintoutOrFault → Type 0
-IsGeographicAnswer (ask.Features root names system) office second layers designs print = IsFeaturesAnswer root names system (opened_in office) print
-IsGeographicAnswer (ask.Layer table workspace) office second layers designs print =
-    IsNotedCut (IsPrintoutIn (IsHinted (IsLayerPrint table workspace) (workspace ∷ [])) (opened_in office)) office print
-IsGeographicAnswer (ask.Office tables rounded) office second layers designs print =
+-- what is to be printed for what is asked of an office text, a second one, which is that of the office from which layers were copied, that of a book of ids
+-- if one is given, layers, and designs
+abbrev pub IsGeographicAnswer : GeographicAsk → List ℕ → List ℕ → Option (List ℕ) → List GivenLayer → List LayeredDesign → PrintoutOrFault → Type 0
+IsGeographicAnswer (ask.Features root names system) office second ids layers designs print =
+    IsByBook (λ book. IsFeaturesAnswer root names system book (opened_in office)) ids print
+IsGeographicAnswer (ask.Layer table workspace) office second ids layers designs print =
+    IsNamed ids (Layer table) (IsNotedCut (IsPrintoutIn (IsHinted (IsLayerPrint table workspace) (workspace ∷ [])) (opened_in office)) office) print
+IsGeographicAnswer (ask.Ids tables first) office second ids layers designs print =
+    IsPrintoutOfDraft (IsIdsPrint (unwrap_or ids []) first layers) (draft_in office) print
+IsGeographicAnswer (ask.Office tables rounded) office second ids layers designs print =
     IsUnlessCut (IsPrintoutIn (IsOfficePrint (options_of 1 rounded) layers) (opened_in office)) office layers print
-IsGeographicAnswer (ask.AcceptedOffice tables rounded) office second layers designs print =
+IsGeographicAnswer (ask.AcceptedOffice tables rounded) office second ids layers designs print =
     IsUnlessCut (IsPrintoutOfDraft (IsAcceptedOfficePrint (options_of 1 rounded) layers) (draft_in office)) office layers print
-IsGeographicAnswer (ask.Cut tables rounded) office second layers designs print = IsCutAnswer rounded layers office print
-IsGeographicAnswer (ask.ErrorFeatures system) office second layers designs print = IsErrorFeaturesAnswer (known_in office) system (draft_in office) print
-IsGeographicAnswer (ask.Design design) office second layers designs print =
+IsGeographicAnswer (ask.Cut tables rounded) office second ids layers designs print = IsCutAnswer rounded layers office print
+IsGeographicAnswer (ask.ErrorFeatures system) office second ids layers designs print = IsErrorFeaturesAnswer (known_in office) system (draft_in office) print
+IsGeographicAnswer (ask.Design design) office second ids layers designs print =
     let may_remove = may_remove_over design.may_remove office in
     IsMarkedAlike (IsPrintoutIn (IsDesignPrint design.name (design_options design) may_remove layers) (opened_in office)) office print
-IsGeographicAnswer (ask.DesignSince design) office copied layers designs print =
+IsGeographicAnswer (ask.DesignSince design) office copied ids layers designs print =
     let may_remove = may_remove_over (may_remove_over design.may_remove office) copied in
     IsMarkedAlike (IsPrintoutIn (IsDesignSincePrint copied design.name (design_options design) may_remove layers) (opened_in office)) office print
-IsGeographicAnswer (ask.DesignScript design) office second layers designs print =
+IsGeographicAnswer (ask.DesignScript design) office second ids layers designs print =
     let may_remove = may_remove_over design.may_remove office in
     IsPrintoutIn (IsDesignScriptPrint design.name (design_options design) may_remove layers) (opened_in office) print
-IsGeographicAnswer (ask.DesignAgain design) office second layers designs print =
+IsGeographicAnswer (ask.DesignAgain design) office second ids layers designs print =
     let may_remove = may_remove_over design.may_remove office in
     IsMarkedAlike (IsPrintoutIn (IsHinted (IsAgainPrint false design.name (design_options design) may_remove layers) (design.name ∷ []))
     (opened_in office)) office print
-IsGeographicAnswer (ask.DesignAnew design) office copied layers designs print =
+IsGeographicAnswer (ask.DesignAnew design) office copied ids layers designs print =
     let may_remove = may_remove_over (may_remove_over design.may_remove office) copied in
     IsMarkedAlike (IsPrintoutIn (IsHinted (IsDesignAnewPrint copied design.name (design_options design) may_remove layers) (design.name ∷ []))
     (opened_in office)) office print
-IsGeographicAnswer (ask.DesignAgainScript design) office second layers designs print =
+IsGeographicAnswer (ask.DesignAgainScript design) office second ids layers designs print =
     let may_remove = may_remove_over design.may_remove office in
     IsPrintoutIn (IsHinted (IsAgainPrint true design.name (design_options design) may_remove layers) (design.name ∷ [])) (opened_in office) print
-IsGeographicAnswer (ask.Designs asked) office second layers designs print =
+IsGeographicAnswer (ask.Designs asked) office second ids layers designs print =
     let may_remove = may_remove_over asked.may_remove office in
     IsMarkedAlike (IsPrintoutIn (IsDesignsPrint (folder_options asked) may_remove designs) (opened_in office)) office print
-IsGeographicAnswer (ask.DesignsSince asked) office copied layers designs print =
+IsGeographicAnswer (ask.DesignsSince asked) office copied ids layers designs print =
     let may_remove = may_remove_over (may_remove_over asked.may_remove office) copied in
     IsMarkedAlike (IsPrintoutIn (IsDesignsSincePrint copied (folder_options asked) may_remove designs) (opened_in office)) office print

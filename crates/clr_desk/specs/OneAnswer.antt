@@ -1,5 +1,5 @@
 -- Most of what is asked of texts is answered in one way alone, memory aside.
-use Rattle.std.specs.Prelude.{◌≡◌, ◌≢◌, ℕ, Bool, true, false, List, Ok, Err}
+use Rattle.std.specs.Prelude.{◌≡◌, ◌≢◌, ℕ, Bool, true, false, List, Option, Ok, Err}
 use Rattle.clr_desk_command_line.specs.declared.asks.DeskAsk.{DeskAsk}
 use Rattle.clr_desk_command_line.specs.declared.asks.DeskAsk.TheVariants as ask
 use Rattle.clr_desk_command_line.specs.declared.asks.GeographicAsk.{GeographicAsk}
@@ -10,7 +10,7 @@ use Rattle.clr_desk_prints.specs.Printing.{PrintoutOrFault}
 use Rattle.clr_desk.specs.Answers.{IsDeskAnswerTo}
 
 -- what is asked has an answer that its definition tells whole; of clashes, orders, errors, faults, sentences, pictures, pages, features and layers it
--- leaves something open, and of cuts, of the designs of a folder and of databases nothing is said here
+-- leaves something open, and of cuts, of the designs of a folder, of databases and of JSON nothing is said here
 abbrev pub is_whole_layer : GeographicAsk → Bool
 is_whole_layer (geographic.Features root names system) = false
 is_whole_layer (geographic.Layer table workspace) = false
@@ -28,11 +28,12 @@ is_whole (ask.WhyLayers asked) = false
 is_whole ask.Errors = false
 is_whole (ask.WorkOrder root names) = false
 is_whole (ask.Map root names) = false
-is_whole (ask.Report root names) = false
+is_whole (ask.Report root names source) = false
 is_whole (ask.Board root names) = false
 is_whole (ask.Geographic asked) = is_whole_layer asked
 is_whole (ask.Skipping asked file) = is_whole_layer asked
 is_whole (ask.Database asked) = false
+is_whole (ask.Json asked) = false
 is_whole _ = true
 
 -- no plan, verdict or merge found no memory: the status isn't the one that says so
@@ -46,5 +47,5 @@ IsOnePrint IsPrint = (print other : PrintoutOrFault) → IsPrint print → IsPri
 
 -- two answers to what is asked of the same texts have one text, the same notes and one status, or one fault
 abbrev pub OneDeskAnswerLaw : Type 0
-OneDeskAnswerLaw = (asked : DeskAsk) (office second : List ℕ) (layers : List GivenLayer) (designs : List LayeredDesign) → is_whole asked ≡ true
-    → IsOnePrint (IsDeskAnswerTo asked office second layers designs)
+OneDeskAnswerLaw = (asked : DeskAsk) (office second : List ℕ) (ids : Option (List ℕ)) (layers : List GivenLayer) (designs : List LayeredDesign)
+    → is_whole asked ≡ true → IsOnePrint (IsDeskAnswerTo asked office second ids layers designs)

@@ -1,6 +1,6 @@
 //! What is printed of designs of layers, over offices and over cuts.
 
-ghost use Rattle.std.specs.Prelude.{◌≡◌, [], IfOk};
+ghost use Rattle.std.specs.Prelude.{◌≡◌, [], None, IfOk};
 ghost use Rattle.clr_desk_command_line.specs.declared.asks.GeographicAsk.TheVariants as geographic;
 ghost use Rattle.clr_desk.specs.Geographic.{IsGeographicAnswer, design_options, folder_options, may_remove_over};
 ghost use Rattle.clr_desk_prints.specs.Printing.{IsMadePrintout};
@@ -54,7 +54,7 @@ pub(crate) fn design_of(
     design: &DesignAsk,
     layers: &[GivenLayer],
 ) -> Result<Print, RunFault>
-    ensures { IsMadePrintout (IsGeographicAnswer (geographic.Design design.now) office.now [] layers.now []) result }
+    ensures { IsMadePrintout (IsGeographicAnswer (geographic.Design design.now) office.now [] None layers.now []) result }
 {
     let (name, options) = (design.name.as_str(), design_options(design));
     let may_remove = may_remove_over(alloc, design.may_remove, office)?;
@@ -71,7 +71,7 @@ pub(crate) fn design_since(
     design: &DesignAsk,
     layers: &[GivenLayer],
 ) -> Result<Print, RunFault>
-    ensures { IsMadePrintout (IsGeographicAnswer (geographic.DesignSince design.now) office.now copied.now layers.now []) result }
+    ensures { IsMadePrintout (IsGeographicAnswer (geographic.DesignSince design.now) office.now copied.now None layers.now []) result }
 {
     let (name, options) = (design.name.as_str(), design_options(design));
     let is_allowed = may_remove_over(alloc, design.may_remove, office)?;
@@ -87,7 +87,7 @@ pub(crate) fn design_script(
     design: &DesignAsk,
     layers: &[GivenLayer],
 ) -> Result<Print, RunFault>
-    ensures { IsMadePrintout (IsGeographicAnswer (geographic.DesignScript design.now) office.now [] layers.now []) result }
+    ensures { IsMadePrintout (IsGeographicAnswer (geographic.DesignScript design.now) office.now [] None layers.now []) result }
 {
     let (name, options) = (design.name.as_str(), design_options(design));
     let may_remove = may_remove_over(alloc, design.may_remove, office)?;
@@ -102,7 +102,7 @@ pub(crate) fn design_again(
     design: &DesignAsk,
     layers: &[GivenLayer],
 ) -> Result<Print, RunFault>
-    ensures { IsMadePrintout (IsGeographicAnswer (geographic.DesignAgain design.now) office.now [] layers.now []) result }
+    ensures { IsMadePrintout (IsGeographicAnswer (geographic.DesignAgain design.now) office.now [] None layers.now []) result }
 {
     let (name, options) = (design.name.as_str(), design_options(design));
     let may_remove = may_remove_over(alloc, design.may_remove, office)?;
@@ -119,7 +119,7 @@ pub(crate) fn design_anew(
     design: &DesignAsk,
     layers: &[GivenLayer],
 ) -> Result<Print, RunFault>
-    ensures { IsMadePrintout (IsGeographicAnswer (geographic.DesignAnew design.now) office.now copied.now layers.now []) result }
+    ensures { IsMadePrintout (IsGeographicAnswer (geographic.DesignAnew design.now) office.now copied.now None layers.now []) result }
 {
     let (name, options) = (design.name.as_str(), design_options(design));
     let is_allowed = may_remove_over(alloc, design.may_remove, office)?;
@@ -135,7 +135,7 @@ pub(crate) fn again_script(
     design: &DesignAsk,
     layers: &[GivenLayer],
 ) -> Result<Print, RunFault>
-    ensures { IsMadePrintout (IsGeographicAnswer (geographic.DesignAgainScript design.now) office.now [] layers.now []) result }
+    ensures { IsMadePrintout (IsGeographicAnswer (geographic.DesignAgainScript design.now) office.now [] None layers.now []) result }
 {
     let (name, options) = (design.name.as_str(), design_options(design));
     let may_remove = may_remove_over(alloc, design.may_remove, office)?;
@@ -150,7 +150,7 @@ pub(crate) fn designs_of(
     asked: &DesignsAsk,
     designs: &[LayeredDesign],
 ) -> Result<Print, RunFault>
-    ensures { IsMadePrintout (IsGeographicAnswer (geographic.Designs asked.now) office.now [] [] designs.now) result }
+    ensures { IsMadePrintout (IsGeographicAnswer (geographic.Designs asked.now) office.now [] None [] designs.now) result }
 {
     let may_remove = may_remove_over(alloc, asked.may_remove, office)?;
     let answer = answer_designs(alloc, office, folder_options(asked), may_remove, designs);
@@ -166,7 +166,7 @@ pub(crate) fn designs_since(
     asked: &DesignsAsk,
     designs: &[LayeredDesign],
 ) -> Result<Print, RunFault>
-    ensures { IsMadePrintout (IsGeographicAnswer (geographic.DesignsSince asked.now) office.now copied.now [] designs.now) result }
+    ensures { IsMadePrintout (IsGeographicAnswer (geographic.DesignsSince asked.now) office.now copied.now None [] designs.now) result }
 {
     let is_allowed = may_remove_over(alloc, asked.may_remove, office)?;
     let may_remove = may_remove_over(alloc, is_allowed, copied)?;

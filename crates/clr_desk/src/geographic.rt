@@ -1,12 +1,17 @@
 //! What is printed in the texts of geographic information systems, and of such texts.
 
-ghost use Rattle.std.specs.Prelude.{◌≡◌, ◌∷◌, [], IfOk};
+ghost use Rattle.std.specs.Prelude.{◌≡◌, ◌∷◌, [], IfOk, option_map, unwrap_or};
+ghost use Rattle.std.specs.Option.{option_copied};
+ghost use Rattle.clr_layer_ids.specs.declared.named_texts.RowsForm.TheVariants.{Layer};
 ghost use Rattle.clr_office_texts.specs.Drafts.{draft_in, opened_in};
 ghost use Rattle.clr_desk.specs.CutMarks.{IsNotedCut};
+ghost use Rattle.clr_desk.specs.Names.{IsByBook, IsByRead, IsNamed};
 ghost use Rattle.clr_desk.specs.Geographic.{IsGeographicAnswer, IsUnlessCut, cut_word, first_table, options_of};
 ghost use Rattle.clr_desk_errors.specs.Accepting.{IsPrintoutOfDraft};
 ghost use Rattle.clr_desk_layers.specs.Designs.{IsAcceptedOfficePrint, IsOfficePrint};
 ghost use Rattle.clr_desk_layers.specs.Layers.{IsLayerPrint, unfit_print};
+ghost use Rattle.clr_desk_pages.specs.Features.{IsFeaturesAnswer};
+ghost use Rattle.clr_ids.specs.Texts.{book_in_text};
 ghost use Rattle.clr_desk_prints.specs.NameHints.{IsHinted};
 ghost use Rattle.clr_desk_prints.specs.Printing.{IsMadePrintout, IsPrintoutIn, printed};
 
@@ -15,17 +20,20 @@ use crate::designs_over::{
     again_script, design_again, design_anew, design_of, design_script, design_since, designs_of,
     designs_since,
 };
+use crate::named_rows::named;
 use clr_cut_texts::is_cut;
 use clr_desk_command_line::GeographicAsk;
 use clr_desk_designs::LayeredDesign;
 use clr_desk_edits::answer_cut;
 use clr_desk_error_lists::answer_error_features;
+use clr_desk_ids::{answer_ids, bad_book};
 use clr_desk_layers::{
     GivenLayer, LayerOptions, answer_accepted_office, answer_layer, answer_office, unfit_print,
 };
 use clr_desk_pages::answer_geojson;
 use clr_desk_prints::Print;
-use clr_office::RunFault;
+use clr_layer_ids::{IdFault, RowsForm, read_book};
+use clr_office::{RunFault, Words};
 use std::alloc::{AllocError, Global};
 
 /// Returns that layers of an office are read so: their rows get keys from 1 on, and coordinates are rounded or not.
@@ -51,6 +59,72 @@ fn layer_of_text(
 {
     let answer = answer_layer(alloc, office, table, workspace);
     noted(alloc, office, answer)
+}
+
+/// Returns the same with the ids of a book in place of keys, where one is given.
+#[tactic(auto, using(crate::proofs::NameLemmas::named_made))]
+fn named_layer(
+    alloc: Global,
+    office: &[u8],
+    ids: Option<&[u8]>,
+    table: &Words,
+    workspace: &str,
+) -> Result<Print, RunFault>
+    ensures { IsMadePrintout (IsNamed (option_map (λ text. text.now) ids.entry) (Layer table.now)
+        (IsNotedCut (IsPrintoutIn (IsHinted (IsLayerPrint table.now workspace.now) (workspace.now ∷ [])) (opened_in office.now)) office.now)) result }
+{
+    let name = table.copy()?;
+    let form = RowsForm::Layer(name);
+    let answer = layer_of_text(alloc, office, table.as_str(), workspace);
+    named(alloc, ids, &form, answer)
+}
+
+/// Returns the features of the plan of members by the text of a book of ids.
+#[tactic(auto, using(crate::proofs::NameLemmas::unread_made))]
+fn named_features(
+    alloc: Global,
+    office: &[u8],
+    ids: &[u8],
+    root: &str,
+    names: &[Words],
+    system: Option<&Words>,
+) -> Result<Print, RunFault>
+    ensures { IsMadePrintout (IsByRead (λ book. IsFeaturesAnswer root.now names.now (option_copied system.entry) book (opened_in office.now))
+        (book_in_text ids.now)) result }
+{
+    match read_book(alloc, ids) {
+        Ok(book) => answer_geojson(alloc, office, root, names, system, Some(&book)),
+        Err((_, IdFault::OutOfMemory)) => Err(RunFault::OutOfMemory),
+        Err((number, fault)) => Ok(bad_book(alloc, number, fault)?),
+    }
+}
+
+/// Returns the features of the plan of members, with the ids of a book where one is given.
+fn features_of_text(
+    alloc: Global,
+    office: &[u8],
+    ids: Option<&[u8]>,
+    root: &str,
+    names: &[Words],
+    system: Option<&Words>,
+) -> Result<Print, RunFault>
+    ensures { IsMadePrintout (IsByBook (λ book. IsFeaturesAnswer root.now names.now (option_copied system.entry) book (opened_in office.now))
+        (option_map (λ text. text.now) ids.entry)) result }
+{
+    match ids {
+        Some(ids) => named_features(alloc, office, ids, root, names, system),
+        None => answer_geojson(alloc, office, root, names, system, None),
+    }
+}
+
+/// Returns the text of a book of ids, or an empty one where none is given.
+fn text_or_none<'a>(ids: Option<&'a [u8]>) -> &'a [u8]
+    ensures { result.now ≡ unwrap_or (option_map (λ text. text.now) ids.entry) [] }
+{
+    match ids {
+        Some(ids) => ids,
+        None => &[],
+    }
 }
 
 /// Returns what is printed where the rows of layers can't take the place of those of a cut.
@@ -98,28 +172,33 @@ fn accepted_office_of_text(
     answer_accepted_office(alloc, office, office_options(rounded), layers)
 }
 
-/// Returns what is printed for what is asked of an office text, of a second one, of layers and of designs in the texts of geographic information
-/// systems. The second is the text of the office from which layers were copied where one is given.
+/// Returns what is printed for what is asked of an office text, of a second one, of that of a book of ids, of layers and of designs in the texts of geographic
+/// information systems. The second is the text of the office from which layers were copied where one is given.
 pub(crate) fn answer_geographic(
     alloc: Global,
     ask: &GeographicAsk,
     office: &[u8],
     second: &[u8],
+    ids: Option<&[u8]>,
     layers: &[GivenLayer],
     designs: &[LayeredDesign],
 ) -> Result<Print, RunFault>
-    ensures { IsMadePrintout (IsGeographicAnswer ask.now office.now second.now layers.now designs.now) result }
+    ensures { IsMadePrintout (IsGeographicAnswer ask.now office.now second.now (option_map (λ text. text.now) ids.entry) layers.now designs.now) result }
 {
     match ask {
-        GeographicAsk::Features(root, names, system) => answer_geojson(
+        GeographicAsk::Features(root, names, system) => features_of_text(
             alloc,
             office,
+            ids,
             root.as_str(),
             names.as_slice(),
             system.as_ref(),
         ),
         GeographicAsk::Layer(table, workspace) => {
-            layer_of_text(alloc, office, table.as_str(), workspace.as_str())
+            named_layer(alloc, office, ids, table, workspace.as_str())
+        }
+        GeographicAsk::Ids(_, first) => {
+            answer_ids(alloc, office, text_or_none(ids), *first, layers)
         }
         GeographicAsk::Office(_, rounded) => office_of_text(alloc, office, *rounded, layers),
         GeographicAsk::AcceptedOffice(_, rounded) => {

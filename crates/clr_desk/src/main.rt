@@ -28,13 +28,20 @@
 //!   `geojson` the features of a plan, with the plan's status, and of `layer` the layer of a table; of `office` the text of the office whose LIVE
 //!   has the rows of layers, of `design` that of the office with one more design that has them, or with one that is brought again, or the script
 //!   that does so, of `designs` that of the office with several, or why there is none, and of `cut` that of a cut with the rows of layers
-//!   (`IsGeographicAnswer`); of `accept` the text of the same office with just its broken needs as known, of `mended` the known needs that aren't
+//!   (`IsGeographicAnswer`); of `plan` the lines of the plan, with its status (`ArePlanLines`); with `--json` one value of what the same subcommand tells, with
+//!   the same status (`IsJsonAnswer`); of `accept` the text of the same office with just its broken needs as known, of `mended` the known needs that aren't
 //!   broken any more, and of `errors` the broken needs of LIVE, whether known or not, with status 0 only where all are known; of `edits` the edits that
 //!   take LIVE of one office to LIVE of another, as CSV or as a transaction in SQL, and of `propose` SQL that proposes a cut (`IsDatabaseAnswer`).
-//! - `fault_place`, `take_layers`, `faults_of_layers`, `degrees_of_layers` and `split_given` of `clr_desk_faults` say what is wrong with texts and layers,
-//!   and where. That the layer without the records that `split_given` skips is given to `answer`, and the text of those goes into the file, no contract says.
+//! - `fault_place`, `take_layers`, `faults_of_layers`, `degrees_of_layers`, `split_given`, `id_fault_place`, `growth_fault_place` and
+//!   `faults_of_keyed_layers` of `clr_desk_faults` say what is wrong with texts, layers and ids, and where. That the layer without the records that
+//!   `split_given` skips is given to `answer`, and the text of those goes into the file, no contract says.
+//! - `layers_with_keys` of `clr_desk_ids` gives layers in which ids stand for keys their keys, by a book of ids. Where a book is given, a layer, edits and
+//!   features that are printed name rows by its ids (`IsNamed`).
 //! - `texts_have_one_answer` [`answer`]: memory aside, what is asked has one answer alone, but for what the definitions of clashes, of orders, of faults,
 //!   and of sentences, pictures, pages, features, layers and errors leave open.
+//! - `clr_desk_nights: night`, of `night`: what goes into the files of a folder, and the notes and the line, are what `IsNight` of that crate says.
+//!   `run_night` writes them, and the points below don't speak of it.
+//! - `answer_cut_out`, of `cut --whole`: what is printed is what `IsCutOut` of `clr_table_cuts` says; it goes out by two puts, of which no contract says more.
 //! - `answer_reach`, of `reach`: what goes to both sinks is what `IsReachAnswer` of `clr_desk_cuts` says. It is written as the table is read, so the
 //!   two points below don't speak of it.
 //! - [`silent`]: with status 3 nothing went to the sink of the text.
@@ -48,17 +55,27 @@ mod databases;
 mod designs_over;
 mod geographic;
 mod laws;
+mod named_rows;
 mod skipped_files;
+mod whole_cuts;
 
 use crate::answers::answer;
 use crate::skipped_files::{begin_file, drop_file, end_file};
-use clr_design_folders::{FolderDesigns, FolderFault, read_designs, unfit_remark};
-use clr_desk_command_line::{AskFault, Asked, DeskAsk, GeographicAsk, ReachAsk, ask_of};
+use crate::whole_cuts::{closed_file, put_print, whole_cut};
+use clr_design_folders::{
+    FolderDesigns, FolderFault, read_designs, read_readable_designs, unfit_remark,
+};
+use clr_desk_command_line::{
+    AskFault, Asked, DeskAsk, GeographicAsk, NightAsk, ReachAsk, WholeCutAsk, ask_of, ids_file,
+};
 use clr_desk_cuts::{Aim, LayerSource, ReachOptions, answer_reach};
 use clr_desk_faults::{
-    SplitLayer, degrees_of_layers, fault_place, faults_of_layers, split_given, take_layers,
+    SplitLayer, degrees_of_layers, fault_place, faults_of_keyed_layers, faults_of_layers,
+    growth_fault_place, id_fault_place, split_given, take_layers,
 };
+use clr_desk_ids::layers_with_keys;
 use clr_desk_layers::GivenLayer;
+use clr_night_folders::run_night;
 use clr_office::{Port, RunFault, Sink, Words};
 use clr_process_io::{
     BAD_WORDS, end_run, file_name, print_fault, print_parser_message, put_input_remark, read_files,
@@ -107,33 +124,75 @@ fn print_remarks(rt: &HostRuntime, lines: Result<Vec<u8>, AllocError>) {
     }
 }
 
-/// Prints remarks on layers on standard error: what is wrong with them, behind the line of the first fault, where this is the status; and which of them
-/// look like degrees. Where no memory is found for it, the line stands alone.
-fn print_layer_remarks(
-    rt: &HostRuntime,
-    ask: &DeskAsk,
-    files: &[Words],
-    office: &[u8],
-    layers: &[GivenLayer],
-    status: u8,
-) {
-    if layers.is_empty() || matches!(ask, DeskAsk::WhyLayers(_)) {
-        return;
-    }
-    if status == UNREADABLE {
-        print_remarks(rt, faults_of_layers(rt.alloc(), ask, files, office, layers));
-    }
-    print_remarks(rt, degrees_of_layers(rt.alloc(), ask, files, layers));
+/// A file of a book of ids: its name, and its text.
+#[derive(Drop)]
+struct IdsFile<'a> {
+    name: &'a str,
+    text: Vec<u8>,
 }
 
-/// What the words name: the names of files, the texts of the first two, and the layers and the designs of others.
+/// What the words name: the names of files, the texts of the first two, the layers and the designs of others, and a book of ids, if one is given.
 #[derive(Drop)]
 struct Given<'a> {
     files: &'a [Words],
     office: &'a [u8],
     second: &'a [u8],
+    /// The layers as they were given.
     layers: &'a [GivenLayer],
+    /// The layers with the keys by which they are read, where they have ids.
+    keyed: Option<&'a [GivenLayer]>,
     folder: &'a FolderDesigns,
+    ids: Option<&'a IdsFile<'a>>,
+}
+
+/// Returns where the fault of a book of ids is, or that of the ids of layers; or nothing where there is none.
+fn fault_of_ids(
+    rt: &HostRuntime,
+    ask: &DeskAsk,
+    given: &Given<'_>,
+    ids: &IdsFile<'_>,
+) -> Result<Vec<u8>, AllocError> {
+    let (files, layers, text) = (given.files, given.layers, ids.text.as_slice());
+    match ask {
+        DeskAsk::Geographic(GeographicAsk::Ids(_, first)) => growth_fault_place(
+            rt.alloc(),
+            *first,
+            files,
+            given.office,
+            ids.name,
+            text,
+            layers,
+        ),
+        _ => id_fault_place(rt.alloc(), ask, files, ids.name, text, layers),
+    }
+}
+
+/// Returns what is wrong with a book of ids or with the layers that are given.
+fn faults_of(rt: &HostRuntime, ask: &DeskAsk, given: &Given<'_>) -> Result<Vec<u8>, AllocError> {
+    let (files, office, layers) = (given.files, given.office, given.layers);
+    match (given.keyed, given.ids) {
+        (Some(keyed), _) => faults_of_keyed_layers(rt.alloc(), ask, files, office, layers, keyed),
+        (None, Some(ids)) => fault_of_ids(rt, ask, given, ids),
+        (None, None) if layers.is_empty() => Ok(Vec::new(rt.alloc())),
+        (None, None) => faults_of_layers(rt.alloc(), ask, files, office, layers),
+    }
+}
+
+/// Prints remarks on layers and ids on standard error: what is wrong with them, behind the line of the first fault, where this is the status; and which
+/// layers look like degrees. Where no memory is found for it, the line stands alone.
+fn print_layer_remarks(rt: &HostRuntime, ask: &DeskAsk, given: &Given<'_>, status: u8) {
+    if matches!(ask, DeskAsk::WhyLayers(_)) {
+        return;
+    }
+    if status == UNREADABLE {
+        print_remarks(rt, faults_of(rt, ask, given));
+    }
+    if !given.layers.is_empty() {
+        print_remarks(
+            rt,
+            degrees_of_layers(rt.alloc(), ask, given.files, given.layers),
+        );
+    }
 }
 
 /// Returns the designs of the folder that is asked for, or none where no folder is.
@@ -166,11 +225,19 @@ fn refuse_folder(rt: &HostRuntime, fault: FolderFault) -> u8 {
 
 /// Prints remarks on the layers that are given, and on those of each design.
 fn print_all_remarks(rt: &HostRuntime, ask: &DeskAsk, given: &Given<'_>, status: u8) {
-    print_layer_remarks(rt, ask, given.files, given.office, given.layers, status);
+    print_layer_remarks(rt, ask, given, status);
     let folder = given.folder;
     for (design, names) in folder.designs.iter().zip(folder.files.iter()) {
-        let layers = design.layers.as_slice();
-        print_layer_remarks(rt, ask, names.as_slice(), given.office, layers, status);
+        let of_design = Given {
+            files: names.as_slice(),
+            office: given.office,
+            second: given.second,
+            layers: design.layers.as_slice(),
+            keyed: None,
+            folder,
+            ids: None,
+        };
+        print_layer_remarks(rt, ask, &of_design, status);
     }
 }
 
@@ -222,6 +289,27 @@ fn answer_stream(rt: &HostRuntime, ask: &ReachAsk, files: &[Words]) -> Result<u8
     Ok(end_answer(rt, ended, is_closed, files, office, &[]))
 }
 
+/// Makes the cut of an office text out of the files of tables behind its own, and gives the exit status.
+fn answer_whole_cut(rt: &HostRuntime, ask: &WholeCutAsk, files: &[Words]) -> Result<u8, RunFault> {
+    let own = files.split_at(files.len().min(1)).0;
+    let texts = match read_files(rt, own) {
+        Ok(texts) => texts,
+        Err(refused) => return Ok(refuse_file(rt, file_name(own, refused.file), refused.fault)),
+    };
+    if let Some(refused) = closed_file(rt, files) {
+        return Ok(refuse_file(rt, file_name(files, refused.file), refused.fault));
+    }
+    let office = text_at(&texts, 0);
+    let mut writer = Port::new(rt.stdout());
+    let mut notes = Screen::new(rt.alloc(), Port::new(rt.stderr()), true);
+    let ended = match whole_cut(rt, ask, office, files) {
+        Ok(print) => put_print(&print, &mut writer, &mut notes),
+        Err(fault) => Err(fault),
+    };
+    let is_closed = writer.is_closed() || notes.below().is_closed();
+    Ok(end_answer(rt, ended, is_closed, files, office, &[]))
+}
+
 /// Answers what is asked of texts, layers and designs, and gives the exit status. What is said of layers as texts is said of those that were given.
 fn answer_texts(rt: &HostRuntime, ask: &DeskAsk, given: &Given<'_>, layers: &[GivenLayer]) -> u8 {
     let is_read = matches!(
@@ -235,6 +323,7 @@ fn answer_texts(rt: &HostRuntime, ask: &DeskAsk, given: &Given<'_>, layers: &[Gi
         ask,
         given.office,
         given.second,
+        given.ids.map(|ids| ids.text.as_slice()),
         layers,
         given.folder.designs.as_slice(),
         &mut writer,
@@ -305,11 +394,70 @@ fn answer_given(rt: &HostRuntime, ask: &DeskAsk, given: &Given<'_>) -> Result<u8
     Ok(answer_texts(rt, ask, given, given.layers))
 }
 
-/// Answers what the words ask of files, and gives the exit status.
-fn answer_files(rt: &HostRuntime, ask: &DeskAsk, files: &[Words]) -> Result<u8, RunFault> {
+/// Answers what is asked of what the words name, in which layers have ids of a book, and gives the exit status. Where the book gives them no keys, prints
+/// the line that says why, and where that is.
+fn answer_by_keys(
+    rt: &HostRuntime,
+    ask: &DeskAsk,
+    given: &Given<'_>,
+    ids: &IdsFile<'_>,
+) -> Result<u8, RunFault> {
+    match layers_with_keys(rt.alloc(), ids.text.as_slice(), given.layers)? {
+        Ok(keyed) => {
+            let keyed = keyed.as_slice();
+            let with_keys = Given {
+                files: given.files,
+                office: given.office,
+                second: given.second,
+                layers: given.layers,
+                keyed: Some(keyed),
+                folder: given.folder,
+                ids: given.ids,
+            };
+            Ok(answer_texts(rt, ask, &with_keys, keyed))
+        }
+        Err(print) => {
+            let status = print.status();
+            print_remarks(rt, Ok(print.notes));
+            print_remarks(rt, fault_of_ids(rt, ask, given, ids));
+            Ok(status)
+        }
+    }
+}
+
+/// Answers what is asked of what the words name, and gives the exit status. Layers have ids where a book of them is given, unless it is the book that gets
+/// theirs.
+fn answer_named(rt: &HostRuntime, ask: &DeskAsk, given: &Given<'_>) -> Result<u8, RunFault> {
+    match (ask, given.ids) {
+        (DeskAsk::Geographic(GeographicAsk::Ids(..)), _) => answer_given(rt, ask, given),
+        (_, Some(ids)) if !given.layers.is_empty() => answer_by_keys(rt, ask, given, ids),
+        _ => answer_given(rt, ask, given),
+    }
+}
+
+/// Reads the file of a book of ids, if one is named. Where it can't be read, prints the line that says so, and gives the exit status instead.
+fn read_ids<'a>(rt: &HostRuntime, names: &'a [Words]) -> Result<Option<IdsFile<'a>>, u8> {
+    let name = file_name(names, 0);
+    match read_files(rt, names) {
+        Ok(mut texts) => Ok(texts.pop().map(|text| IdsFile { name, text })),
+        Err(refused) => Err(refuse_file(rt, name, refused.fault)),
+    }
+}
+
+/// Answers what the words ask of files, and gives the exit status. Rows have ids of a book where the name of its file is given.
+fn answer_files(
+    rt: &HostRuntime,
+    ask: &DeskAsk,
+    files: &[Words],
+    ids: &[Words],
+) -> Result<u8, RunFault> {
     let mut texts = match read_files(rt, files) {
         Ok(texts) => texts,
         Err(refused) => return Ok(refuse_file(rt, file_name(files, refused.file), refused.fault)),
+    };
+    let ids = match read_ids(rt, ids) {
+        Ok(ids) => ids,
+        Err(status) => return Ok(status),
     };
     let layers = take_layers(rt.alloc(), ask, &mut texts)?;
     let folder = match designs_asked(rt, ask, files) {
@@ -321,9 +469,29 @@ fn answer_files(rt: &HostRuntime, ask: &DeskAsk, files: &[Words]) -> Result<u8, 
         office: text_at(&texts, 0),
         second: text_at(&texts, 1),
         layers: layers.as_slice(),
+        keyed: None,
         folder: &folder,
+        ids: ids.as_ref(),
     };
-    answer_given(rt, ask, &given)
+    answer_named(rt, ask, &given)
+}
+
+/// Does a night's work over files and a folder, and gives the exit status.
+fn answer_night(rt: &HostRuntime, ask: &NightAsk, files: &[Words]) -> Result<u8, RunFault> {
+    let texts = match read_files(rt, files) {
+        Ok(texts) => texts,
+        Err(refused) => return Ok(refuse_file(rt, file_name(files, refused.file), refused.fault)),
+    };
+    let read = match read_readable_designs(rt, ask.designs.folder.as_str()) {
+        Ok(read) => read,
+        Err(fault) => return Ok(refuse_folder(rt, fault)),
+    };
+    let (office, second) = (text_at(&texts, 0), text_at(&texts, 1));
+    let copied = if files.len() > 1 { Some(second) } else { None };
+    match run_night(rt, ask, office, copied, &read) {
+        Ok(status) => Ok(status),
+        Err(fault) => Ok(refuse_texts(rt, fault, files, office, second)),
+    }
 }
 
 /// Prints what the parser of the command line says, and behind a version from what the program was built; and gives the exit status.
@@ -335,17 +503,34 @@ fn print_message(rt: &HostRuntime, error: &clap::Error) -> u8 {
     status
 }
 
+/// What is asked, the files, and the file of a book of ids, if one is given.
+type AskedAndFiles = (Asked, Vec<Words>, Vec<Words>);
+
+/// Returns what the words ask for.
+fn asked_by(rt: &HostRuntime, texts: &[&str]) -> Result<AskedAndFiles, AskFault> {
+    let (asked, files) = ask_of(rt.alloc(), texts)?;
+    let mut ids = Vec::new(rt.alloc());
+    if let Some(name) = ids_file(rt.alloc(), texts)? {
+        ids.push(name)?;
+    }
+    Ok((asked, files, ids))
+}
+
 /// Does what the words ask for, and gives the exit status.
 fn run_words(rt: &HostRuntime, words: &[String]) -> Result<u8, RunFault> {
     let texts = texts_of_words(rt, words)?;
-    let (asked, files) = match ask_of(rt.alloc(), texts.as_slice()) {
-        Ok(found) => found,
-        Err(AskFault::Refused(error)) => return Ok(print_message(rt, &error)),
-        Err(AskFault::OutOfMemory) => return Err(RunFault::OutOfMemory),
-    };
-    match asked {
-        Asked::OfTexts(ask) => answer_files(rt, &ask, files.as_slice()),
-        Asked::Reach(ask) => answer_stream(rt, &ask, files.as_slice()),
+    match asked_by(rt, texts.as_slice()) {
+        Ok((Asked::OfTexts(ask), files, ids)) => answer_files(
+            rt,
+            &ask,
+            files.as_slice(),
+            ids.as_slice(),
+        ),
+        Ok((Asked::WholeCut(ask), files, _)) => answer_whole_cut(rt, &ask, files.as_slice()),
+        Ok((Asked::Reach(ask), files, _)) => answer_stream(rt, &ask, files.as_slice()),
+        Ok((Asked::Night(ask), files, _)) => answer_night(rt, &ask, files.as_slice()),
+        Err(AskFault::Refused(error)) => Ok(print_message(rt, &error)),
+        Err(AskFault::OutOfMemory) => Err(RunFault::OutOfMemory),
     }
 }
 

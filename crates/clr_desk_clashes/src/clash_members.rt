@@ -57,7 +57,7 @@ fn free_positions(
 }
 
 /// Returns the members that are in no set.
-pub(crate) fn in_no_set<'a>(
+pub fn in_no_set<'a>(
     alloc: Global,
     members: &[&'a str],
     clashes: &[MergeClash],

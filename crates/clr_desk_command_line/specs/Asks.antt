@@ -1,5 +1,5 @@
 -- What a subcommand and its values ask for.
-use Rattle.std.specs.Prelude.{ℕ, ◌==◌, ◌||◌, not, Bool, true, false, List, [], ◌∷◌, ◌++◌, map, codes, Option, Some, None, if◌then◌else◌, is_some}
+use Rattle.std.specs.Prelude.{ℕ, ◌==◌, ◌&&◌, ◌||◌, not, Bool, true, false, List, [], ◌∷◌, ◌++◌, map, codes, Option, Some, None, if◌then◌else◌, is_some}
 use Rattle.std.specs.Prelude.{length, option_and_then, option_map, unwrap_or, unsigned_abs}
 use Rattle.std.specs.List.{after_first, before_first, list_all, list_any}
 use Rattle.std.specs.Option.{option_map_or}
@@ -10,19 +10,21 @@ use Rattle.clr_rows.specs.Schemas.{is_key}
 use Rattle.clr_records.specs.Decimals.{number_of}
 use Rattle.clr_command_line.specs.Asks.{database_and, database_of, given_names, given_value, is_set}
 use Rattle.clr_desk_command_line.specs.declared.asks.Asked.{Asked}
-use Rattle.clr_desk_command_line.specs.declared.asks.Asked.TheVariants.{OfTexts, Reach}
+use Rattle.clr_desk_command_line.specs.declared.asks.Asked.TheVariants.{Night, OfTexts, Reach, WholeCut}
 use Rattle.clr_desk_command_line.specs.declared.asks.DeskAsk.{DeskAsk}
 use Rattle.clr_desk_command_line.specs.declared.asks.DeskAsk.TheVariants.{Certificate, Check, Merge, Format, Accept, Mended, Errors, Keep, Clashes, Why}
-use Rattle.clr_desk_command_line.specs.declared.asks.DeskAsk.TheVariants.{Board, Database, Geographic, InOrder, Map, Report, Skipping, WhyLayers, WorkOrder}
+use Rattle.clr_desk_command_line.specs.declared.asks.DeskAsk.TheVariants.{Board, Database, Geographic, InOrder, Json, Map, Plan, Report, Skipping}
+use Rattle.clr_desk_command_line.specs.declared.asks.DeskAsk.TheVariants.{WhyLayers, WorkOrder}
 use Rattle.clr_desk_command_line.specs.declared.asks.DatabaseAsk.{DatabaseAsk}
 use Rattle.clr_desk_command_line.specs.declared.asks.DesignAsk.{DesignAsk}
 use Rattle.clr_desk_command_line.specs.declared.asks.DesignsAsk.{DesignsAsk}
 use Rattle.clr_desk_command_line.specs.declared.asks.GeographicAsk.{GeographicAsk}
 use Rattle.clr_desk_command_line.specs.declared.asks.GeographicAsk.TheVariants.{Features, Layer, Office, AcceptedOffice, ErrorFeatures}
-use Rattle.clr_desk_command_line.specs.declared.asks.GeographicAsk.TheVariants.{Cut, Design, DesignSince, DesignScript}
+use Rattle.clr_desk_command_line.specs.declared.asks.GeographicAsk.TheVariants.{Cut, Design, DesignSince, DesignScript, Ids}
 use Rattle.clr_desk_command_line.specs.declared.asks.GeographicAsk.TheVariants.{DesignAgain, DesignAnew, DesignAgainScript, Designs, DesignsSince}
-use Rattle.clr_desk_command_line.specs.declared.asks.OrderAsk.{OrderAsk}
+use Rattle.clr_desk_command_line.specs.declared.asks.JsonAsk.TheVariants as json
 use Rattle.clr_desk_command_line.specs.declared.asks.OrderAsk.TheVariants as order
+use Rattle.clr_desk_command_line.specs.declared.asks.SourceAsk.{SourceAsk}
 use Rattle.clr_desk_command_line.specs.declared.asks.TextKind.TheVariants as kind
 use Rattle.clr_desk_command_line.specs.Databases.{database_asked}
 
@@ -55,36 +57,70 @@ abbrev pub certificate_ask : (is_in_order : Bool) → Text → List Text → Des
 certificate_ask true root names = InOrder order.Certificate root names
 certificate_ask false root names = Certificate root names
 
--- what `keep` asks for, in the order of the names or in every order
-abbrev pub keep_ask : (is_in_order : Bool) → Text → List Text → DeskAsk
-keep_ask true root names = InOrder order.Keep root names
-keep_ask false root names = Keep root names
+-- what `keep` asks for, in the order of the names or in every order; the choice in the order of the names isn't printed as JSON
+abbrev pub keep_ask : (is_in_order is_json : Bool) → Text → List Text → Option DeskAsk
+keep_ask true true root names = None
+keep_ask true false root names = Some (InOrder order.Keep root names)
+keep_ask false true root names = Some (Json (json.Keep root names))
+keep_ask false false root names = Some (Keep root names)
 
--- what `order` asks for: an order, or its certificate
-abbrev pub order_ask : (is_certificate : Bool) → OrderAsk
-order_ask true = order.OrderCertificate
-order_ask false = order.Order
+-- what `order` asks for: an order, or its certificate, which isn't printed as JSON
+abbrev pub order_ask : (is_certificate is_json : Bool) → Text → List Text → Option DeskAsk
+order_ask true true root names = None
+order_ask true false root names = Some (InOrder order.OrderCertificate root names)
+order_ask false true root names = Some (Json (json.Order root names))
+order_ask false false root names = Some (InOrder order.Order root names)
 
--- the plan of members of a root in words, as a picture or as a page, or how they all stand
-unfoldable pub pictures_ask : Text → Text → List Text → Option DeskAsk
-pictures_ask name root names =
-    if bytes_eq name (codes "words") then Some (WorkOrder root names)
+-- the plan of members of a root, in lines or as JSON
+abbrev pub plan_ask : (is_json : Bool) → Text → List Text → DeskAsk
+plan_ask true root names = Json (json.Plan root names)
+plan_ask false root names = Plan root names
+
+abbrev pub clashes_ask : (is_json : Bool) → Text → List Text → DeskAsk
+clashes_ask true root names = Json (json.Clashes root names)
+clashes_ask false root names = Clashes root names
+
+abbrev pub words_ask : (is_json : Bool) → Text → List Text → DeskAsk
+words_ask true root names = Json (json.WorkOrder root names)
+words_ask false root names = WorkOrder root names
+
+abbrev pub board_ask : (is_json : Bool) → Text → List Text → DeskAsk
+board_ask true root names = Json (json.Board root names)
+board_ask false root names = Board root names
+
+abbrev pub check_ask : (is_json : Bool) → DeskAsk
+check_ask true = Json json.Check
+check_ask false = Check
+
+-- the answer is to be JSON
+abbrev pub is_json : List Row → Bool
+is_json rows = is_set (codes "json") rows
+
+-- what a report says of its data
+abbrev pub source_of : List Row → SourceAsk
+source_of rows = record { as_of = first_of (codes "as-of") rows; file = given_or [] (codes "DB") rows }
+
+-- the plan of members of a root in words, as a picture or as a page that says this of its data, or how they all stand
+unfoldable pub pictures_ask : Text → List Row → SourceAsk → Text → List Text → Option DeskAsk
+pictures_ask name rows source root names =
+    if bytes_eq name (codes "words") then Some (words_ask (is_json rows) root names)
     else (if bytes_eq name (codes "map") then Some (Map root names)
-    else (if bytes_eq name (codes "report") then Some (Report root names)
-    else (if bytes_eq name (codes "board") then Some (Board root names)
+    else (if bytes_eq name (codes "report") then Some (Report root names source)
+    else (if bytes_eq name (codes "board") then Some (board_ask (is_json rows) root names)
     else None)))
 
 -- what is asked of members of a root
-unfoldable pub members_ask : Text → List Row → Text → List Text → Option DeskAsk
-members_ask name rows root names =
+unfoldable pub members_ask : Text → List Row → SourceAsk → Text → List Text → Option DeskAsk
+members_ask name rows source root names =
     if bytes_eq name (codes "certificate") then Some (certificate_ask (is_set (codes "in-order") rows) root names)
-    else (if bytes_eq name (codes "keep") then Some (keep_ask (is_set (codes "in-order") rows) root names)
-    else (if bytes_eq name (codes "clashes") then Some (Clashes root names)
-    else (if bytes_eq name (codes "order") then Some (InOrder (order_ask (is_set (codes "certificate") rows)) root names)
-    else pictures_ask name root names)))
+    else (if bytes_eq name (codes "plan") then Some (plan_ask (is_json rows) root names)
+    else (if bytes_eq name (codes "keep") then keep_ask (is_set (codes "in-order") rows) (is_json rows) root names
+    else (if bytes_eq name (codes "clashes") then Some (clashes_ask (is_json rows) root names)
+    else (if bytes_eq name (codes "order") then order_ask (is_set (codes "certificate") rows) (is_json rows) root names
+    else pictures_ask name rows source root names))))
 
 abbrev pub members_asked : Text → List Row → Option (DeskAsk × List Text)
-members_asked name rows = option_map (λ asked. (asked, database_of rows)) (members_ask name rows (given_root rows) (given_names rows))
+members_asked name rows = option_map (λ asked. (asked, database_of rows)) (members_ask name rows (source_of rows) (given_root rows) (given_names rows))
 
 abbrev pub merge_ask : List Row → DeskAsk × List Text
 merge_ask rows = (Merge (given_names rows), database_and (codes "CERT") rows)
@@ -149,15 +185,16 @@ office_of false tables rounded = Office tables rounded
 abbrev pub office_with : List Row → List Text × List Text → GeographicAsk × List Text
 office_with rows layers = (office_of (is_set (codes "accept") rows) layers.0 (is_set (codes "round") rows), given_value (codes "SCHEMA") rows ∷ layers.1)
 
--- records may be skipped where there is one layer alone
-abbrev pub can_skip : (is_skipping : Bool) → ℕ → Bool
-can_skip is_skipping count = not is_skipping || count == 1
+-- records may be skipped where there is one layer alone, and it has no ids
+abbrev pub can_skip : (is_skipping has_ids : Bool) → ℕ → Bool
+can_skip is_skipping has_ids count = not is_skipping || (not has_ids && count == 1)
 
 abbrev pub office_of_layers : List Row → List Text × List Text → Option (GeographicAsk × List Text)
 office_of_layers rows layers =
-    if can_skip (is_some (first_of (codes "skip") rows)) (length layers.0) then Some (office_with rows layers) else None
+    if can_skip (is_some (first_of (codes "skip") rows)) (is_some (first_of (codes "ids") rows)) (length layers.0) then Some (office_with rows layers)
+    else None
 
--- what `office` asks for, and its files, if each layer can be read, and records are to be skipped of one alone
+-- what `office` asks for, and its files, if each layer can be read, and records are to be skipped of one alone that has no ids
 abbrev pub office_ask : List Row → Option (GeographicAsk × List Text)
 office_ask rows = option_and_then (office_of_layers rows) (layers_ask rows)
 
@@ -238,14 +275,22 @@ abbrev pub designs_ask : List Row → Option (GeographicAsk × List Text)
 designs_ask rows =
     option_and_then (λ first_key. option_map (λ may_remove. designs_ask_with rows first_key may_remove) (may_remove_of rows)) (first_key_of rows)
 
+-- what is asked of a book of ids whose new ids get keys from this one on, and its files: that of the office, and those of the layers
+abbrev pub ids_ask_from : List Row → ℕ → Option (GeographicAsk × List Text)
+ids_ask_from rows first_key = option_map (λ layers. (Ids layers.0 first_key, database_of rows ++ layers.1)) (layers_ask rows)
+
+abbrev pub ids_ask : List Row → Option (GeographicAsk × List Text)
+ids_ask rows = option_and_then (ids_ask_from rows) (first_key_of rows)
+
 -- what is asked of layers, and the files; or nothing where a layer, a key or a choice can't be read, where the script of a design is asked for that has
--- none, or where records of several layers are to be skipped
+-- none, or where records of several layers, or of one with ids, are to be skipped
 unfoldable pub imports_asked : Text → List Row → Option (GeographicAsk × List Text)
 imports_asked name rows =
     if bytes_eq name (codes "office") then office_ask rows
     else (if bytes_eq name (codes "design") then design_ask rows
     else (if bytes_eq name (codes "designs") then designs_ask rows
-    else None))
+    else (if bytes_eq name (codes "ids") then ids_ask rows
+    else None)))
 
 -- what is asked in the texts of geographic information systems, and the files; or nothing, as with layers
 unfoldable pub geographic_asked : Text → List Row → Option (GeographicAsk × List Text)
@@ -281,7 +326,7 @@ or_others_asked None name rows = or_members_asked (geographic_asked name rows) n
 -- what a subcommand of texts alone asks for, and its files
 unfoldable pub ask_of_texts : Text → List Row → Option (DeskAsk × List Text)
 ask_of_texts name rows =
-    if bytes_eq name (codes "check") then Some (Check, database_and (codes "CERT") rows)
+    if bytes_eq name (codes "check") then Some (check_ask (is_json rows), database_and (codes "CERT") rows)
     else (if bytes_eq name (codes "merge") then Some (merge_ask rows)
     else (if bytes_eq name (codes "errors") then Some (errors_of rows)
     else (if bytes_eq name (codes "why") then why_ask rows
@@ -310,9 +355,42 @@ reach_of rows = (
 abbrev pub of_texts : Option (DeskAsk × List Text) → Option (Asked × List Text)
 of_texts asked = option_map (λ p. (OfTexts p.0, p.1)) asked
 
--- what a subcommand asks for, of texts or of a stream, and its files
+-- the designs of a folder that a night brings, and the new folder; and the files of the offices
+abbrev pub night_of : List Row → ℕ → Bool → Asked × List Text
+night_of rows first_key may_remove =
+    (Night (record { designs = designs_in rows first_key may_remove; out = given_value (codes "OUT") rows }), offices_of_design rows)
+
+-- what `night` asks for, and its files, if the first key and the choice can be read
+abbrev pub night_ask : List Row → Option (Asked × List Text)
+night_ask rows =
+    option_and_then (λ first_key. option_map (λ may_remove. night_of rows first_key may_remove) (may_remove_of rows)) (first_key_of rows)
+
+-- `cut` goes over the files as a whole, for plans or for groups
+abbrev pub is_whole : List Row → Bool
+is_whole rows = is_set (codes "whole") rows || is_set (codes "groups") rows
+
+-- what it asks for then, and its files
+abbrev pub whole_cut_ask : List Row → Option (Asked × List Text)
+whole_cut_ask rows =
+    option_map (λ layers. (
+      WholeCut (record {
+        tables = layers.0;
+        is_for_groups = is_set (codes "groups") rows;
+        is_rounded = is_set (codes "round") rows;
+      }),
+      given_value (codes "OFFICE") rows ∷ layers.1,
+    )) (layers_ask rows)
+
+abbrev pub cut_asked : List Row → Option (Asked × List Text)
+cut_asked rows = if is_whole rows then whole_cut_ask rows else of_texts (ask_by_name (codes "cut") rows)
+
+-- what a subcommand asks for, of texts, of files of tables, of a stream or of a folder, and its files
 unfoldable pub asked_by_name : Text → List Row → Option (Asked × List Text)
-asked_by_name name rows = if bytes_eq name (codes "reach") then Some (reach_of rows) else of_texts (ask_by_name name rows)
+asked_by_name name rows =
+    if bytes_eq name (codes "reach") then Some (reach_of rows)
+    else (if bytes_eq name (codes "night") then night_ask rows
+    else (if bytes_eq name (codes "cut") then cut_asked rows
+    else of_texts (ask_by_name name rows)))
 
 -- what the subcommand that words name asks for, if they name one
 abbrev pub ask_of : Option (Text × List Row) → Option (Asked × List Text)
@@ -322,13 +400,31 @@ ask_of found = option_and_then (λ p. asked_by_name p.0 p.1) found
 abbrev pub reads_layers : Text → Bool
 reads_layers name =
     (bytes_eq name (codes "office") || bytes_eq name (codes "design"))
-    || (bytes_eq name (codes "designs") || (bytes_eq name (codes "why") || bytes_eq name (codes "cut")))
+    || (bytes_eq name (codes "designs") || (bytes_eq name (codes "ids")
+    || (bytes_eq name (codes "why") || (bytes_eq name (codes "cut") || bytes_eq name (codes "night")))))
 
--- a subcommand reads more of its values than clap does: it reads layers, or the dialect and the origin of a database
+-- a subcommand has two options that can't be asked for together
+abbrev pub has_choice : Text → Bool
+has_choice name = bytes_eq name (codes "keep") || bytes_eq name (codes "order")
+
+-- a subcommand reads more of its values than clap does: it reads layers, or the dialect and the origin of a database, or has such options
 abbrev pub reads_values : Text → Bool
-reads_values name = reads_layers name || (bytes_eq name (codes "edits") || bytes_eq name (codes "propose"))
+reads_values name = reads_layers name || (has_choice name || (bytes_eq name (codes "edits") || bytes_eq name (codes "propose")))
 
--- where a subcommand does, each layer, the first key, the choice, the dialect and the origin can be read, no script is asked for where there is none, and
--- records are to be skipped of one layer alone
+-- where a subcommand does, each layer, the first key, the choice, the dialect and the origin can be read, no script is asked for where there is none,
+-- records are to be skipped of one layer alone that has no ids, ids aren't asked for in SQL, and JSON isn't asked for where there is none
 abbrev pub is_readable : Option (Text × List Row) → Bool
 is_readable found = option_map_or (λ p. not (reads_values p.0) || is_some (asked_by_name p.0 p.1)) found true
+
+-- the book of ids ----------------------------------------------------------------------------------------
+
+-- the file of the book of ids that words name, if they do: `ids` has it as a value, and other subcommands have an option for it
+abbrev pub value_or_option : Option Text → Option Text → Option Text
+value_or_option (Some file) option = Some file
+value_or_option None option = option
+
+abbrev pub ids_in : List Row → Option Text
+ids_in rows = value_or_option (first_of (codes "IDS") rows) (first_of (codes "ids") rows)
+
+abbrev pub ids_given : Option (Text × List Row) → Option Text
+ids_given found = option_and_then (λ p. ids_in p.1) found

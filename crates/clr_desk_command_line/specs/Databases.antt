@@ -1,6 +1,6 @@
 -- What is asked for a database, and its files.
-use Rattle.std.specs.Prelude.{ℕ, ℤ, pos, ◌*ℤ◌, ◌==◌, Bool, List, [], ◌∷◌, codes, nat_le}
-use Rattle.std.specs.Prelude.{Option, Some, None, if◌then◌else◌, option_and_then, option_map, unsigned_abs}
+use Rattle.std.specs.Prelude.{ℕ, ℤ, pos, ◌*ℤ◌, ◌==◌, ◌&&◌, Bool, List, [], ◌∷◌, codes, nat_le, Option, Some, None, is_some, if◌then◌else◌}
+use Rattle.std.specs.Prelude.{option_and_then, option_map, unsigned_abs}
 use Rattle.std.specs.List.{after_first, before_first, list_any}
 use Rattle.std.specs.Option.{option_map_or}
 use Rattle.std.specs.Str.{bytes_eq}
@@ -68,15 +68,20 @@ proposed_files rows = given_value (codes "OFFICE") rows ∷ []
 abbrev pub edited_files : List Row → List Text
 edited_files rows = given_value (codes "OLD") rows ∷ given_value (codes "NEW") rows ∷ []
 
+-- SQL has keys, and no ids
+abbrev pub has_ids_in_sql : List Row → Bool
+has_ids_in_sql rows = is_some (first_of (codes "sql") rows) && is_some (first_of (codes "ids") rows)
+
 -- what `edits` asks for, and its files
 abbrev pub edits_of : List Row → Option (DatabaseAsk × List Text)
-edits_of rows = option_map (λ ask. (ask, edited_files rows)) (edits_ask rows)
+edits_of rows = if has_ids_in_sql rows then None else option_map (λ ask. (ask, edited_files rows)) (edits_ask rows)
 
 -- what `propose` asks for, and its file
 abbrev pub proposal_of : List Row → Option (DatabaseAsk × List Text)
 proposal_of rows = option_map (λ ask. (ask, proposed_files rows)) (proposal_ask rows)
 
--- what is asked for a database by a subcommand of a name, and the files; or nothing where it is none, or where a dialect or an origin can't be read
+-- what is asked for a database by a subcommand of a name, and the files; or nothing where it is none, or where a dialect or an origin can't be read, or ids are
+-- asked for in SQL
 unfoldable pub database_asked : Text → List Row → Option (DatabaseAsk × List Text)
 database_asked name rows =
     if bytes_eq name (codes "edits") then edits_of rows

@@ -62,6 +62,8 @@ pub enum GeographicAsk {
     Office(Names, bool),
     /// The same office with its errors accepted.
     AcceptedOffice(Names, bool),
+    /// The book of ids with the ids of layers too: the tables of the layers, in the order of their files, and the least key that a new id gets.
+    Ids(Names, u64),
     /// The errors of LIVE as features of a map: the name of the reference system of their coordinates, as it was given.
     ErrorFeatures(Option<Words>),
     /// The office with one more design.
@@ -98,9 +100,33 @@ pub enum OrderAsk {
     Keep,
 }
 
+/// What a report says of its data.
+#[derive(Debug, Drop)]
+pub struct SourceAsk {
+    /// Of when they are, as it was given.
+    pub as_of: Option<Words>,
+    /// The name of the file of the office text.
+    pub file: Words,
+}
+
+/// What is asked for as JSON. Each is what the subcommand of that name prints without `--json`: of children of a root, which are the root and the children,
+/// or none for all, or of a certificate, which is the second text.
+#[derive(Debug, Drop)]
+pub enum JsonAsk {
+    Plan(Words, Names),
+    Check,
+    Keep(Words, Names),
+    Clashes(Words, Names),
+    Order(Words, Names),
+    WorkOrder(Words, Names),
+    Board(Words, Names),
+}
+
 /// What is asked of an office text, and of further texts where there are some.
 #[derive(Debug, Drop)]
 pub enum DeskAsk {
+    /// The lines of the plan of these children of a root: the root, and the children, or none for all.
+    Plan(Words, Names),
     /// The certificate of these children of a root, alone: the root, and the children, or none for all.
     Certificate(Words, Names),
     /// The verdict on a certificate; the second text is the certificate.
@@ -132,8 +158,8 @@ pub enum DeskAsk {
     WorkOrder(Words, Names),
     /// The plan of these children of a root as a picture: the root, and the children, or none for all.
     Map(Words, Names),
-    /// The plan of these children of a root as a page with its picture: the root, and the children, or none for all.
-    Report(Words, Names),
+    /// The plan of these children of a root as a page with its picture: the root, and the children, or none for all, and what the page says of its data.
+    Report(Words, Names, SourceAsk),
     /// These children of a root, each with how it stands to the others, on one page: the root, and the children, or none for all.
     Board(Words, Names),
     /// What is asked in the texts of geographic information systems.
@@ -142,6 +168,8 @@ pub enum DeskAsk {
     Skipping(GeographicAsk, Words),
     /// What is asked for a database.
     Database(DatabaseAsk),
+    /// What is asked for as JSON.
+    Json(JsonAsk),
 }
 
 /// SQL for a database.
@@ -177,10 +205,33 @@ pub struct ReachAsk {
     pub is_rounded: bool,
 }
 
-/// What is asked: of texts alone, or of an office text and a stream.
+/// The designs of a folder, which are brought, planned and told in a new folder.
+#[derive(Debug, Drop)]
+pub struct NightAsk {
+    pub designs: DesignsAsk,
+    /// The name of the new folder.
+    pub out: Words,
+}
+
+/// A cut out of tables, each in a file of any size.
+#[derive(Debug, Drop)]
+pub struct WholeCutAsk {
+    /// The tables, in the order of their files.
+    pub tables: Names,
+    /// Whether the cut is to have what ties designs to one another, too.
+    pub is_for_groups: bool,
+    /// Whether coordinates finer than a millimetre are rounded.
+    pub is_rounded: bool,
+}
+
+/// What is asked: of texts alone, of an office text and files of tables, of an office text and a stream, or of an office text and a folder.
 #[derive(Debug, Drop)]
 pub enum Asked {
     OfTexts(DeskAsk),
+    /// The cut of the tables that files have, for all designs of the office text.
+    WholeCut(WholeCutAsk),
     /// Which rows of a table, that is read from a stream, a cut lacks; the office text is the cut.
     Reach(ReachAsk),
+    /// What a night does with the designs of a folder; a second office text, if there is one, is that from which their layers were copied.
+    Night(NightAsk),
 }

@@ -7,6 +7,7 @@ ghost use Rattle.clr_desk_command_line.specs.Databases.{
   dialect_in,
   edits_ask,
   edits_of,
+  has_ids_in_sql,
   metres_in,
   origin_of,
   place_in,
@@ -20,7 +21,7 @@ ghost use Rattle.clr_desk_command_line.specs.Databases.{
 
 use crate::asks::{DatabaseAsk, SqlAsk};
 use crate::origins::MOST_ORIGIN_METRES;
-use crate::values::{given_or, given_value};
+use crate::values::{given_or, given_value, has_value};
 use clap::ArgMatches;
 use clr_records::read_number;
 use clr_rows::{Place, Words};
@@ -143,10 +144,20 @@ fn proposal_sql(alloc: Global, matches: &ArgMatches) -> Result<Option<SqlAsk>, A
     }
 }
 
-/// Returns what `edits` asks for, and its files, or nothing where a dialect or an origin can't be read.
+/// Returns whether ids are asked for in SQL, which has keys.
+fn has_ids_in_sql(matches: &ArgMatches) -> bool
+    ensures { result ≡ has_ids_in_sql (rows_of (found_of matches.now)) }
+{
+    has_value(matches, "sql") && has_value(matches, "ids")
+}
+
+/// Returns what `edits` asks for, and its files, or nothing where a dialect or an origin can't be read, or where ids are asked for in SQL.
 fn edits(alloc: Global, matches: &ArgMatches) -> Result<Option<DatabaseAskAndFiles>, AllocError>
     ensures { IfOk result (λ r. edits_of (rows_of (found_of matches.now)) ≡ option_map (λ p. (p.0, p.1.items)) r) }
 {
+    if has_ids_in_sql(matches) {
+        return Ok(None);
+    }
     let Some(ask) = edits_ask(alloc, matches)? else {
         return Ok(None);
     };
@@ -168,8 +179,8 @@ fn proposal(alloc: Global, matches: &ArgMatches) -> Result<Option<DatabaseAskAnd
     Ok(Some((DatabaseAsk::Proposal(sql), files)))
 }
 
-/// Returns what a subcommand for databases asks for, and its files, or nothing where no such subcommand has the name, or where a dialect or an origin
-/// can't be read.
+/// Returns what a subcommand for databases asks for, and its files, or nothing where no such subcommand has the name, or where a dialect or an origin can't be
+/// read, or where ids are asked for in SQL.
 #[tactic(auto, unfolding(crate::specs::Databases::database_asked))]
 pub(crate) fn database_ask(
     alloc: Global,

@@ -12,6 +12,7 @@ ghost use Rattle.clr_desk_command_line.specs.Asks.{
   designs_as,
   designs_ask,
   designs_ask_with,
+  designs_in,
   first_key_of,
   key_in,
   may_remove_of,
@@ -44,7 +45,7 @@ fn key_in(text: &str) -> Option<u64>
 }
 
 /// Returns the key from which on rows get keys, which is 1 where none is given, or nothing where what is given is no key.
-fn first_key(matches: &ArgMatches) -> Option<u64>
+pub(crate) fn first_key(matches: &ArgMatches) -> Option<u64>
     ensures { result ≡ first_key_of (rows_of (found_of matches.now)) }
 {
     match matches.get_str("keys") {
@@ -75,11 +76,11 @@ fn office_of(is_accepted: bool, tables: Names, is_rounded: bool) -> GeographicAs
     }
 }
 
-/// Returns whether records may be skipped of so many layers, if they are to be skipped.
-fn can_skip(is_skipping: bool, count: usize) -> bool
-    ensures { result ≡ can_skip is_skipping count }
+/// Returns whether records may be skipped of so many layers, with ids or without, if they are to be skipped.
+fn can_skip(is_skipping: bool, has_ids: bool, count: usize) -> bool
+    ensures { result ≡ can_skip is_skipping has_ids count }
 {
-    !is_skipping || count == 1
+    !is_skipping || (!has_ids && count == 1)
 }
 
 /// Returns the office that has the rows of layers of these tables in these files, and its files.
@@ -98,7 +99,8 @@ fn office_with(
     Ok((ask, append_files(all, files)?))
 }
 
-/// Returns what `office` asks for, and its files, or nothing where a layer can't be read, or where records of several layers are to be skipped.
+/// Returns what `office` asks for, and its files, or nothing where a layer can't be read, or where records of several layers, or of one with ids, are to be
+/// skipped.
 pub(crate) fn office(
     alloc: Global,
     matches: &ArgMatches,
@@ -108,7 +110,8 @@ pub(crate) fn office(
     let Some((tables, files)) = layers(alloc, matches)? else {
         return Ok(None);
     };
-    if can_skip(has_value(matches, "skip"), tables.len()) {
+    let has_ids = has_value(matches, "ids");
+    if can_skip(has_value(matches, "skip"), has_ids, tables.len()) {
         Ok(Some(office_with(alloc, matches, tables, files)?))
     } else {
         Ok(None)
@@ -143,7 +146,7 @@ fn choice_in(text: &str) -> Option<bool>
 }
 
 /// Returns whether a design may remove rows, which it may where nothing is given, or nothing where what is given is neither yes nor no.
-fn may_remove(matches: &ArgMatches) -> Option<bool>
+pub(crate) fn may_remove(matches: &ArgMatches) -> Option<bool>
     ensures { result ≡ may_remove_of (rows_of (found_of matches.now)) }
 {
     match matches.get_str("removes") {
@@ -174,7 +177,10 @@ fn design_as(
 }
 
 /// Returns the file of the office, and then that of the office from which the layers were copied, if one is given.
-fn offices_of_design(alloc: Global, matches: &ArgMatches) -> Result<Vec<Words>, AllocError>
+pub(crate) fn offices_of_design(
+    alloc: Global,
+    matches: &ArgMatches,
+) -> Result<Vec<Words>, AllocError>
     ensures { IfOk result (λ files. files.items ≡ offices_of_design (rows_of (found_of matches.now))) }
 {
     let mut files = database(alloc, matches)?;
@@ -246,6 +252,23 @@ fn designs_as(has_base: bool, designs: DesignsAsk) -> GeographicAsk
     }
 }
 
+/// Returns the designs of a folder whose rows get keys from this one on.
+pub(crate) fn designs_in(
+    alloc: Global,
+    matches: &ArgMatches,
+    first_key: u64,
+    may_remove: bool,
+) -> Result<DesignsAsk, AllocError>
+    ensures { IfOk result (λ designs. designs ≡ designs_in (rows_of (found_of matches.now)) first_key may_remove) }
+{
+    Ok(DesignsAsk {
+        folder: given_or(alloc, matches, "FOLDER", "")?,
+        first_key,
+        is_rounded: is_set(matches, "round"),
+        may_remove,
+    })
+}
+
 /// Returns what is asked of the designs of a folder whose rows get keys from this one on, and the files of the offices.
 fn designs_with(
     alloc: Global,
@@ -255,12 +278,7 @@ fn designs_with(
 ) -> Result<GeographicAskAndFiles, AllocError>
     ensures { IfOk result (λ r. designs_ask_with (rows_of (found_of matches.now)) first_key may_remove ≡ (r.0, r.1.items)) }
 {
-    let designs = DesignsAsk {
-        folder: given_or(alloc, matches, "FOLDER", "")?,
-        first_key,
-        is_rounded: is_set(matches, "round"),
-        may_remove,
-    };
+    let designs = designs_in(alloc, matches, first_key, may_remove)?;
     let ask = designs_as(has_value(matches, "base"), designs);
     Ok((ask, offices_of_design(alloc, matches)?))
 }

@@ -6,6 +6,7 @@ ghost use Rattle.clr_desk_command_line.specs.Asks.{features_of, geographic_asked
 
 use crate::asks::GeographicAsk;
 use crate::design_reading::{GeographicAskAndFiles, cut, design, designs, office};
+use crate::ids_reading::ids;
 use crate::values::{given_or, given_value, root};
 use clap::ArgMatches;
 use clr_command_line::{database, names};
@@ -51,6 +52,7 @@ fn imports_ask(
         "office" => office(alloc, matches),
         "design" => design(alloc, matches),
         "designs" => designs(alloc, matches),
+        "ids" => ids(alloc, matches),
         _ => Ok(None),
     }
 }

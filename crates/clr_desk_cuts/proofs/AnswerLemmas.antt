@@ -19,7 +19,7 @@ use Rattle.clr_desk_cuts.specs.declared.ends.ReachEnd.TheVariants.{NoTable, Unfi
 use Rattle.clr_desk_cuts.specs.declared.options.ReachOptions.{ReachOptions}
 use Rattle.clr_desk_cuts.specs.Listed.{AreListedIn}
 use Rattle.clr_desk_cuts.specs.Members.{AreTogether, live_set}
-use Rattle.clr_desk_cuts.specs.Reach.{Asked, IsDeviceFault, IsPassedEnd, IsReachAnswer, IsReachEnd, end_line, end_status, is_read_failed}
+use Rattle.clr_desk_cuts.specs.Reach.{Asked, IsDeviceFault, IsHeldAnswer, IsPassedEnd, IsReachEnd, end_line, is_read_failed}
 
 -- a pass over the table of a name
 module _ (o : Office) (listed : Differences) (options : ReachOptions) (table : Name) (members : List Name) (known : Option (List ℕ)) (sinks : Sinks) where
@@ -42,7 +42,7 @@ module _ (o : Office) (listed : Differences) (options : ReachOptions) (table : N
 
 -- the text is no office, or memory ran out
 pub unopened : (text : List ℕ) (options : ReachOptions) (table : Name) (names : List Name) (known : Option (List ℕ)) (sinks : Sinks) (failed : Bool)
-    (e : RunFault) → IsSilent sinks → IsOfficeFault (draft_in text) e → IsReachAnswer text options table names known sinks failed (Err e)
+    (e : RunFault) → IsSilent sinks → IsOfficeFault (draft_in text) e → IsHeldAnswer text options table names known sinks failed (Err e)
 unopened text options table names known sinks failed run_fault.ReadFailed silent why = absurd why
 unopened text options table names known sinks failed run_fault.WriteFailed silent why = absurd why
 unopened text options table names known sinks failed run_fault.TooLong silent why = absurd why
@@ -71,7 +71,7 @@ unless_lost failed (Err e) unfailed lost = subst (λ (f : RunFault). failed ≡ 
 
 -- no end: memory ran out, a read of the source failed, or a sink did
 pub broken_off : (text : List ℕ) (options : ReachOptions) (table : Name) (names : List Name) (known : Option (List ℕ)) (sinks : Sinks) (failed : Bool)
-    (e : RunFault) → IsDeviceFault sinks failed e → IsReachAnswer text options table names known sinks failed (Err e)
+    (e : RunFault) → IsDeviceFault sinks failed e → IsHeldAnswer text options table names known sinks failed (Err e)
 broken_off text options table names known sinks failed run_fault.ReadFailed why = why
 broken_off text options table names known sinks failed run_fault.WriteFailed why = why
 broken_off text options table names known sinks failed run_fault.TooLong why = absurd why
@@ -83,7 +83,7 @@ broken_off text options table names known sinks failed run_fault.OutOfMemory why
 
 -- an end, with its line behind what the pass told
 pub answered : (text : List ℕ) (options : ReachOptions) (table : Name) (names : List Name) (known : Option (List ℕ)) (o : Office) (listed : Differences)
-    (text_held text_holds notes_held between notes_hold : Option (List ℕ)) (text_failed notes_failed notes_fail failed : Bool) (end : ReachEnd) (status : ℕ)
+    (text_held text_holds notes_held between notes_hold : Option (List ℕ)) (text_failed notes_failed notes_fail failed : Bool) (end : ReachEnd)
     → length text ≤ MOST_INPUT_BYTES
     → draft_in text ≡ Ok o
     → AreListedIn text listed
@@ -97,24 +97,22 @@ pub answered : (text : List ℕ) (options : ReachOptions) (table : Name) (names 
     }) end
     → notes_fail ≡ notes_failed
     → Appends between notes_hold (end_line o table (members_or_children o live_name names) end)
-    → status ≡ end_status end
-    → IsReachAnswer text options table names known (record {
+    → IsHeldAnswer text options table names known (record {
       text_held = text_held;
       text_holds = text_holds;
       text_failed = text_failed;
       notes_held = notes_held;
       notes_hold = notes_hold;
       notes_failed = notes_fail;
-    }) failed (Ok status)
-answered text options table names known o listed text_held text_holds notes_held between notes_hold text_failed notes_failed notes_fail failed end status
-    short read listed_in is_end goes_on line status_is = (
+    }) failed (Ok end)
+answered text options table names known o listed text_held text_holds notes_held between notes_hold text_failed notes_failed notes_fail failed end
+    short read listed_in is_end goes_on line = (
       short,
       o,
       read,
       listed,
       listed_in,
       record {
-        end = end;
         between = between;
         is_end = subst
             (λ (b : Bool).
@@ -129,7 +127,6 @@ answered text options table names known o listed text_held text_holds notes_held
             (sym goes_on)
             is_end;
         line = line;
-        status_is = status_is;
       },
     )
 

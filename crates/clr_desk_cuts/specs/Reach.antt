@@ -167,19 +167,24 @@ end_status (Passed told rows) = passed_status told
 
 -- the end, with its line behind what the pass told
 pub record IsReachOf (o : Office) (listed : Differences) (options : ReachOptions) (table : Name) (members : List Name) (known : Option (List ℕ)) (sinks : Sinks)
-    (status : ℕ) : Type 0 where
-  pub end : ReachEnd
+    (end : ReachEnd) : Type 0 where
   pub between : Option (List ℕ)
   pub is_end : IsReachEnd o listed options table members known (record sinks { notes_hold = between }) end
   pub line : Appends between sinks.notes_hold (end_line o table members end)
-  pub status_is : status ≡ end_status end
 
--- what is answered of an office text and of a table that is read
-abbrev pub IsReachAnswer : List ℕ → ReachOptions → Name → List Name → Option (List ℕ) → Sinks → Bool → Result ℕ RunFault → Type 0
-IsReachAnswer text options table names known sinks failed (Ok status) = (length text ≤ MOST_INPUT_BYTES) × (o : Office) × (draft_in text ≡ Ok o)
+-- how the reading of a table ends that is held against the cut of an office text
+abbrev pub IsHeldAnswer : List ℕ → ReachOptions → Name → List Name → Option (List ℕ) → Sinks → Bool → Result ReachEnd RunFault → Type 0
+IsHeldAnswer text options table names known sinks failed (Ok end) = (length text ≤ MOST_INPUT_BYTES) × (o : Office) × (draft_in text ≡ Ok o)
     × (listed : Differences)
     × AreListedIn text listed
-    × IsReachOf o listed options table (members_or_children o live_name names) known sinks status
-IsReachAnswer text options table names known sinks failed (Err run_fault.TooLong) = (MOST_INPUT_BYTES < length text) × IsSilent sinks
-IsReachAnswer text options table names known sinks failed (Err (run_fault.BadOffice fault)) = (draft_in text ≡ Err fault) × IsSilent sinks
-IsReachAnswer text options table names known sinks failed (Err e) = IsDeviceFault sinks failed e
+    × IsReachOf o listed options table (members_or_children o live_name names) known sinks end
+IsHeldAnswer text options table names known sinks failed (Err run_fault.TooLong) = (MOST_INPUT_BYTES < length text) × IsSilent sinks
+IsHeldAnswer text options table names known sinks failed (Err (run_fault.BadOffice fault)) = (draft_in text ≡ Err fault) × IsSilent sinks
+IsHeldAnswer text options table names known sinks failed (Err e) = IsDeviceFault sinks failed e
+
+-- what is answered of that: the exit status of the end
+abbrev pub IsReachAnswer : List ℕ → ReachOptions → Name → List Name → Option (List ℕ) → Sinks → Bool → Result ℕ RunFault → Type 0
+IsReachAnswer text options table names known sinks failed (Ok status) = (end : ReachEnd)
+    × IsHeldAnswer text options table names known sinks failed (Ok end)
+    × (status ≡ end_status end)
+IsReachAnswer text options table names known sinks failed (Err e) = IsHeldAnswer text options table names known sinks failed (Err e)

@@ -81,7 +81,7 @@ impl ReachEnd {
     }
 
     /// Returns the exit status.
-    pub(crate) fn status(&self) -> u8
+    pub fn status(&self) -> u8
         ensures { result ≡ end_status self.now }
     {
         match self {

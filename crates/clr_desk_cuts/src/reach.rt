@@ -9,7 +9,7 @@ ghost use Rattle.clr_process_io.specs.declared.faults.RunFault.TheVariants as ru
 ghost use Rattle.clr_desk_cuts.specs.declared.ends.ReachEnd.TheVariants as reach_end;
 ghost use Rattle.clr_desk_cuts.specs.Inquiries.{asked_by};
 ghost use Rattle.clr_desk_cuts.specs.Members.{AreTogether, live_set};
-ghost use Rattle.clr_desk_cuts.specs.Reach.{IsDeviceFault, IsPassedEnd, IsReachAnswer, IsReachEnd, is_read_failed};
+ghost use Rattle.clr_desk_cuts.specs.Reach.{IsDeviceFault, IsHeldAnswer, IsPassedEnd, IsReachAnswer, IsReachEnd, is_read_failed};
 
 use crate::ends::ReachEnd;
 use crate::inquiries::{Inquiry, rows_of_table, table_of};
@@ -119,13 +119,11 @@ fn reach_end<R: Read, W: Sink, N: Sink>(
 /// cell, or if it is found by its spots from the rows of the cut, as `clr_cut_rows` says. The rules may be broken in
 /// the cut. The memory of the cut is taken, and that of one row.
 ///
-/// Returns the exit status: 0 where no row was printed and none is otherwise; 1 where one is, or where the designs
-/// can't be merged together; 2 where a record has a fault, and then a part of the rows may have been written; 5 where
-/// no table has the name, or no workspace one of the names. Fails with `TooLong` where the text has more than
-/// `MOST_INPUT_BYTES`, with `BadOffice` where it is no office, with `ReadFailed` where a read of the source fails, and
-/// only there, with `WriteFailed` where a sink fails, and with `OutOfMemory` for want of memory, which may come in place of
-/// any other answer.
-pub fn answer_reach<R: Read, W: Sink, N: Sink>(
+/// Returns how that ends. Where a record has a fault, a part of the rows may have been written. Fails with `TooLong`
+/// where the text has more than `MOST_INPUT_BYTES`, with `BadOffice` where it is no office, with `ReadFailed` where a
+/// read of the source fails, and only there, with `WriteFailed` where a sink fails, and with `OutOfMemory` for want of
+/// memory, which may come in place of any other answer.
+pub fn hold_table<R: Read, W: Sink, N: Sink>(
     alloc: Global,
     options: ReachOptions,
     office: &[u8],
@@ -134,11 +132,11 @@ pub fn answer_reach<R: Read, W: Sink, N: Sink>(
     source: &mut LayerSource<R>,
     writer: &mut W,
     notes: &mut N,
-) -> Result<u8, RunFault>
+) -> Result<ReachEnd, RunFault>
     requires unread { IsUnread R.remaining source.old }
     requires writer { W.failed writer.old ≡ false }
     requires notes { N.failed notes.old ≡ false }
-    ensures answer { IsReachAnswer office.now options table.now names.now (bytes_of R.remaining source.old)
+    ensures answer { IsHeldAnswer office.now options table.now names.now (bytes_of R.remaining source.old)
         (sinks_between W.contents W.failed N.contents N.failed writer.old writer.new notes.old notes.new) (is_failed source.new) result }
     ensures source { is_failed source.new ≡ is_read_failed result }
 {
@@ -156,5 +154,29 @@ pub fn answer_reach<R: Read, W: Sink, N: Sink>(
     if notes.put(line.as_slice()).is_err() {
         return Err(RunFault::WriteFailed);
     }
+    Ok(end)
+}
+
+/// Holds the rows of a table against the cut of an office text, as `hold_table` does, and returns the exit status: 0
+/// where no row was printed and none is otherwise; 1 where one is, or where the designs can't be merged together; 2 where
+/// a record has a fault; 5 where no table has the name, or no workspace one of the names. It fails as `hold_table` does.
+pub fn answer_reach<R: Read, W: Sink, N: Sink>(
+    alloc: Global,
+    options: ReachOptions,
+    office: &[u8],
+    table: &str,
+    names: &[Words],
+    source: &mut LayerSource<R>,
+    writer: &mut W,
+    notes: &mut N,
+) -> Result<u8, RunFault>
+    requires unread { IsUnread R.remaining source.old }
+    requires writer { W.failed writer.old ≡ false }
+    requires notes { N.failed notes.old ≡ false }
+    ensures answer { IsReachAnswer office.now options table.now names.now (bytes_of R.remaining source.old)
+        (sinks_between W.contents W.failed N.contents N.failed writer.old writer.new notes.old notes.new) (is_failed source.new) result }
+    ensures source { is_failed source.new ≡ is_read_failed result }
+{
+    let end = hold_table(alloc, options, office, table, names, source, writer, notes)?;
     Ok(end.status())
 }

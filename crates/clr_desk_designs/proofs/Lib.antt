@@ -1,3 +1,4 @@
+mod BroughtLemmas
 mod AgainLemmas
 mod HintLemmas
 mod MadeLemmas

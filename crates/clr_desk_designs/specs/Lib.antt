@@ -1,3 +1,4 @@
 pub mod Again
 pub mod InTurn
 pub mod Made
+pub mod Brought

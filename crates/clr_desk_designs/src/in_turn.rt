@@ -43,7 +43,7 @@ fn make_edited(
 }
 
 /// Makes a design of layers, and returns how much it changes, or why it can't be made; then the office is as it was.
-fn make_layered(
+pub(crate) fn make_layered(
     alloc: Global,
     office: &mut Office,
     taken: &Sheet,

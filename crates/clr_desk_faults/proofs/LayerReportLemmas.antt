@@ -4,7 +4,7 @@ use Rattle.std.proofs.lemmas.List.{at_drop_all, at_drop_more}
 use Rattle.clr_rows.specs.declared.tables.TableDef.{TableDef}
 use Rattle.clr_workspaces.specs.Marks.{Name}
 use Rattle.clr_layer_changes.specs.declared.options.GivenLayer.{GivenLayer}
-use Rattle.clr_layer_reports.specs.Degrees.{degrees_text}
+use Rattle.clr_degrees.specs.Degrees.{degrees_text}
 use Rattle.clr_layer_reports.specs.Reports.{IsLayerReport}
 use Rattle.clr_desk_faults.specs.FaultPlaces.{file_name}
 use Rattle.clr_desk_faults.specs.LayerFaults.{AreReports, degrees_lines}

@@ -1,2 +1,4 @@
+mod IdPlaceLemmas
+mod KeyedReportLemmas
 mod LayerReportLemmas
 mod PlaceLemmas

@@ -13,6 +13,7 @@ abbrev pub layered_tables : GeographicAsk → List Name
 layered_tables (geographic.Office tables rounded) = tables
 layered_tables (geographic.AcceptedOffice tables rounded) = tables
 layered_tables (geographic.Cut tables rounded) = tables
+layered_tables (geographic.Ids tables first) = tables
 layered_tables (geographic.Design design) = design.tables
 layered_tables (geographic.DesignSince design) = design.tables
 layered_tables (geographic.DesignScript design) = design.tables

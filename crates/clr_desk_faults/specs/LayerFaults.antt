@@ -9,7 +9,7 @@ use Rattle.clr_desk_command_line.specs.declared.asks.DeskAsk.TheVariants as ask
 use Rattle.clr_desk_command_line.specs.declared.asks.GeographicAsk.{GeographicAsk}
 use Rattle.clr_desk_command_line.specs.declared.asks.GeographicAsk.TheVariants as geographic
 use Rattle.clr_layer_changes.specs.declared.options.GivenLayer.{GivenLayer}
-use Rattle.clr_layer_reports.specs.Degrees.{degrees_text}
+use Rattle.clr_degrees.specs.Degrees.{degrees_text}
 use Rattle.clr_layer_reports.specs.Reports.{IsLayerReport}
 use Rattle.clr_desk_faults.specs.FaultPlaces.{file_name}
 use Rattle.clr_desk_faults.specs.GivenLayers.{office_count}

@@ -1,5 +1,6 @@
 pub mod FaultPlaces
 pub mod GivenLayers
+pub mod IdFaults
 pub mod LayerFaults
 pub mod LayerWhys
 pub mod SkippedLayers

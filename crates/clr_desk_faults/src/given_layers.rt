@@ -16,6 +16,7 @@ fn layered_tables(ask: &GeographicAsk) -> &[Words]
         GeographicAsk::Office(tables, _)
         | GeographicAsk::AcceptedOffice(tables, _)
         | GeographicAsk::Cut(tables, _) => tables.as_slice(),
+        GeographicAsk::Ids(tables, _) => tables.as_slice(),
         GeographicAsk::Design(design)
         | GeographicAsk::DesignSince(design)
         | GeographicAsk::DesignScript(design)

@@ -5,9 +5,10 @@ ghost use Rattle.clr_desk_faults.specs.GivenLayers.{office_count};
 ghost use Rattle.clr_desk_faults.specs.LayerFaults.{AreLayerFaults, AreReports, are_rounded, degrees_lines, is_rounded};
 
 use crate::given_layers::office_count;
+use clr_degrees::degrees_text;
 use clr_desk_command_line::{DeskAsk, GeographicAsk};
 use clr_layer_changes::GivenLayer;
-use clr_layer_reports::{degrees_text, layer_report};
+use clr_layer_reports::layer_report;
 use clr_office_texts::{TextFault, read_office};
 use clr_process_io::file_name;
 use clr_rows::{Schema, Words};

@@ -8,10 +8,10 @@ use Rattle.clr_plan_page.specs.Reports.{IsReport}
 use Rattle.clr_desk_prints.specs.Members.{set_asked}
 use Rattle.clr_desk_prints.specs.Printing.{IsFoundPlan, PrintoutOrFault, plan_text_print}
 
--- the report of the plan of a merge set
-abbrev pub IsReportOfSet : Office → MergeSet → PrintoutOrFault → Type 0
-IsReportOfSet o s print = (p : Plan) × (text : List ℕ) × IsFoundPlan o s p × IsReport o s p text × (print ≡ plan_text_print text p)
+-- the report of the plan of a merge set, of data of which this is said
+abbrev pub IsReportOfSet : (source : List ℕ) → Office → MergeSet → PrintoutOrFault → Type 0
+IsReportOfSet source o s print = (p : Plan) × (text : List ℕ) × IsFoundPlan o s p × IsReport o s p source text × (print ≡ plan_text_print text p)
 
 -- of the members that names ask for
-abbrev pub IsReportPrint : Name → List Name → Office → PrintoutOrFault → Type 0
-IsReportPrint root names o = IsReportOfSet o (set_asked o root names)
+abbrev pub IsReportPrint : (source : List ℕ) → Name → List Name → Office → PrintoutOrFault → Type 0
+IsReportPrint source root names o = IsReportOfSet source o (set_asked o root names)

@@ -12,4 +12,5 @@ mod reports;
 
 pub use features::answer_geojson;
 pub use maps::answer_map;
+pub use plans::found_plan;
 pub use reports::answer_report;

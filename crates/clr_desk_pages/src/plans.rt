@@ -20,7 +20,7 @@ fn plan_read(alloc: Global, office: &Office, members: &MemberChanges<'_>) -> Pla
 }
 
 /// Returns the plan of members whose changes were read, with what it promises. Where the plan finds no memory, this call fails.
-pub(crate) fn found_plan(
+pub fn found_plan(
     alloc: Global,
     office: &Office,
     members: &MemberChanges<'_>,

@@ -1,4 +1,5 @@
 pub mod Certificates
 pub mod Choices
 pub mod InOrder
+pub mod Lines
 pub mod Orders

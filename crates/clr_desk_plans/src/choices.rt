@@ -33,9 +33,10 @@ fn print_of_choice(
     choice_print(alloc, office.schema(), &choice)
 }
 
-/// Goes through the members that names ask for in their order, and takes each that is cleared with those taken
-/// before it; where not even nobody is cleared, what is planned for nobody.
-fn print_of_names(
+/// Goes through the members that names ask for in their order, and takes each that is cleared with those taken before it, and returns the certificate of
+/// those taken, and as notes who they are and why each other is left; where not even nobody is cleared, what is planned for nobody. Without names the members
+/// are all children of the root. It fails only for want of memory.
+pub fn keep_print(
     alloc: Global,
     office: &Office,
     root: &str,
@@ -61,6 +62,6 @@ pub fn answer_keep(
     ensures { IsMadePrintout (IsPrintoutIn (IsHinted (IsChoicePrint root.now names.now) (root.now ∷ names.now)) (opened_in office.now)) result }
 {
     answer_over_office(alloc, office, root, names, |office| {
-        print_of_names(alloc, office, root, names)
+        keep_print(alloc, office, root, names)
     })
 }

@@ -23,9 +23,9 @@ ghost use Rattle.clr_desk_subcommands.specs.Program.{
 use crate::helps::{
     ABOUT, ACCEPT_PRINTS, BOARD_PRINTS, CERTIFICATE_PRINTS, CHECK_PRINTS, CLASHES_PRINTS,
     CUT_PRINTS, DESIGN_PRINTS, DESIGNS_PRINTS, EDITS_PRINTS, ERRORS_PRINTS, FORMAT_PRINTS,
-    GEOJSON_PRINTS, KEEP_PRINTS, LAYER_PRINTS, MAP_PRINTS, MENDED_PRINTS, MERGE_PRINTS,
-    OFFICE_PRINTS, ORDER_PRINTS, PROPOSE_PRINTS, REACH_PRINTS, REPORT_PRINTS, STATUSES, WHY_PRINTS,
-    WORDS_PRINTS,
+    GEOJSON_PRINTS, IDS_PRINTS, KEEP_PRINTS, LAYER_PRINTS, MAP_PRINTS, MENDED_PRINTS, MERGE_PRINTS,
+    NIGHT_PRINTS, OFFICE_PRINTS, ORDER_PRINTS, PLAN_PRINTS, PROPOSE_PRINTS, REACH_PRINTS,
+    REPORT_PRINTS, STATUSES, WHY_PRINTS, WORDS_PRINTS,
 };
 use clap::Command;
 use clr_command_line::{
@@ -79,6 +79,24 @@ const LEAST_KEY: Argument<'static> = Argument::ValueOption(
     "The least key for a row without one [default: 1]",
 );
 
+const IDS: Argument<'static> = Argument::ValueOption(
+    "ids",
+    "IDS",
+    "The file of the ids of rows, which stand in KEY in place of keys",
+);
+
+const SHOWN_IDS: Argument<'static> = Argument::ValueOption(
+    "ids",
+    "IDS",
+    "The file of the ids of rows, by which they are named",
+);
+
+const FIRST_ID: Argument<'static> = Argument::ValueOption(
+    "keys",
+    "N",
+    "The least key for a new id [default: 1]",
+);
+
 const SYSTEM: Argument<'static> = Argument::ValueOption(
     "crs",
     "EPSG:N",
@@ -91,6 +109,14 @@ const ORIGIN: Argument<'static> = Argument::ValueOption(
     "Where the place (0, 0) of the office is, in whole metres [default: 0,0]",
 );
 
+const AS_OF: Argument<'static> = Argument::ValueOption(
+    "as-of",
+    "TEXT",
+    "Of when the data are, as the page is to say",
+);
+
+const JSON: Argument<'static> = Argument::Flag("json", "Print the answer as one JSON value");
+
 /// The arguments of a subcommand over an office text and designs of a root.
 const OVER_MEMBERS: &[Argument<'static>] = &[DATABASE, ROOT, DESIGNS];
 
@@ -101,6 +127,9 @@ const IN_ORDER: Argument<'static> = Argument::Flag(
 
 /// The arguments of a subcommand over designs that may be asked to be merged in the order of their names.
 const OVER_MEMBERS_IN_ORDER: &[Argument<'static>] = &[DATABASE, ROOT, DESIGNS, IN_ORDER];
+
+/// The arguments of a subcommand over designs that may be asked for JSON.
+const OVER_MEMBERS_AS_JSON: &[Argument<'static>] = &[DATABASE, ROOT, DESIGNS, JSON];
 
 /// The program without its subcommands.
 const DESK: ProgramTable<'static> = ProgramTable {
@@ -123,7 +152,7 @@ const CERTIFICATES: &[Subcommand<'static>] = &[
         name: "check",
         about: "Says whether a certificate shows that its designs can be merged in every order",
         prints: CHECK_PRINTS,
-        arguments: &[DATABASE, CERTIFICATE],
+        arguments: &[DATABASE, CERTIFICATE, JSON],
     },
     Subcommand {
         name: "merge",
@@ -146,16 +175,22 @@ const CERTIFICATES: &[Subcommand<'static>] = &[
 /// The subcommands that say which designs go together.
 const CHOICES: &[Subcommand<'static>] = &[
     Subcommand {
+        name: "plan",
+        about: "Says whether designs can be merged in every order, in the lines of `clr_office plan`",
+        prints: PLAN_PRINTS,
+        arguments: OVER_MEMBERS_AS_JSON,
+    },
+    Subcommand {
         name: "keep",
         about: "Takes each design that can be merged with those taken before it, and prints their certificate",
         prints: KEEP_PRINTS,
-        arguments: OVER_MEMBERS_IN_ORDER,
+        arguments: &[DATABASE, ROOT, DESIGNS, IN_ORDER, JSON],
     },
     Subcommand {
         name: "clashes",
         about: "Lists the smallest sets of designs that can't be merged in every order, each with its cause",
         prints: CLASHES_PRINTS,
-        arguments: OVER_MEMBERS,
+        arguments: OVER_MEMBERS_AS_JSON,
     },
     Subcommand {
         name: "order",
@@ -166,6 +201,7 @@ const CHOICES: &[Subcommand<'static>] = &[
             ROOT,
             DESIGNS,
             Argument::Flag("certificate", "Print the certificate of the order"),
+            JSON,
         ],
     },
 ];
@@ -192,7 +228,7 @@ const TELLINGS: &[Subcommand<'static>] = &[
         name: "words",
         about: "Tells the plan of designs in sentences, and what would help",
         prints: WORDS_PRINTS,
-        arguments: OVER_MEMBERS,
+        arguments: OVER_MEMBERS_AS_JSON,
     },
 ];
 
@@ -208,23 +244,23 @@ const PICTURES: &[Subcommand<'static>] = &[
         name: "report",
         about: "Tells the plan of designs in one page, an HTML file with its picture",
         prints: REPORT_PRINTS,
-        arguments: OVER_MEMBERS,
+        arguments: &[DATABASE, ROOT, DESIGNS, AS_OF],
     },
     Subcommand {
         name: "board",
         about: "Tells how all designs stand in one page, an HTML file with a small map of each",
         prints: BOARD_PRINTS,
-        arguments: OVER_MEMBERS,
+        arguments: OVER_MEMBERS_AS_JSON,
     },
 ];
 
-/// The subcommands that show plans and tables to other systems.
+/// The subcommands that show plans and tables to other systems, and keep what rows are called there.
 const EXPORTS: &[Subcommand<'static>] = &[
     Subcommand {
         name: "geojson",
         about: "Prints what the plan of designs is about as GeoJSON",
         prints: GEOJSON_PRINTS,
-        arguments: &[DATABASE, ROOT, DESIGNS, SYSTEM],
+        arguments: &[DATABASE, ROOT, DESIGNS, SYSTEM, SHOWN_IDS],
     },
     Subcommand {
         name: "layer",
@@ -238,6 +274,18 @@ const EXPORTS: &[Subcommand<'static>] = &[
                 "WORKSPACE",
                 "The workspace whose rows are printed [default: LIVE]",
             ),
+            IDS,
+        ],
+    },
+    Subcommand {
+        name: "ids",
+        about: "Gives the new ids of layers keys of a block, and prints the ids of rows",
+        prints: IDS_PRINTS,
+        arguments: &[
+            DATABASE,
+            Argument::Value("IDS", "The file of the ids of rows, a CSV of TABLE,ID,KEY"),
+            LAYERS,
+            FIRST_ID,
         ],
     },
 ];
@@ -264,6 +312,7 @@ const IMPORTS: &[Subcommand<'static>] = &[
                 "BAD",
                 "Take the records without a fault, and write the others to this new file",
             ),
+            IDS,
         ],
     },
     Subcommand {
@@ -280,6 +329,7 @@ const IMPORTS: &[Subcommand<'static>] = &[
             Argument::Flag("script", "Print the script that makes the design"),
             LEAST_KEY,
             ROUND,
+            IDS,
         ],
     },
     Subcommand {
@@ -292,6 +342,23 @@ const IMPORTS: &[Subcommand<'static>] = &[
                 "FOLDER",
                 "A folder with one folder for each design, in which each file TABLE.csv is a layer",
             ),
+            COPIED,
+            REMOVES,
+            LEAST_KEY,
+            ROUND,
+        ],
+    },
+    Subcommand {
+        name: "night",
+        about: "Brings the designs of a folder, plans them all, and writes what comes of it into a new folder",
+        prints: NIGHT_PRINTS,
+        arguments: &[
+            DATABASE,
+            Argument::Value(
+                "FOLDER",
+                "A folder with one folder for each design, in which each file TABLE.csv is a layer",
+            ),
+            Argument::Value("OUT", "The folder to make, which mustn't be there"),
             COPIED,
             REMOVES,
             LEAST_KEY,
@@ -377,6 +444,14 @@ const CUTS: &[Subcommand<'static>] = &[
                 "The file of an office text with the designs, which is JSON, or of a cut",
             ),
             LAYERS,
+            Argument::Flag(
+                "whole",
+                "Go over the files until they have no row that the cut lacks",
+            ),
+            Argument::Flag(
+                "groups",
+                "The same, for what ties designs to one another too",
+            ),
             ROUND,
         ],
     },
@@ -400,6 +475,7 @@ const CUTS: &[Subcommand<'static>] = &[
             ),
             SYSTEM,
             ORIGIN,
+            SHOWN_IDS,
         ],
     },
 ];

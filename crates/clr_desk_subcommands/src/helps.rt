@@ -21,6 +21,7 @@ pub(crate) const CHECK_PRINTS: &str =
     "It prints `clear` where the designs that the certificate names can be merged in every order, and else the test
 that fails; and on standard error how many designs and needs the certificate has. The status is 0 where it prints
 `clear` of one design or more, and else 1; so it is 1 of a certificate that names no design, as an empty file is.
+With --json it prints the verdict and whom the certificate names as one JSON value.
 
 Example:
   clr_desk check office.json certificate.csv";
@@ -42,11 +43,21 @@ standard error the line that says so, with status 1.
 Example:
   clr_desk format office.json > lines.json";
 
+pub(crate) const PLAN_PRINTS: &str =
+    "It prints whether the designs can be merged in every order, as `clr_office plan` does: `cleared` with the certificate,
+or `blocked` with an order in which a merge is refused, and its cause. With --json it prints the same as one JSON value, with
+the rows and their places in millimetres. Without names it takes all children of the root. The status is 0 where the
+designs are cleared, and 1 where they aren't.
+
+Example:
+  clr_desk plan office.json Renewal Extension Bypass --json > plan.json";
+
 pub(crate) const KEEP_PRINTS: &str =
     "It goes through the names in their order, and takes each design that is cleared with those taken
 before it. It prints the certificate of those taken, and on standard error which they are, and for
 each design that is left the lines of its plan. With --in-order it takes each design that can be merged
-next behind those taken. Without names it goes through all children of the root in order of creation. The status is 0 where none is left, and 1 where one is.
+next behind those taken. Without names it goes through all children of the root in order of creation. The status is 0
+where none is left, and 1 where one is. With --json it prints all of this as one JSON value.
 
 Example:
   clr_desk keep office.json Renewal Extension Bypass > certificate.csv";
@@ -54,7 +65,8 @@ Example:
 pub(crate) const CLASHES_PRINTS: &str =
     "It prints the smallest sets of the designs that can't be merged in every order, each with its cause,
 and then the designs that are in none. Without names it looks at all children of the root. The status is
-0 where there is no such set, and 1 where there is one.
+0 where there is no such set, and 1 where there is one. With --json it prints them as one JSON value, with the rows of
+each cause and their places in millimetres.
 
 Example:
   clr_desk clashes office.json Renewal Extension Bypass";
@@ -64,7 +76,7 @@ pub(crate) const ORDER_PRINTS: &str =
 to go before another in it. With --certificate it prints the certificate of that order, ready for `clr_desk check`, and
 the lines on standard error. Where it finds no order it prints the designs that stand in the way, and the cause where it
 is one need. Without names it takes all children of the root. The status is 0 where an order is found, and 1 where none
-is.
+is. With --json it prints the order or why there is none as one JSON value.
 
 Example:
   clr_desk order office.json Renewal Extension Hydrants";
@@ -86,7 +98,8 @@ pub(crate) const WORDS_PRINTS: &str =
     "It prints the plan of the designs in sentences: whether they can be merged in every order, and if
 not, an order in which a merge is refused, the rule, the rows, and where they meet; then what would
 help, each tried, and in which order they can be merged, if any works. Without names it takes all
-children of the root. The status is 0 where the designs are cleared, and 1 where they aren't.
+children of the root. The status is 0 where the designs are cleared, and 1 where they aren't. With --json it prints one
+JSON value with the plan, its sentences, and each trial.
 
 Example:
   clr_desk words office.json Renewal Extension Bypass";
@@ -101,19 +114,20 @@ Example:
   clr_desk map office.json Renewal Extension Bypass > plan.svg";
 
 pub(crate) const REPORT_PRINTS: &str =
-    "It prints one HTML file that needs nothing beside it: the picture of the plan, why the designs can't be merged
-in every order and what would help, the designs with their rows, their clashes, the certificate, and the lines of
-`clr_office plan`. Without names it takes all children of the root. The status is 0 where the designs are cleared,
-and 1 where they aren't.
+    "It prints one HTML file that needs nothing beside it: of when the data are, as TEXT says, their file and its SHA-256
+digest, the picture of the plan, why the designs can't be merged in every order and what would help, or what serves the
+needs that they touch, the designs with their rows, their clashes, and the lines of `clr_office plan`. Without names it
+takes all children of the root. The status is 0 where the designs are cleared, and 1 where they aren't.
 
 Example:
-  clr_desk report office.json Renewal Extension Bypass > plan.html";
+  clr_desk report office.json Renewal Extension Bypass --as-of '2 March 2026' > plan.html";
 
 pub(crate) const BOARD_PRINTS: &str =
     "It prints one HTML file that needs nothing beside it, about all designs at once: how each stands (it can go now,
 goes after others, clashes, is in conflict, or is refused alone), the clashes with their causes and what would help, who
 goes before whom, the old errors by rule, and each design with a small map. Without names it takes all children of the
-root. The status is 0 where all designs can go now, and 1 where they can't.
+root. The status is 0 where all designs can go now, and 1 where they can't. With --json it prints one JSON value with how
+each design stands, the clashes, who goes before whom, and the old errors by rule.
 
 Example:
   clr_desk board office.json > board.html";
@@ -121,15 +135,16 @@ Example:
 pub(crate) const GEOJSON_PRINTS: &str =
     "It prints what the plan is about as GeoJSON, for a geographic information system: the rows of the root, what
 each design adds, changes and removes, which rows the cause names, and the place of the cause. Coordinates are in
-metres. Without names it takes all children of the root. The status is 0 where the designs are cleared, and 1 where
-they aren't.
+metres. Without names it takes all children of the root. With --ids each row that has an id has it in the property id.
+The status is 0 where the designs are cleared, and 1 where they aren't.
 
 Example:
   clr_desk geojson office.json --crs EPSG:25832 Renewal Extension > plan.geojson";
 
 pub(crate) const LAYER_PRINTS: &str =
     "It prints the rows of a table as CSV: their keys, their values and, in metres, their shapes as WKT.
-Where there is no such table or workspace it prints nothing, and says so on standard error, with status 1.
+Where there is no such table or workspace it prints nothing, and says so on standard error, with status 1. With --ids
+the column KEY has the id of each row in place of its key.
 
 Example:
   clr_desk layer office.json main > main.csv";
@@ -142,7 +157,8 @@ error the line that says so, with status 2 or 1. With --accept no rule is in the
 office, as `clr_desk accept` has it, and standard error says how many needs these are of each rule. With --skip it takes
 the records of one layer that have no fault. The others go into BAD, under the layer's header, with the column WHY behind
 their own, which says what is wrong; and standard error says how many they are. BAD is written where the office is
-printed, and there must be no such file yet.
+printed, and there must be no such file yet. With --ids KEY of the layers has ids, and the rows have the keys that IDS
+says; `clr_desk ids` gives new ids keys.
 
 Example:
   clr_desk office schema.json main=main.csv valve=valve.csv > office.json
@@ -156,8 +172,9 @@ it, with shapes as WKT in metres; a row whose KEY is empty gets the least key fr
 since the layers were copied isn't in them, and the design would remove it: give the office that they were copied from
 as COPIED. The design is then the difference to that, and in conflict where LIVE changed the same since. With
 --removes no a design that removes a row is refused. With --again NAME stands already: it keeps what it took over from
-LIVE, and its changes become those of the layers; with COPIED it is made anew in its place. Where a layer can't be read
-or the design can't be made it prints nothing, and on standard error the line that says so, with status 2 or 1.
+LIVE, and its changes become those of the layers; with COPIED it is made anew in its place. With --ids KEY of the layers
+has ids, and the rows have the keys that IDS says; `clr_desk ids` gives new ids keys. Where a layer can't be read or the
+design can't be made it prints nothing, and on standard error the line that says so, with status 2 or 1.
 
 Example:
   clr_desk design office.json Bypass main=main.csv --base copied.json > with_bypass.json";
@@ -172,6 +189,28 @@ read or a design can't be made it prints nothing, and on standard error the line
 
 Example:
   clr_desk designs office.json designs --base copied.json > with_designs.json";
+
+pub(crate) const IDS_PRINTS: &str =
+    "It prints the ids of rows, each with its table and its key, as CSV with the columns TABLE, ID and KEY: those of IDS
+as they are, and behind them the new ids in the column KEY of the layers, each with the least key from N on that no id
+and no row of LIVE has; and nothing else, with status 0. How many ids there are, and how many are new, stands on
+standard error. Write it to another file, and put that in place of IDS, before the layers are read by
+`clr_desk office --ids` or `clr_desk design --ids`, which make no keys. Where a row of LIVE in these tables has no id,
+or IDS or a layer can't be read, it prints nothing, and on standard error the line that says so, with status 1 or 2.
+
+Example:
+  clr_desk ids office.json ids.csv main=main.csv > ids.new && mv ids.new ids.csv";
+
+pub(crate) const NIGHT_PRINTS: &str =
+    "It does a night's work at once: it makes the designs of the folder as `clr_desk designs` does, plans all designs of the
+office, and writes the folder OUT, whole or not at all: board.html; plan.txt; certificate.csv and kept.txt, which are
+what `clr_desk keep` prints; words/clash_N.txt, a work order for clash N of the board, of the first 400; and
+office.json, the office that all of this is said of. A design that can't be read or made is left out, and the board
+says why. It prints how many designs can go now. The status is 0 where all can and none is left out, 1 where not, and 2
+where something can't be read or written.
+
+Example:
+  clr_desk night live.json designs nights/2026-03-02";
 
 pub(crate) const ERRORS_PRINTS: &str =
     "It prints each need that is broken in LIVE: whether it is known, the rule, the rows, and the place; with --geojson
@@ -221,17 +260,20 @@ pub(crate) const CUT_PRINTS: &str =
 A row stands in place of the one with its key, and no row goes; each row has a key. What a design removes it still
 removes, also where its row isn't put in yet. Rules may be broken: a cut that isn't whole may lack rows that serve.
 Where a layer can't be read it prints nothing, and on standard error the line that says so, with status 2.
+With --whole each file may have any size: they are gone over as by `clr_desk reach`, and what is printed of them is put
+in, until nothing is. Then the cut is printed, with the counts of the last pass over each table on standard error.
 
-Example:
-  clr_desk cut designs.json main=main.csv valve=valve.csv > cut.json";
+Examples:
+  clr_desk cut designs.json main=main.csv valve=valve.csv > cut.json
+  clr_desk cut designs.json main=all_mains.csv valve=all_valves.csv --whole > cut.json";
 
 pub(crate) const EDITS_PRINTS: &str =
     "It prints the edits that take LIVE of the first office to LIVE of the second as CSV, and before each the row as it
 was. With --sql it prints one transaction, which psql or sqlite3 runs with the file OLD in the variable CUT and the
 merged designs in DESIGNS. It locks the tables, leads each through `clr_desk reach`, and looks whether each row of OLD
 is still there as it was; then it makes the edits. Where a row is stale or came meanwhile, nothing is written. How many
-rows are added, changed and removed stands on standard error. The status is 0, and 1 where the offices don't have the
-same tables.
+rows are added, changed and removed stands on standard error. With --ids the CSV has ids in place of keys. The status is
+0, and 1 where the offices don't have the same tables or a row has no id.
 
 Example:
   clr_desk edits cut.json new.json --sql postgis --crs EPSG:25832 > back.sql";

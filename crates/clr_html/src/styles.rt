@@ -19,7 +19,7 @@ h1 b{margin-right:14px}
 h1 small{font-size:16px;font-weight:400}
 h2{font-size:17px;margin:18px 0 10px}
 section>h2:first-child{margin-top:0}
-p{margin:0 0 10px}
+p{margin:0 0 10px;overflow-wrap:anywhere}
 ul{margin:0 0 10px;padding-left:22px}
 li{margin:4px 0}
 .good{color:#1a7f4b}
@@ -43,7 +43,12 @@ section{border:0;border-radius:0;padding:0 0 12pt;margin:0}
 h2{break-after:avoid}
 tr,li,svg,summary{break-inside:avoid}
 .ink{print-color-adjust:exact;-webkit-print-color-adjust:exact}
-details::details-content{content-visibility:visible;height:auto}
+}
+@media (max-width:600px){
+main{padding:10px}
+section{padding:14px 12px;overflow-x:auto}
+svg{max-width:none}
+th,td{padding-right:8px}
 }
 </style>
 </head>

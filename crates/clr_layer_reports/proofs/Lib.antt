@@ -1,3 +1,2 @@
-mod DegreeLemmas
 mod LineLemmas
 mod ReportLemmas

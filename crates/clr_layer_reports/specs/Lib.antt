@@ -1,4 +1,3 @@
-pub mod Degrees
 pub mod FaultSayings
 pub mod NearNames
 pub mod Reports

@@ -1,11 +1,12 @@
 -- The lines that say what is wrong with a layer, and where.
 use Rattle.std.specs.Prelude.{◌≡◌, ℕ, ◌==◌, ◌&&◌, nat_lt, Bool, true, false, List, [], ◌∷◌, ◌++◌, codes, count_by, decimal, flat_map, length, map, take}
-use Rattle.std.specs.Prelude.{Option, Some, None, Result, Ok, Err, slice_get, unwrap_or, if◌then◌else◌}
+use Rattle.std.specs.Prelude.{Option, Some, None, Result, Ok, Err, option_map, slice_get, unwrap_or, if◌then◌else◌}
 use Rattle.std.specs.List.{fold, list_any}
 use Rattle.csv.specs.Reading.{strip_bom}
 use Rattle.clr_rows.specs.declared.tables.TableDef.{TableDef}
 use Rattle.clr_rows.specs.declared.faults.RowFault.{RowFault}
 use Rattle.clr_rows.specs.declared.faults.RowFault.TheVariants as row
+use Rattle.clr_rows.specs.Schemas.{table_named}
 use Rattle.clr_records.specs.Records.{records_in}
 use Rattle.clr_text_positions.specs.FaultLines.{column_number_of, line_number_of}
 use Rattle.clr_hints.specs.Encodings.{IsEncodingFault}
@@ -174,3 +175,25 @@ IsReportBy tables rounded file layer lines (Err e) = IsTableReport tables file l
 -- what is said of a layer behind others, by its file: nothing where it has no fault
 abbrev pub IsLayerReport : List TableDef → Bool → List ℕ → List GivenLayer → GivenLayer → List ℕ → Type 0
 IsLayerReport tables rounded file earlier layer lines = IsReportBy tables rounded file layer lines (table_of tables earlier layer)
+
+-- a layer with ids ---------------------------------------------------------------------------------------
+
+-- faults of a text that has these records, each at its place in it; nothing where there are no records, or faults aren't known
+abbrev pub IsPlacedReport : List ℕ → List ℕ → TableDef → List ℕ → Option (List (List (List ℕ))) → Option (List FoundFault) → Type 0
+IsPlacedReport file text table lines (Some records) (Some faults) =
+    (near : List (Option (List ℕ))) × AreNear table (header_in records) near × (lines ≡ faults_text file (strip_bom text) table records near faults)
+IsPlacedReport file text table lines _ _ = lines ≡ []
+
+-- what is said of a text in which ids stand for keys: the faults of the text with the keys, each at its place in the text as it was given
+abbrev pub IsKeyedReport : List TableDef → ℕ → Bool → List ℕ → List ℕ → List ℕ → List ℕ → Option TableDef → Type 0
+IsKeyedReport tables at rounded file text keyed lines None = lines ≡ []
+IsKeyedReport tables at rounded file text keyed lines (Some table) =
+    IsPlacedReport file text table lines (records_in text) (option_map (faults_in tables at table rounded) (records_in keyed))
+
+-- the same of a layer, where its table is there
+abbrev pub IsReportByKeysAt : List TableDef → Bool → List ℕ → GivenLayer → List ℕ → List ℕ → Option ℕ → Type 0
+IsReportByKeysAt tables rounded file layer keyed lines None = lines ≡ []
+IsReportByKeysAt tables rounded file layer keyed lines (Some at) = IsKeyedReport tables at rounded file layer.text.items keyed lines (slice_get tables at)
+
+abbrev pub IsReportByKeys : List TableDef → Bool → List ℕ → GivenLayer → List ℕ → List ℕ → Type 0
+IsReportByKeys tables rounded file layer keyed lines = IsReportByKeysAt tables rounded file layer keyed lines (table_named tables layer.table)

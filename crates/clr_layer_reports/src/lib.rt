@@ -4,20 +4,21 @@
 //!   line and the column at which its field begins, its name, the column's name and its value in a sentence, the row and perhaps a hint; and where there
 //!   is more than one, how many they are, in all and of each kind and column. Which faults there are, in which order, and at which bytes, is what
 //!   `clr_layer_faults` finds.
+//! - `keyed_layer_report`: the same of a layer in which ids stand for keys, by its text with the keys: each fault is told at its place in the text as it was
+//!   given (`IsReportByKeys`).
 //! - `fault_words`: what is said of the fault of a record, without its place. `record_at`: the record of a number.
-//! - `degrees_text`: that the coordinates of a layer look like degrees (`look_like_degrees`), or nothing.
 //! - `limits_of_reports`: how many faults are shown, and how many names of a header.
 #![tactic(auto)]
 
 mod counts;
-mod degrees;
+mod keyed_reports;
 mod laws;
 mod located_lines;
 mod near_names;
 mod reports;
 mod sentences;
 
-pub use degrees::degrees_text;
+pub use keyed_reports::keyed_layer_report;
 pub use laws::limits_of_reports;
 pub use located_lines::{fault_words, record_at};
 pub use reports::layer_report;

@@ -62,7 +62,7 @@ fn add_fault_lines(
 }
 
 /// Returns the first faults of a text that has these records, a line each, and how many there are.
-fn faults_text(
+pub(crate) fn faults_text(
     alloc: Global,
     file: &str,
     bytes: &[u8],

@@ -1,2 +1,3 @@
+mod ClashCauseLemmas
 mod ErrorLemmas
 pub mod SectionLemmas

@@ -1,4 +1,5 @@
 pub mod Causes
+pub mod ClashCauses
 pub mod Commands
 pub mod Counts
 pub mod OldErrors

@@ -5,10 +5,10 @@ use Rattle.std.specs.List.{flat_map, list_any, zip}
 use Rattle.clr_rows.specs.declared.cells.CellId.{CellId}
 use Rattle.clr_rows.specs.declared.cells.Change.{Change}
 use Rattle.clr_rows.specs.declared.rows.Row.{Row}
-use Rattle.clr_rows.specs.declared.tables.TableDef.{TableDef}
 use Rattle.clr_rows.specs.Contents.{Changes, Content}
 use Rattle.clr_workspaces.specs.Marks.{Name}
 use Rattle.clr_cert.specs.declared.certificates.Precedence.{Precedence}
+use Rattle.clr_row_names.specs.RowNames.{Naming}
 use Rattle.clr_geojson.specs.declared.features.Feature.{Feature}
 use Rattle.clr_plan_features.specs.declared.row_features.What.{What}
 use Rattle.clr_plan_features.specs.declared.row_features.What.TheVariants.{Stands, Added, Changed, Removed}
@@ -24,8 +24,8 @@ is_changed_by sets cell = list_any (λ set. is_some (finite.get set cell)) sets
 abbrev pub unchanged_rows : List Changes → Content → List (CellId × Row)
 unchanged_rows sets content = filter (λ e. not (is_changed_by sets e.0)) (finite.entries content)
 
-abbrev pub standing_features : List TableDef → List CellId → Name → List Changes → Content → List Feature
-standing_features tables causes root sets content = map (λ e. row_feature tables causes root Stands e.0 e.1) (unchanged_rows sets content)
+abbrev pub standing_features : Naming → List CellId → Name → List Changes → Content → List Feature
+standing_features names causes root sets content = map (λ e. row_feature names causes root Stands e.0 e.1) (unchanged_rows sets content)
 
 -- what is changed ----------------------------------------------------------------------------
 
@@ -40,15 +40,15 @@ change_shown (Some before) None = (Removed, before) ∷ []
 change_shown None None = []
 
 -- a change by a design, and the names of those that go before the design, if that is told
-abbrev pub change_features : List TableDef → List CellId → Name → Option (List ℕ) → CellId × Change → List Feature
-change_features tables causes name after e =
-    map (λ p. told_after after (row_feature tables causes name p.0 e.0 p.1)) (change_shown e.1.before e.1.after)
+abbrev pub change_features : Naming → List CellId → Name → Option (List ℕ) → CellId × Change → List Feature
+change_features names causes name after e =
+    map (λ p. told_after after (row_feature names causes name p.0 e.0 p.1)) (change_shown e.1.before e.1.after)
 
 -- what a member changes, ascending
-unfoldable pub member_features : List TableDef → List CellId → Option (List Precedence) → Name × Changes → List Feature
-member_features tables causes before member =
-    flat_map (change_features tables causes member.0 (option_map (names_before_text member.0) before)) (finite.entries member.1)
+unfoldable pub member_features : Naming → List CellId → Option (List Precedence) → Name × Changes → List Feature
+member_features names causes before member =
+    flat_map (change_features names causes member.0 (option_map (names_before_text member.0) before)) (finite.entries member.1)
 
 -- what the members change, in the order of their names
-abbrev pub changed_features : List TableDef → List CellId → Option (List Precedence) → List Name → List Changes → List Feature
-changed_features tables causes before names sets = flat_map (member_features tables causes before) (zip names sets)
+abbrev pub changed_features : Naming → List CellId → Option (List Precedence) → List Name → List Changes → List Feature
+changed_features names causes before designs sets = flat_map (member_features names causes before) (zip designs sets)

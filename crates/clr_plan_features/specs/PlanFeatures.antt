@@ -2,7 +2,6 @@
 use Rattle.std.specs.Prelude.{◌≡◌, ℕ, pos, true, List, [], ◌∷◌, ◌++◌, codes, Option, Some, None}
 use Rattle.clr_rows.specs.declared.cells.CellId.{CellId}
 use Rattle.clr_rows.specs.declared.places.Shape.TheVariants.{At}
-use Rattle.clr_rows.specs.declared.tables.TableDef.{TableDef}
 use Rattle.clr_rows.specs.Contents.{Changes, Content}
 use Rattle.clr_workspaces.specs.Marks.{Name}
 use Rattle.clr_needs.specs.declared.needs.VersionId.{VersionId}
@@ -15,6 +14,8 @@ use Rattle.clr_cert.specs.declared.certificates.Precedence.{Precedence}
 use Rattle.clr_merge_sets.specs.MemberChanges.{rows_of_root}
 use Rattle.clr_merge_sets.specs.declared.plans.Plan.{Plan}
 use Rattle.clr_merge_sets.specs.declared.plans.Plan.TheVariants as plan
+use Rattle.clr_ids.specs.declared.records.IdRecord.{IdRecord}
+use Rattle.clr_row_names.specs.RowNames.{Naming}
 use Rattle.clr_geojson.specs.declared.features.Feature.{Feature}
 use Rattle.clr_geojson.specs.Collections.{collection_text}
 use Rattle.clr_geojson.specs.Properties.{flag_property, number_property, text_property}
@@ -59,15 +60,17 @@ place_features (Some marked) = place_feature marked ∷ []
 -- all ----------------------------------------------------------------------------------------
 
 -- what stands in a root and isn't changed, what each member changes, with who goes before it, if that is told, and the place of a cause, if there is one
-abbrev pub features_of : List TableDef → List CellId → Option (List Precedence) → Name → List Name → List Changes → Content → Option MarkedPlace → List Feature
-features_of tables causes before root names sets rows marked =
-    standing_features tables causes root sets rows ++ changed_features tables causes before names sets ++ place_features marked
+abbrev pub features_of : Naming → List CellId → Option (List Precedence) → Name → List Name → List Changes → Content → Option MarkedPlace → List Feature
+features_of names causes before root designs sets rows marked =
+    standing_features names causes root sets rows ++ changed_features names causes before designs sets ++ place_features marked
 
-abbrev pub plan_features : Office → MergeSet → Plan → Option (List Precedence) → Option MarkedPlace → List Feature
-plan_features o s p before marked = features_of o.schema (cause_cells p) before s.root s.members (change_sets o s) (rows_of_root o s.root) marked
+-- the features of a plan, whose rows have the ids of a book where one is given
+abbrev pub plan_features : Office → MergeSet → Plan → Option (List IdRecord) → Option (List Precedence) → Option MarkedPlace → List Feature
+plan_features o s p book before marked =
+    features_of (record { tables = o.schema; book = book }) (cause_cells p) before s.root s.members (change_sets o s) (rows_of_root o s.root) marked
 
 -- the text of these features
-abbrev pub AreFeatures : Office → MergeSet → Plan → Option ℕ → List ℕ → Type 0
-AreFeatures o s p system text =
+abbrev pub AreFeatures : Office → MergeSet → Plan → Option (List IdRecord) → Option ℕ → List ℕ → Type 0
+AreFeatures o s p book system text =
     (before : Option (List Precedence)) × (marked : Option MarkedPlace) × ArePrecedencesOfPlan o s p before × IsPlaceOfPlan o s p marked
-    × (text ≡ collection_text system (plan_features o s p before marked))
+    × (text ≡ collection_text system (plan_features o s p book before marked))

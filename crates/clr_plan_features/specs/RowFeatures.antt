@@ -1,5 +1,5 @@
 -- The feature of a row.
-use Rattle.std.specs.Prelude.{ℕ, Bool, List, [], ◌∷◌, ◌++◌, ◌&&◌, ◌==◌, codes, map, Option, Some, None, slice_get}
+use Rattle.std.specs.Prelude.{ℕ, Bool, List, [], ◌∷◌, ◌++◌, ◌&&◌, ◌==◌, codes, map, Option, Some, None, option_and_then, slice_get}
 use Rattle.std.specs.List.{list_any, zip}
 use Rattle.std.specs.Ordering.{int_eq}
 use Rattle.clr_rows.specs.declared.cells.CellId.{CellId}
@@ -10,6 +10,8 @@ use Rattle.clr_rows.specs.declared.tables.Kind.{Kind}
 use Rattle.clr_rows.specs.declared.tables.TableDef.{TableDef}
 use Rattle.clr_rows.specs.Schemas.{name_of_table}
 use Rattle.clr_workspaces.specs.Marks.{Name}
+use Rattle.clr_ids.specs.Books.{id_of}
+use Rattle.clr_row_names.specs.RowNames.{Naming}
 use Rattle.clr_geojson.specs.declared.features.Feature.{Feature}
 use Rattle.clr_geojson.specs.declared.features.Property.{Property}
 use Rattle.clr_geojson.specs.Properties.{flag_property, number_property, text_property}
@@ -49,9 +51,18 @@ cell_properties tables causes workspace what cell =
     ∷ text_property (codes "workspace") workspace ∷ text_property (codes "what") (what_word what)
     ∷ flag_property (codes "cause") (is_one_of_cells causes cell) ∷ []
 
--- the feature of a row, by the tables, the cells that a cause names, the workspace, and what becomes of the row
-unfoldable pub row_feature : List TableDef → List CellId → Name → What → CellId → Row → Feature
-row_feature tables causes workspace what cell row = record {
-  properties = cell_properties tables causes workspace what cell ++ value_properties (slice_get tables cell.table) row.values;
+-- the id of a row, where a book has one for it
+abbrev pub id_property : Option (List ℕ) → List Property
+id_property None = []
+id_property (Some id) = text_property (codes "id") id ∷ []
+
+abbrev pub id_properties : Naming → CellId → List Property
+id_properties rows cell = id_property (option_and_then (λ book. id_of book (name_of_table rows.tables cell.table) cell.key) rows.book)
+
+-- the feature of a row, by the names of rows, the cells that a cause names, the workspace, and what becomes of the row
+unfoldable pub row_feature : Naming → List CellId → Name → What → CellId → Row → Feature
+row_feature rows causes workspace what cell row = record {
+  properties =
+      cell_properties rows.tables causes workspace what cell ++ id_properties rows cell ++ value_properties (slice_get rows.tables cell.table) row.values;
   shape = row.shape;
 }

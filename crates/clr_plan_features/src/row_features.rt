@@ -3,10 +3,12 @@
 ghost use Rattle.std.specs.Prelude.{◌≡◌, ◌++◌, codes, map, string_bytes, IfOk, OnOk};
 ghost use Rattle.std.specs.List.{zip};
 ghost use Rattle.std.specs.Option.{option_copied};
-ghost use Rattle.clr_plan_features.specs.RowFeatures.{cell_properties, column_property, is_one_of_cells, is_same_cell, row_feature, value_properties};
-ghost use Rattle.clr_plan_features.specs.RowFeatures.{value_property, what_word};
+ghost use Rattle.clr_plan_features.specs.RowFeatures.{cell_properties, column_property, id_properties, is_one_of_cells, is_same_cell, row_feature};
+ghost use Rattle.clr_plan_features.specs.RowFeatures.{value_properties, value_property, what_word};
+ghost use Rattle.clr_row_names.specs.RowNames.{seen_names};
 
 use clr_geojson::{Feature, Properties, Property};
+use clr_row_names::RowNames;
 use clr_rows::{CellId, Kind, Row, Schema, TableDef, Value, Words};
 use std::alloc::{AllocError, Global};
 
@@ -120,21 +122,43 @@ fn cell_properties(
     Ok(list)
 }
 
+/// Adds the property of the id of a row of a table, where a book has one for it.
+fn add_id(
+    alloc: Global,
+    list: &mut Vec<Property>,
+    rows: &RowNames<'_>,
+    cell: CellId,
+) -> Result<(), AllocError>
+    ensures { OnOk result (list.new.items ≡ list.old.items ++ id_properties (seen_names rows.now) cell) }
+{
+    let Some(book) = rows.book else {
+        return Ok(());
+    };
+    match book.id_of(alloc, rows.schema.name_of_table(cell.table), cell.key)? {
+        Some(id) => {
+            list.push(Property::text(alloc, "id", id)?)?;
+            Ok(())
+        }
+        None => Ok(()),
+    }
+}
+
 /// Returns the feature of a row at a cell, in a workspace: the cells are those that a cause names.
 #[tactic(auto, unfolding(crate::specs::RowFeatures::row_feature))]
 pub(crate) fn row_feature(
     alloc: Global,
-    schema: &Schema,
+    rows: &RowNames<'_>,
     causes: &[CellId],
     workspace: &str,
     what: What,
     cell: CellId,
     row: &Row,
 ) -> Result<Feature, AllocError>
-    ensures { IfOk result (λ feature. feature ≡ row_feature schema.now causes.now workspace.now what cell row.now) }
+    ensures { IfOk result (λ feature. feature ≡ row_feature (seen_names rows.now) causes.now workspace.now what cell row.now) }
 {
-    let mut list = cell_properties(alloc, schema, causes, workspace, what, cell)?;
-    add_row_values(alloc, &mut list, schema.def(cell.table), row)?;
+    let mut list = cell_properties(alloc, rows.schema, causes, workspace, what, cell)?;
+    add_id(alloc, &mut list, rows, cell)?;
+    add_row_values(alloc, &mut list, rows.schema.def(cell.table), row)?;
     Ok(Feature {
         properties: Properties::new(list),
         shape: row.shape.copy()?,

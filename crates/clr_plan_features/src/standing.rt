@@ -4,6 +4,7 @@ ghost use Rattle.std.specs.Prelude.{◌≡◌, ◌++◌, is_some, OnOk};
 ghost use Rattle.std.specs.FinMap as finite;
 ghost use Rattle.std.specs.List.{flat_map};
 ghost use Rattle.clr_geojson.specs.Collections.{line_with_comma};
+ghost use Rattle.clr_row_names.specs.RowNames.{seen_names};
 ghost use Rattle.clr_plan_features.specs.ChangeFeatures.{is_changed_by, standing_features};
 ghost use Rattle.clr_plan_features.specs.RowFeatures.{row_feature};
 ghost use Rattle.clr_plan_features.specs.declared.row_features.What.TheVariants.{Stands as IsStanding};
@@ -11,7 +12,8 @@ ghost use Rattle.clr_plan_features.specs.declared.row_features.What.TheVariants.
 use crate::row_features::{What, row_feature};
 use clr_change::ChangeSet;
 use clr_geojson::add_feature;
-use clr_rows::{CellId, Row, Schema, Sheet};
+use clr_row_names::RowNames;
+use clr_rows::{CellId, Row, Sheet};
 use std::alloc::{AllocError, Global};
 
 fn changes_cell(set: &ChangeSet, cell: CellId) -> bool
@@ -31,15 +33,16 @@ fn is_changed_by(sets: &[ChangeSet], cell: CellId) -> bool
 fn add_row(
     alloc: Global,
     text: &mut Vec<u8>,
-    schema: &Schema,
+    names: &RowNames<'_>,
     causes: &[CellId],
     root: &str,
     cell: CellId,
     row: &Row,
 ) -> Result<(), AllocError>
-    ensures { OnOk result (text.new.items ≡ text.old.items ++ line_with_comma (row_feature schema.now causes.now root.now IsStanding cell row.now)) }
+    ensures { OnOk result (text.new.items ≡ text.old.items
+        ++ line_with_comma (row_feature (seen_names names.now) causes.now root.now IsStanding cell row.now)) }
 {
-    let feature = row_feature(alloc, schema, causes, root, What::Stands, cell, row)?;
+    let feature = row_feature(alloc, names, causes, root, What::Stands, cell, row)?;
     add_feature(text, &feature)
 }
 
@@ -47,18 +50,18 @@ fn add_row(
 pub(crate) fn add_standing(
     alloc: Global,
     text: &mut Vec<u8>,
-    schema: &Schema,
+    names: &RowNames<'_>,
     causes: &[CellId],
     root: &str,
     sets: &[ChangeSet],
     rows: &Sheet,
 ) -> Result<(), AllocError>
     ensures { OnOk result (text.new.items ≡ text.old.items
-        ++ flat_map line_with_comma (standing_features schema.now causes.now root.now sets.now rows.now)) }
+        ++ flat_map line_with_comma (standing_features (seen_names names.now) causes.now root.now sets.now rows.now)) }
 {
     for (cell, row) in rows.iter() {
         if !is_changed_by(sets, *cell) {
-            add_row(alloc, text, schema, causes, root, *cell, row)?;
+            add_row(alloc, text, names, causes, root, *cell, row)?;
         }
     }
     Ok(())

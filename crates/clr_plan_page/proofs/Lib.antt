@@ -1,2 +1,5 @@
+mod Blocks
+mod Lent
+mod Numbers
 mod DesignLemmas
 mod ReasonLemmas

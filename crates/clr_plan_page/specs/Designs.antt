@@ -33,7 +33,7 @@ abbrev pub change_row : List TableDef → CellId × Change → List (List ℕ)
 change_row tables e =
     cell_label tables e.0 ∷ becomes_text e.1 ∷ row_text tables e.0 e.1.before ∷ row_text tables e.0 e.1.after ∷ []
 
--- how many of so many changes are left out, if some are
+-- how many of so many rows are left out, if some are
 abbrev pub more_rows : ℕ → List (List (List ℕ))
 more_rows count = if nat_lt 400 count then ((codes "and " ++ decimal (count - 400) ++ codes " more") ∷ []) ∷ [] else []
 

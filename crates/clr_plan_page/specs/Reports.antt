@@ -21,7 +21,7 @@ use Rattle.clr_page_parts.specs.Commands.{word_text, words_text}
 use Rattle.clr_page_parts.specs.OldErrors.{old_errors_shown}
 use Rattle.clr_plan_page.specs.Designs.{AreDesigns}
 use Rattle.clr_plan_page.specs.Reasons.{IsWhy}
-use Rattle.clr_page_parts.specs.Shown.{Shown, Heading, Lines, Paragraph, Picture, Verdict, section_shown}
+use Rattle.clr_page_parts.specs.Shown.{Shown, FoldedLines, Heading, Lines, Paragraph, Picture, Verdict, said, section_shown}
 use Rattle.clr_plan_page.specs.declared.feet.TheConstants.{PLAN, PLANUNDER}
 
 -- the command ----------------------------------------------------------------------------------
@@ -50,9 +50,17 @@ members_text members = if length members == 0 then codes "nothing" else names_te
 abbrev pub about_text : List Name → Name → List ℕ
 about_text members root = members_text members ++ codes " into " ++ root
 
--- the word for what a plan says, in the tone of the plan, and what it is about; and this picture
-abbrev pub head_shown : Plan → List ℕ → List ℕ → List Shown
-head_shown p about picture = Verdict (plan_tone p) (plan_word p) about ∷ Picture picture ∷ []
+-- how long what a plan of a root's children says lasts, and what ends it
+abbrev pub lasts_text : Plan → Name → List ℕ
+lasts_text (plan.Cleared c) root =
+    codes "This lasts while these designs are merged and refreshed, in whatever order, until " ++ root ++ codes " or one of them is changed in another way."
+lasts_text (plan.Blocked order cause) root = codes "This is so until " ++ root ++ codes " or one of these designs is changed."
+lasts_text _ root = []
+
+-- the word for what a plan says, in the tone of the plan, and what it is about; what is said of the data; how long it lasts; and this picture
+abbrev pub head_shown : Plan → Name → (about source picture : List ℕ) → List Shown
+head_shown p root about source picture =
+    Verdict (plan_tone p) (plan_word p) about ∷ Paragraph source ∷ (said (lasts_text p root) ++ Picture picture ∷ [])
 
 -- the foot -------------------------------------------------------------------------------------
 
@@ -63,13 +71,14 @@ note_text (plan.Cleared c) =
     ++ codes "are a certificate, which clr_office check reads."
 note_text _ = codes "This page stands on the lines that this command prints; DB is the file of the office."
 
--- the command that prints the lines of a plan, and these lines
-abbrev pub lines_text : List TableDef → List Name → Name → Plan → List ℕ
-lines_text tables members root p = command_text members root ++ plan_text tables members root p
+-- the command that prints the lines of a plan, and these lines, which are folded if they are those of a certificate
+abbrev pub lines_blocks : Plan → (command lines : List ℕ) → List Shown
+lines_blocks (plan.Cleared c) command lines = Lines command ∷ FoldedLines (codes "The lines") lines ∷ []
+lines_blocks p command lines = Lines (command ++ lines) ∷ []
 
 abbrev pub foot_shown : List TableDef → List Name → Name → Plan → List Shown
 foot_shown tables members root p =
-    Heading (codes "To look again") ∷ Paragraph (note_text p) ∷ Lines (lines_text tables members root p) ∷ []
+    Heading (codes "To look again") ∷ Paragraph (note_text p) ∷ lines_blocks p (command_text members root) (plan_text tables members root p)
 
 -- the page -------------------------------------------------------------------------------------
 
@@ -82,15 +91,16 @@ pub record AreBetween (o : Office) (s : MergeSet) (p : Plan) (trials : List Tria
   pub reasons : IsWhy o s p trials why
   pub told : AreDesigns o s designs
 
--- a page that begins with the word for a plan and with a picture, and ends with the command and the lines of the plan; between are these sections
-pub record IsReportPage (tables : List TableDef) (s : MergeSet) (p : Plan) (picture : List ℕ) (between : List (List Shown)) (page : HtmlPage) : Type 0
-  where
-    pub title : page.title.items ≡ plan_word p ++ codes ": " ++ about_text s.members s.root
-    pub sections : map section_shown page.sections.items
-        ≡ head_shown p (about_text s.members s.root) picture ∷ (between ++ foot_shown tables s.members s.root p ∷ [])
+-- a page that begins with the word for a plan, with what is said of the data, with how long it lasts and with a picture, and ends with the command and the
+-- lines of the plan; between are these sections
+pub record IsReportPage (tables : List TableDef) (s : MergeSet) (p : Plan) (source picture : List ℕ) (between : List (List Shown)) (page : HtmlPage)
+    : Type 0 where
+  pub title : page.title.items ≡ plan_word p ++ codes ": " ++ about_text s.members s.root
+  pub sections : map section_shown page.sections.items
+      ≡ head_shown p s.root (about_text s.members s.root) source picture ∷ (between ++ foot_shown tables s.members s.root p ∷ [])
 
 -- the text of such a page, whose picture is the map of the plan
-pub record IsReport (o : Office) (s : MergeSet) (p : Plan) (text : List ℕ) : Type 0 where
+pub record IsReport (o : Office) (s : MergeSet) (p : Plan) (source text : List ℕ) : Type 0 where
   pub picture : List ℕ
   pub trials : List Trial
   pub between : List (List Shown)
@@ -98,5 +108,5 @@ pub record IsReport (o : Office) (s : MergeSet) (p : Plan) (text : List ℕ) : T
   pub map : IsMap o s p picture
   pub tried : AreTrialsOf o s p trials
   pub told : AreBetween o s p trials between
-  pub shown : IsReportPage o.schema s p picture between page
+  pub shown : IsReportPage o.schema s p source picture between page
   pub written : text ≡ html_page_text page

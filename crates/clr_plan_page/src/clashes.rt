@@ -1,116 +1,129 @@
-//! The smallest sets of members that can't be merged together.
+//! The smallest sets of members that can't be merged in every order.
 
-ghost use Rattle.std.specs.Prelude.{◌≡◌, ◌++◌, ◌∷◌, [], false, map, string_bytes, IfOk, OnOk};
-ghost use Rattle.clr_html.specs.Words.{words_of_row};
+ghost use Rattle.std.specs.Prelude.{◌≡◌, ◌++◌, false, map, string_bytes, IfOk, OnOk};
+ghost use Rattle.std.specs.List.{flat_map};
+ghost use Rattle.std.specs.Option.{option_copied};
+ghost use Rattle.clr_merge_clashes.specs.ClashSets.{positions_of};
 ghost use Rattle.clr_merge_sets.specs.MemberChanges.{AreMembers, set_of};
-ghost use Rattle.clr_phrases.specs.Lists.{names_text as listed_names};
-ghost use Rattle.clr_plan_page.specs.Clashes.{TellsClashes, clash_row, clashes_shown, is_lost, set_heads, set_row, sets_shown};
-ghost use Rattle.clr_page_parts.specs.Shown.{Adds, heads_of, rows_of, shown};
+ghost use Rattle.clr_plan_page.specs.Clashes.{AreFoundClashes, TellsClashes, all_clashes, clash_at, clash_by, clash_shown, clash_title, helps_text, is_lost};
+ghost use Rattle.clr_page_parts.specs.Shown.{Adds, shown};
 
+use clr_clash_helpers::{HelpedClash, helped_clashes};
 use clr_clearance::Verdict;
-use clr_html::{Table, TableRow};
-use clr_member_changes::MemberChanges;
-use clr_merge_clashes::{MergeClash, MergeClashes, merge_clashes_of};
+use clr_html::{Block, InlineText};
+use clr_merge_clashes::{MergeClashes, merge_clashes_of};
 use clr_merge_sets::names_at;
-use clr_page_parts::{Builder, row_of, table_of};
+use clr_page_parts::{Builder, add_cause, causes_of};
 use clr_phrases::add_names;
-use clr_plan_sentences::Setting;
+use clr_plan_sentences::{CauseWords, Setting};
 use std::alloc::{AllocError, Global};
 
-/// Returns names with commas between them.
-fn join_names(alloc: Global, names: &[&str]) -> Result<String, AllocError>
-    ensures { IfOk result (λ text. string_bytes text ≡ listed_names (map (λ name. name.now) names.now)) }
+/// Returns the number of a clash, and its designs.
+fn clash_title(alloc: Global, number: usize, names: &[&str]) -> Result<String, AllocError>
+    ensures { IfOk result (λ text. string_bytes text ≡ clash_title number (map (λ name. name.now) names.now)) }
 {
-    let mut text = String::new(alloc);
+    let mut text = format!(in alloc; "Clash {number}: ")?;
     add_names(&mut text, names)?;
     Ok(text)
 }
 
-/// Returns the row of members with these names: who they are, and why they can't be merged together. No member's changes are looked at for that.
-fn set_row(setting: Setting<'_>, names: &[&str], cause: &Verdict) -> Result<TableRow, AllocError>
-    ensures { IfOk result (λ row. words_of_row row
-        ≡ set_row setting.entry.office.now setting.entry.members.now.root.now (map (λ name. name.now) names.now) cause.now) }
+/// Returns who helps a clash, in words.
+fn helps_text(alloc: Global, names: &[&str]) -> Result<String, AllocError>
+    ensures { IfOk result (λ text. string_bytes text ≡ helps_text (map (λ name. name.now) names.now)) }
 {
-    let alloc = setting.alloc;
-    let members = MemberChanges {
-        root: setting.members.root,
-        names,
-        changes: Vec::new(alloc),
-    };
-    let among = Setting {
-        alloc,
-        office: setting.office,
-        members: &members,
-    };
-    let reason = among.reason(cause)?;
-    let list = join_names(alloc, names)?;
-    row_of(alloc, &[list.as_str(), reason.as_str()])
+    if names.is_empty() {
+        return String::from_str(alloc, "No order of these designs helps.");
+    }
+    let mut text = String::from_str(alloc, "Each of these helps, if it is merged first: ")?;
+    add_names(&mut text, names)?;
+    Ok(text)
 }
 
-/// Returns the row of a set: its members, and why they can't be merged together.
-fn clash_row(setting: Setting<'_>, clash: &MergeClash) -> Result<TableRow, AllocError>
-    ensures { IfOk result (λ row. words_of_row row ≡ clash_row setting.entry.office.now (set_of setting.entry.members.now) clash.now) }
-{
-    let names = names_at(
-        setting.alloc,
-        setting.members.names,
-        clash.members.as_slice(),
-    )?;
-    set_row(setting, names.as_slice(), &clash.cause)
-}
-
-/// Adds the rows of sets.
-fn add_rows(
+/// Adds the clash of a number: its designs, why they can't be merged in every order, and who helps.
+fn add_shown(
+    section: &mut Builder,
     setting: Setting<'_>,
-    clashes: &[MergeClash],
-    rows: &mut Vec<TableRow>,
+    number: usize,
+    clash: &HelpedClash<'_>,
+    cause: &CauseWords,
 ) -> Result<(), AllocError>
-    ensures { OnOk result (map words_of_row rows.new.items ≡ map words_of_row rows.old.items
-        ++ map (clash_row setting.entry.office.now (set_of setting.entry.members.now)) clashes.now) }
+    ensures { OnOk result (map shown section.new.blocks.items ≡ map shown section.old.blocks.items
+        ++ clash_shown (set_of setting.entry.members.now) number clash.now cause.now) }
 {
-    for clash in clashes {
-        rows.push(clash_row(setting, clash)?)?;
+    let (alloc, all) = (setting.alloc, setting.members.names);
+    let names = names_at(alloc, all, clash.clash.members.as_slice())?;
+    let helpers = names_at(alloc, all, clash.helpers.as_slice())?;
+    let title = clash_title(alloc, number, names.as_slice())?;
+    let helps = helps_text(alloc, helpers.as_slice())?;
+    section.add(Block::Paragraph(InlineText::Strong(title.into_bytes())))?;
+    add_cause(section, cause)?;
+    section.add(Block::Paragraph(InlineText::Plain(helps.into_bytes())))
+}
+
+/// Adds the clash of a number, if there is one and its cause is known.
+fn add_clash(
+    section: &mut Builder,
+    setting: Setting<'_>,
+    number: usize,
+    clash: Option<&HelpedClash<'_>>,
+    cause: Option<&CauseWords>,
+) -> Result<(), AllocError>
+    ensures { OnOk result (map shown section.new.blocks.items ≡ map shown section.old.blocks.items
+        ++ clash_by (set_of setting.entry.members.now) number (option_copied clash.entry) (option_copied cause.entry)) }
+{
+    match (clash, cause) {
+        (Some(clash), Some(cause)) => add_shown(section, setting, number, clash, cause),
+        _ => Ok(()),
+    }
+}
+
+/// Adds each clash.
+fn add_each(
+    section: &mut Builder,
+    setting: Setting<'_>,
+    helped: &[HelpedClash<'_>],
+    causes: &[CauseWords],
+) -> Result<(), AllocError>
+    ensures { OnOk result (map shown section.new.blocks.items ≡ map shown section.old.blocks.items
+        ++ flat_map (clash_at (set_of setting.entry.members.now) helped.now causes.now) (positions_of helped.now)) }
+{
+    for at in 0..helped.len() {
+        add_clash(section, setting, at + 1, helped.get(at), causes.get(at))?;
     }
     Ok(())
 }
 
-/// Returns the table of sets.
-fn sets_table(setting: Setting<'_>, clashes: &[MergeClash]) -> Result<Table, AllocError>
-    ensures heads { IfOk result (λ table. heads_of table ≡ set_heads) }
-    ensures rows { IfOk result (λ table. rows_of table ≡ map (clash_row setting.entry.office.now (set_of setting.entry.members.now)) clashes.now) }
-{
-    let mut table = table_of(setting.alloc, &["Designs", "Why not together"])?;
-    add_rows(setting, clashes, &mut table.rows)?;
-    Ok(table)
-}
-
-/// Adds sets, or the sentence that there is none.
-fn add_sets(
+/// Adds each clash, or that there is none.
+fn add_all(
     section: &mut Builder,
     setting: Setting<'_>,
-    clashes: &[MergeClash],
+    helped: &[HelpedClash<'_>],
+    causes: &[CauseWords],
 ) -> Result<(), AllocError>
     ensures { OnOk result (map shown section.new.blocks.items ≡ map shown section.old.blocks.items
-        ++ sets_shown setting.entry.office.now (set_of setting.entry.members.now) clashes.now ∷ []) }
+        ++ all_clashes (set_of setting.entry.members.now) helped.now causes.now) }
 {
-    if clashes.is_empty() {
+    if helped.is_empty() {
         return section.add_paragraph("No set of these designs clashes.");
     }
-    let table = sets_table(setting, clashes)?;
-    section.add_table(table)
+    add_each(section, setting, helped, causes)
 }
 
-/// Adds the sets that were found, below a heading.
+/// Adds the clashes that were found, below a heading.
 fn add_found(
     section: &mut Builder,
     setting: Setting<'_>,
     found: &MergeClashes,
 ) -> Result<(), AllocError>
-    ensures { OnOk result (map shown section.new.blocks.items ≡ map shown section.old.blocks.items
-        ++ clashes_shown setting.entry.office.now (set_of setting.entry.members.now) found.now) }
+    requires { AreMembers setting.office.now (set_of setting.members.now) setting.members.now }
+    ensures { OnOk result (Adds (AreFoundClashes setting.entry.office.now (set_of setting.entry.members.now) found.now)
+        (map shown section.old.blocks.items) (map shown section.new.blocks.items)) }
 {
+    let clashes = found.clashes.as_slice();
+    let helped = helped_clashes(setting.alloc, setting.office, setting.members, clashes)?;
+    let causes = causes_of(setting, clashes)?;
     section.add_heading("The clashes")?;
-    add_sets(section, setting, found.clashes.as_slice())
+    add_all(section, setting, helped.as_slice(), causes.as_slice())
 }
 
 /// Fails where there was no memory for the sets.
@@ -123,8 +136,8 @@ fn unless_lost(fault: &Verdict) -> Result<(), AllocError>
     }
 }
 
-/// Adds the smallest sets of members that can't be merged together; nothing where a name is unfit. Where there was no
-/// memory for the sets, this call fails too.
+/// Adds the smallest sets of members that can't be merged in every order, each with its cause and who helps it; nothing where a name is unfit. Where there
+/// was no memory for the sets, this call fails too.
 pub(crate) fn add_clashes(section: &mut Builder, setting: Setting<'_>) -> Result<(), AllocError>
     requires { AreMembers setting.office.now (set_of setting.members.now) setting.members.now }
     ensures { OnOk result (Adds (TellsClashes setting.entry.office.now (set_of setting.entry.members.now))

@@ -77,8 +77,12 @@ fn first_changes(setting: Setting<'_>, set: &ChangeSet) -> Result<Vec<TableRow>,
     Ok(rows)
 }
 
-/// Adds the row that says how many changes are left out, if some are.
-fn add_rest(alloc: Global, rows: &mut Vec<TableRow>, count: usize) -> Result<(), AllocError>
+/// Adds the row that says how many rows are left out of so many, if some are.
+pub(crate) fn add_rest(
+    alloc: Global,
+    rows: &mut Vec<TableRow>,
+    count: usize,
+) -> Result<(), AllocError>
     ensures { OnOk result (map words_of_row rows.new.items ≡ map words_of_row rows.old.items ++ more_rows count) }
 {
     if count <= MOST_ROWS {

@@ -125,24 +125,24 @@ fn sections_between(
     Ok(sections)
 }
 
-/// Returns the page of a report with this picture, and with these sections between its head and its
-/// foot.
+/// Returns the page of a report with this said of its data, with this picture, and with these sections between its head and its foot.
 fn page_of(
     alloc: Global,
     schema: &Schema,
     root: &str,
     members: &[&str],
     plan: &Plan,
+    source: &[u8],
     picture: Vec<u8>,
     mut between: Vec<Section>,
 ) -> Result<HtmlPage, AllocError>
-    ensures { IfOk result (IsReportPage schema.now (merge_set root.now (map (λ name. name.now) members.now)) plan.now picture.items
-        (map section_shown between.items)) }
+    ensures { IfOk result (IsReportPage schema.now (merge_set root.now (map (λ name. name.now) members.now)) plan.now source.now
+        picture.items (map section_shown between.items)) }
 {
     let words = about(alloc, root, members)?;
     let about = words.as_str();
     let title = plan_title(alloc, plan, about)?;
-    let head = head_of(alloc, plan, about, picture)?;
+    let head = head_of(alloc, plan, root, about, source, picture)?;
     let foot = foot_of(alloc, schema, root, members, plan)?;
     let mut sections = Vec::new(alloc);
     sections.push(head)?;
@@ -152,19 +152,21 @@ fn page_of(
 }
 
 /// Returns the report of a plan of members whose changes were read of this office, as the text of a page of hypertext in one file, which loads nothing. It
-/// begins with the word for what the plan says and with the map. Then it says why, with the rows of the cause, what was tried to help and in which order
-/// the designs can be merged, or what serves each need; what each design changes; the smallest sets of designs that can't be merged together; and, if the
-/// root breaks needs already, how many of each rule. It ends with the command of `clr_office` that prints the lines of the plan, with DB for the office's
-/// file, and with these lines. Each text of the office is escaped. Lengths and places are in metres with three decimals. Of a design or a certificate the
-/// first 400 rows are shown. The office is left as it was, unless memory runs out.
+/// begins with the word for what the plan says, with what is said of the data, with how long that lasts and what ends it, and with the map. Then it says why,
+/// with the rows of the cause, what was tried to help and in which order the designs can be merged, or what serves each need; what each design changes; the
+/// smallest sets of designs that can't be merged together, each with its cause and its helpers; and, if the root breaks needs already, how many of each rule.
+/// It ends with the command of `clr_office` that prints the lines of the plan, with DB for the office's file, and with these lines. Each text of the office is
+/// escaped. Lengths and places are in metres with three decimals. Of a design, and of the needs of a rule, the first 400 rows are shown. The office is left as
+/// it was, unless memory runs out.
 pub fn plan_report(
     alloc: Global,
     office: &mut Office,
     members: &MemberChanges<'_>,
     plan: &Plan,
+    source: &[u8],
 ) -> Result<Vec<u8>, AllocError>
     requires { AreMembers office.old (set_of members.now) members.now }
-    ensures report { IfOk result (λ text. IsReport office.old (set_of members.now) plan.now text.items) }
+    ensures report { IfOk result (λ text. IsReport office.old (set_of members.now) plan.now source.now text.items) }
     ensures back { IfOk result (λ text. office.new ≡ office.old) }
 {
     let (root, names) = (members.root, members.names);
@@ -172,7 +174,7 @@ pub fn plan_report(
     let trials = try_remedies(alloc, office, members, plan)?;
     let between = sections_between(alloc, office, members, plan, trials.as_slice())?;
     let schema = office.schema();
-    let page = page_of(alloc, schema, root, names, plan, picture, between)?;
+    let page = page_of(alloc, schema, root, names, plan, source, picture, between)?;
     let text = write_page(alloc, &page)?;
     Ok(text)
 }

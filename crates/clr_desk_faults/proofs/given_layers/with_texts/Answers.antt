@@ -1,4 +1,4 @@
-use Rattle.std.proofs.Common.{rules, ◌≡◌, ◌∙◌, ◌++◌, map, ap, arith, sym, append-nil, length, [], ◌∷◌, List, ℕ, drop, refl, subst}
+use Rattle.std.proofs.Common.{◌≡◌, ◌∙◌, ◌++◌, map, ap, arith, sym, append-nil, length, [], ◌∷◌, List, drop, refl, subst}
 use Rattle.std.specs.List.{zip}
 use Rattle.std.specs.Vec.Iter.{into_iter_items, into_iter_len, into_iter_steps}
 use Rattle.clr_desk_faults.specs.GivenLayers.{pair_of}

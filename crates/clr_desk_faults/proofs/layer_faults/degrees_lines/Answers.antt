@@ -1,6 +1,6 @@
 use Rattle.std.proofs.Common.{◌+◌, ◌++◌, ◌∙◌, ap, sym}
 use Rattle.clr_layer_changes.specs.declared.options.GivenLayer.{GivenLayer}
-use Rattle.clr_layer_reports.specs.Degrees.{degrees_text}
+use Rattle.clr_degrees.specs.Degrees.{degrees_text}
 use Rattle.clr_desk_faults.specs.FaultPlaces.{file_name}
 use Rattle.clr_desk_faults.proofs.LayerReportLemmas.{degrees_begin, degrees_end, degrees_go_on}
 use Rattle.clr_desk_faults.proofs.layer_faults.degrees_lines.Goals as goal

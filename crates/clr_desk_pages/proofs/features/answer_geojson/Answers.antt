@@ -1,4 +1,5 @@
 use Rattle.std.proofs.Common.{◌≡◌, ◌∙◌, Some, None, ap, sym}
+use Rattle.std.specs.Prelude.{option_map}
 use Rattle.std.specs.Option.{option_copied}
 use Rattle.clr_office_texts.specs.Drafts.{opened_in}
 use Rattle.clr_desk_prints.specs.Printing.{IsPrintoutIn}
@@ -11,9 +12,10 @@ pub returns-in_default : goal.returns-in_default
 returns-in_default c =
     let none : option_copied c.args.system ≡ None = ap option_copied c.in_default.is in
     let root = c.args.root.now in
+    let book = option_map (λ b. b.now) c.args.book in
     let names = c.args.names.now in
     let given = opened_in c.args.office.now in
-    made_as (IsPrintoutIn (AreHintedFeatures root names None) given) (IsFeaturesAnswer root names (option_copied c.args.system) given)
+    made_as (IsPrintoutIn (AreHintedFeatures root names book None) given) (IsFeaturesAnswer root names (option_copied c.args.system) book given)
     (λ print is. without_system none is) c.answer_in.result c.answer_in.ensures
 
 pub returns-in-Some-system_of : goal.returns-in-Some-system_of
@@ -22,9 +24,10 @@ returns-in-Some-system_of c =
     let named : option_copied c.args.system ≡ Some (system_name code) =
     ap option_copied c.in-Some.is ∙ ap Some (sym c.as_str.ensures ∙ c.in-Some-system_of.ensures.named) in
     let root = c.args.root.now in
+    let book = option_map (λ b. b.now) c.args.book in
     let names = c.args.names.now in
     let given = opened_in c.args.office.now in
-    made_as (IsPrintoutIn (AreHintedFeatures root names (Some code)) given) (IsFeaturesAnswer root names (option_copied c.args.system) given)
+    made_as (IsPrintoutIn (AreHintedFeatures root names book (Some code)) given) (IsFeaturesAnswer root names (option_copied c.args.system) book given)
     (λ print is. in_system code named is) c.answer_in-in-Some-system_of.result c.answer_in-in-Some-system_of.ensures
 
 pub returns-in_ok-print_of_no_system-in-None : goal.returns-in_ok-print_of_no_system-in-None

@@ -1,4 +1,5 @@
 use Rattle.std.proofs.Common.{List, ℕ, map, subst₂}
+use Rattle.std.specs.Prelude.{option_map}
 use Rattle.clr_merge_sets.specs.MergeSetNames.{merge_set}
 use Rattle.clr_plan_features.specs.PlanFeatures.{AreFeatures}
 use Rattle.clr_desk_prints.specs.Printing.{IsFoundPlan}
@@ -22,7 +23,7 @@ returns c =
       c.in_ok-text.text.items,
       subst₂ (λ (members : List (List ℕ)) (root : List ℕ). IsFoundPlan c.args.office.now (merge_set root members) c.in_ok-plan.plan) read.names
           read.members.root c.in_ok-plan.ensures,
-      subst₂ (λ (members : List (List ℕ)) (root : List ℕ). AreFeatures c.args.office.now (merge_set root members) c.in_ok-plan.plan c.args.system
-          c.in_ok-text.text.items) read.names read.members.root c.in_ok-text.ensures,
+      subst₂ (λ (members : List (List ℕ)) (root : List ℕ). AreFeatures c.args.office.now (merge_set root members) c.in_ok-plan.plan
+          (option_map (λ b. b.now) c.args.book) c.args.system c.in_ok-text.text.items) read.names read.members.root c.in_ok-text.ensures,
       c.print_of_plan_text.ensures,
     )

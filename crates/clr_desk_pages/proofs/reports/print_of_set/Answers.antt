@@ -22,7 +22,8 @@ returns c =
       c.in_ok-text.text.items,
       subst₂ (λ (members : List (List ℕ)) (root : List ℕ). IsFoundPlan c.args.office.now (merge_set root members) c.in_ok-plan.plan) read.names
           read.members.root c.in_ok-plan.ensures,
-      subst₂ (λ (members : List (List ℕ)) (root : List ℕ). IsReport c.args.office.now (merge_set root members) c.in_ok-plan.plan c.in_ok-text.text.items)
+      subst₂ (λ (members : List (List ℕ)) (root : List ℕ). IsReport c.args.office.now (merge_set root members) c.in_ok-plan.plan c.args.source.now
+          c.in_ok-text.text.items)
           read.names read.members.root c.in_ok-text.ensures.report,
       c.print_of_plan_text.ensures,
     )

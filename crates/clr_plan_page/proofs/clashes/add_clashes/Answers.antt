@@ -1,16 +1,13 @@
-use Rattle.std.proofs.Common.{inl, map, refl}
+use Rattle.std.proofs.Common.{inl, map}
 use Rattle.std.proofs.lemmas.Result.{on_ok_weaker}
 use Rattle.clr_merge_sets.specs.MemberChanges.{set_of}
-use Rattle.clr_plan_page.specs.Clashes.{clashes_shown}
 use Rattle.clr_page_parts.specs.Shown.{shown}
 use Rattle.clr_plan_page.proofs.ReasonLemmas.{fault_told}
 use Rattle.clr_plan_page.proofs.clashes.add_clashes.Goals as goal
 
 pub returns-in-Ok : goal.returns-in-Ok
 returns-in-Ok c =
-    let o = c.args.setting.office.now in
-    let s = set_of c.args.setting.members.now in
-    on_ok_weaker c.add_found.result (λ told. (clashes_shown o s c.in-Ok.found, inl (c.in-Ok.found, c.in-Ok.ensures.found, refl), told)) c.add_found.ensures
+    on_ok_weaker c.add_found.result (λ told. (told.0, inl (c.in-Ok.found, c.in-Ok.ensures.found, told.1), told.2)) c.add_found.ensures
 
 pub returns-in-Err : goal.returns-in-Err
 returns-in-Err c =

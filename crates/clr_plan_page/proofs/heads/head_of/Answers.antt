@@ -1,10 +1,7 @@
-use Rattle.std.proofs.Common.{◌≡◌, ◌∙◌, ◌++◌, ◌∷◌, [], ℕ, List, ap, map, rules}
-use Rattle.clr_html.specs.declared.blocks.Block.{Block}
-use Rattle.clr_html.specs.declared.blocks.Block.TheVariants as block
-use Rattle.clr_html.specs.declared.blocks.Tone.{Tone}
+use Rattle.std.proofs.Common.{◌≡◌, ◌∙◌, ◌++◌, ◌∷◌, [], List, ap, map, rules}
 use Rattle.clr_plan_map.specs.Maps.{plan_word}
 use Rattle.clr_plan_page.specs.Reports.{plan_tone}
-use Rattle.clr_page_parts.specs.Shown.{Shown, Picture, Verdict, shown}
+use Rattle.clr_page_parts.specs.Shown.{Paragraph, Picture, Shown, Verdict, said, shown}
 use Rattle.clr_plan_page.proofs.heads.head_of.Goals as goal
 
 pub returns : goal.returns
@@ -12,11 +9,14 @@ returns c =
     let p = c.args.plan.now in
     let word : c.in_ok-word.word.items ≡ plan_word p = search rules in
     let about : c.in_ok-about.about.items ≡ c.args.about.now = search rules in
-    let verdict = block.Verdict c.plan_tone.result c.in_ok-word.word c.in_ok-about.about in
-    let first = c.in_ok-push.ensures.items ∙ ap (λ (blocks : List Block). blocks ++ verdict ∷ []) c.new-blocks.ensures.items in
-    let both = c.in_ok-push-2.ensures.items ∙ ap (λ (blocks : List Block). blocks ++ block.Picture c.args.picture ∷ []) first in
-    let head = λ (tone : Tone) (word about : List ℕ). let b : List Shown = Verdict tone word about ∷ Picture c.args.picture.items ∷ [] in b in
-    ap (map shown) both
-    ∙ ap (λ (tone : Tone). head tone c.in_ok-word.word.items c.in_ok-about.about.items) c.plan_tone.ensures
-    ∙ ap (λ (text : List ℕ). head (plan_tone p) text c.in_ok-about.about.items) word
-    ∙ ap (λ (text : List ℕ). head (plan_tone p) (plan_word p) text) about
+    let source : c.in_ok-source.source.items ≡ c.args.source.now = search rules in
+    let picture = c.args.picture.items in
+    let verdict = Verdict c.plan_tone.result c.in_ok-word.word.items c.in_ok-about.about.items in
+    let one = c.in_ok-add.ensures ∙ ap (λ (blocks : List Shown). blocks ++ verdict ∷ []) (ap (map shown) c.new-section.ensures) in
+    let two = c.in_ok-add-2.ensures ∙ ap (λ (blocks : List Shown). blocks ++ Paragraph c.in_ok-source.source.items ∷ []) one in
+    let lasts = c.as_str.ensures.value ∙ c.in_ok-lasts.ensures in
+    let three = c.in_ok-add_paragraph.ensures ∙ ap (λ (blocks : List Shown). blocks ++ said c.as_str.result.now) two in
+    let four = c.in_ok-add-3.ensures ∙ ap (λ (blocks : List Shown). blocks ++ Picture picture ∷ []) three in
+    c.into_section.ensures
+    ∙ four
+    ∙ (λ i. Verdict (c.plan_tone.ensures i) (word i) (about i) ∷ Paragraph (source i) ∷ (said (lasts i) ++ Picture picture ∷ []))

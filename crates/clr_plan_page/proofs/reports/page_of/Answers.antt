@@ -10,6 +10,7 @@ returns c =
     let p = c.args.plan.now in
     let members = map (λ name. name.now) c.args.members.now in
     let root = c.args.root.now in
+    let source = c.args.source.now in
     let picture = c.args.picture.items in
     let head = c.in_ok-head.head in
     let foot = c.in_ok-foot.foot in
@@ -20,7 +21,7 @@ returns c =
     let about = c.as_str-about.ensures.value ∙ c.in_ok-words.ensures in
     record {
       title = c.in_ok-title.ensures ∙ ap (λ (text : List ℕ). plan_word p ++ codes ": " ++ text) about;
-      sections = page_sections c.push-2.new.self.items between head foot (head_shown p (about_text members root) picture)
+      sections = page_sections c.push-2.new.self.items between head foot (head_shown p root (about_text members root) source picture)
           (foot_shown c.args.schema.now members root p) all
-          (c.in_ok-head.ensures ∙ ap (λ (text : List ℕ). head_shown p text picture) about) c.in_ok-foot.ensures;
+          (c.in_ok-head.ensures ∙ ap (λ (text : List ℕ). head_shown p root text source picture) about) c.in_ok-foot.ensures;
     }

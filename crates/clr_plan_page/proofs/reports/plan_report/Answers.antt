@@ -32,6 +32,6 @@ returns-clause-report c =
       map = subst (λ (sets : List Changes). IsMapOfChanges c.args.office.now s sets p picture) c.requires.changes c.in_ok-picture.ensures.map;
       tried = c.in_ok-trials.ensures.tried;
       told = subst (λ (o : Office). AreBetween o s p trials between) c.in_ok-trials.ensures.back told;
-      shown = subst (λ (tables : List TableDef). IsReportPage tables s p picture between page) tables c.in_ok-page.ensures;
+      shown = subst (λ (tables : List TableDef). IsReportPage tables s p c.args.source.now picture between page) tables c.in_ok-page.ensures;
       written = c.in_ok-text.ensures.written;
     }

@@ -1,0 +1,4 @@
+pub mod GrownIds
+pub mod KeyedLayers
+pub mod NamedPrints
+pub mod Places

@@ -1,0 +1,11 @@
+use Rattle.std.proofs.Common.{rules}
+use Rattle.clr_merge_sets.specs.MergeSetNames.{merge_set}
+use Rattle.clr_office_texts.specs.Drafts.{opened_in}
+use Rattle.clr_desk_prints.proofs.OpeningLemmas.{members_answered}
+use Rattle.clr_desk_json.specs.Clashes.{AreClashesTold}
+use Rattle.clr_desk_json.proofs.clashes.answer_clashes.Goals as goal
+
+pub returns : goal.returns
+returns c =
+    members_answered _ (λ members o. AreClashesTold (merge_set c.args.root.now members) o) c.args.root.now c.args.names.now
+    (opened_in c.args.office.now) c.answer_over_members.result c.answer_over_members.ensures (λ shown members r left met. search rules)

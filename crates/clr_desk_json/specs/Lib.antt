@@ -1,0 +1,10 @@
+pub mod Answers
+pub mod Boards
+pub mod Checks
+pub mod Choices
+pub mod Clashes
+pub mod Orders
+pub mod Plans
+pub mod Told
+pub mod Trials
+pub mod WorkOrders

@@ -1,0 +1,3 @@
+mod NightLemmas
+mod OrderFiles
+mod UnfitNights

@@ -1,0 +1,6 @@
+pub mod FieldLemmas
+pub mod KeyedLemmas
+pub mod KnownLemmas
+pub mod NamedLemmas
+pub mod ReadLemmas
+pub mod WriterLemmas

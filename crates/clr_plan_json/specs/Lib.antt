@@ -1,0 +1,9 @@
+pub mod Certificates
+pub mod Causes
+pub mod Choices
+pub mod Clashes
+pub mod Needs
+pub mod Orders
+pub mod Plans
+pub mod Versions
+pub mod Verdicts
