@@ -51,7 +51,7 @@ table_read : (t : TableDef) → table_of Fourth (table_data t) ≡ Ok t
 unfolding table_of columns_of
 table_read t = rw (any_read column_of column_data column_read t.columns, form_read t.shape) refl
 
-tables_read : (ts : List TableDef) → each (table_of Fourth) (items_of (map table_data ts)) ≡ Ok ts
+pub tables_read : (ts : List TableDef) → each (table_of Fourth) (items_of (map table_data ts)) ≡ Ok ts
 tables_read ts = any_read (table_of Fourth) table_data table_read ts
 
 -- a rule without known needs
@@ -63,7 +63,7 @@ without_read (EndNode subject tip server) within = rw (named_rule_read None (End
 without_read (Crossing a b server) within = rw (named_rule_read None (Crossing a b server) within) refl
 without_read (Near a b d) within = rw (named_rule_read None (Near a b d) within) refl
 
-without_all : (tables : List TableDef) (n : ℕ) (rules : List Rule) → AllByRecursion IsRuleWithin (map (named_rule tables) rules)
+pub without_all : (tables : List TableDef) (n : ℕ) (rules : List Rule) → AllByRecursion IsRuleWithin (map (named_rule tables) rules)
     → each (stated_rule_of Fourth) (items_of (map (rule_data tables []) (enumerate_from n rules))) ≡ Ok (map (stated tables []) (enumerate_from n rules))
 unfolding each
 without_all tables n [] within = refl

@@ -1,3 +1,4 @@
 mod CutsPlain
 mod CutsRead
 mod Listed
+mod NamedRead

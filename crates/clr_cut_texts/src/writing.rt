@@ -26,7 +26,7 @@ fn map_of(alloc: Global, workspace: StoredPart) -> Result<WorkspaceMap, AllocErr
 }
 
 /// Returns a text with workspaces written at its end as they are stored.
-fn with_workspaces(
+pub(crate) fn with_workspaces(
     alloc: Global,
     mut text: JsonText,
     schema: &Schema,

@@ -23,6 +23,7 @@ use Rattle.clr_desk_errors.specs.Mended.{IsMendedPrint}
 use Rattle.clr_desk_prints.specs.Members.{set_asked}
 use Rattle.clr_desk_prints.specs.NameHints.{IsHinted}
 use Rattle.clr_desk_prints.specs.Printing.{IsPrintoutIn, IsPrintoutOfCase, PrintoutOrFault}
+use Rattle.clr_desk.specs.CutMarks.{IsMarkedAlike}
 use Rattle.clr_desk.specs.Answers.{IsDeskAnswerIf, IsDeskAnswerTo, IsDeskAnswerWithin, are_too_long_ids, is_too_long_layer}
 use Rattle.clr_desk_plans.specs.Certificates.{IsCertificatePrint}
 use Rattle.clr_desk_merges.specs.Checks.{IsCheckPrint}
@@ -47,17 +48,17 @@ use Rattle.clr_desk.proofs.OnePrint.{one_hinted, one_in, one_of_case, one_of_dra
 one_geographic : (asked : GeographicAsk) (office second : List ℕ) (ids : Option (List ℕ)) (layers : List GivenLayer) (designs : List LayeredDesign) → is_whole_layer asked ≡ true
     → IsOnePrint (IsGeographicAnswer asked office second ids layers designs)
 one_geographic (geographic.Features root names system) office second ids layers designs whole = absurd (false≢true whole)
-one_geographic (geographic.Layer table workspace) office second ids layers designs whole = absurd (false≢true whole)
+one_geographic (geographic.Layer table workspace empties) office second ids layers designs whole = absurd (false≢true whole)
 one_geographic (geographic.ErrorFeatures system) office second ids layers designs whole = absurd (false≢true whole)
 one_geographic (geographic.Cut tables rounded) office second ids layers designs whole = absurd (false≢true whole)
 one_geographic (geographic.AcceptedOffice tables rounded) office second ids layers designs whole =
-    one_unless (is_cut_text office) (IsPrintoutOfDraft (IsAcceptedOfficePrint (options_of 1 rounded) layers) (draft_in office)) _
-    (one_of_draft (IsAcceptedOfficePrint (options_of 1 rounded) layers)
-    (λ o. one_of_layers (options_of 1 rounded) layers IsPrintOfAccepted one_accepted o o.live o.live) (draft_in office))
+    let P = IsPrintoutOfDraft (IsAcceptedOfficePrint (options_of 1 rounded) layers) (draft_in office) in
+    one_unless (is_cut_text office) (IsMarkedAlike P office) _ (one_marked P office (one_of_draft (IsAcceptedOfficePrint (options_of 1 rounded) layers)
+    (λ o. one_of_layers (options_of 1 rounded) layers IsPrintOfAccepted one_accepted o o.live o.live) (draft_in office)))
 one_geographic (geographic.Office tables rounded) office second ids layers designs whole =
-    one_unless (is_cut_text office) (IsPrintoutIn (IsOfficePrint (options_of 1 rounded) layers) (opened_in office)) _
-    (one_in (IsOfficePrint (options_of 1 rounded) layers) (λ o. one_of_layers (options_of 1 rounded) layers IsPrintOfLive one_live o o.live o.live)
-    (opened_in office))
+    let P = IsPrintoutIn (IsOfficePrint (options_of 1 rounded) layers) (opened_in office) in
+    one_unless (is_cut_text office) (IsMarkedAlike P office) _ (one_marked P office (one_in (IsOfficePrint (options_of 1 rounded) layers)
+    (λ o. one_of_layers (options_of 1 rounded) layers IsPrintOfLive one_live o o.live o.live) (opened_in office)))
 one_geographic (geographic.Design design) office second ids layers designs whole =
     let may_remove = may_remove_over design.may_remove office in
     one_marked (IsPrintoutIn (IsDesignPrint design.name (design_options design) may_remove layers) (opened_in office)) office

@@ -1,5 +1,5 @@
 -- No text and no certificate has a failed write as its fault.
-use Rattle.std.proofs.Common.{◌≡◌, ℕ, Bool, true, false, List, [], ◌∷◌, Option, Some, None, Err, Ok, Result, nat_eq, rules, subst, sym}
+use Rattle.std.proofs.Common.{◌≡◌, ◌||◌, ℕ, Bool, true, false, List, [], ◌∷◌, Option, Some, None, Err, Ok, Result, nat_eq, rules, subst, sym}
 use Rattle.clr_process_io.specs.declared.faults.RunFault.{RunFault}
 use Rattle.clr_process_io.specs.declared.faults.RunFault.TheVariants as run_fault
 use Rattle.clr_desk_command_line.specs.declared.asks.DeskAsk.{DeskAsk}
@@ -32,8 +32,19 @@ use Rattle.clr_desk.specs.Names.{IsByBook, IsByRead, IsNamed, with_ids_if}
 use Rattle.clr_desk.specs.Answers.{IsDeskAnswer, IsDeskAnswerWithin, Sinks}
 use Rattle.clr_check.specs.Cases.{case_of}
 use Rattle.clr_cut_texts.specs.Marks.{is_cut_text}
-use Rattle.clr_desk.specs.CutMarks.{IsMarkedAlike, IsNotedCut, with_cut_note, with_mark}
-use Rattle.clr_desk.specs.Geographic.{IsGeographicAnswer, IsPrintIf, cut_word, design_options, first_table, folder_options, may_remove_over, options_of}
+use Rattle.clr_rows.specs.declared.places.Place.{Place}
+use Rattle.clr_coordinates.specs.Coordinates.{are_named, coordinates_in}
+use Rattle.clr_coordinates.specs.declared.coordinates.Coordinates.{Coordinates}
+use Rattle.clr_prepared_layers.specs.declared.empty_values.EmptyValue.{EmptyValue}
+use Rattle.clr_desk_preparations.specs.ByCoordinates.{IsByCoordinates}
+use Rattle.clr_desk_preparations.specs.ShownLayers.{IsShownAlike, with_shown}
+use Rattle.clr_desk_edits.specs.Cuts.{IsCutAnswer}
+use Rattle.clr_desk_edits.specs.Edits.{IsSqlEditsAnswer}
+use Rattle.clr_desk_edits.specs.Proposals.{IsProposalAnswer}
+use Rattle.clr_desk.specs.Databases.{origin_or, system_or}
+use Rattle.clr_desk.specs.CutMarks.{IsMarkedAlike, IsNamedAlike, IsNotedCut, marked_if, with_cut_note, with_mark, with_names}
+use Rattle.clr_desk.specs.Geographic.{IsGeographicAnswer, IsPrintIf, IsShownLayer, cut_word, design_options, first_table, folder_options}
+use Rattle.clr_desk.specs.Geographic.{may_remove_over, options_of}
 use Rattle.clr_desk_faults.specs.LayerWhys.{IsLayersWhyOver}
 use Rattle.clr_desk_merges.specs.Merges.{IsHintedMerge}
 use Rattle.clr_desk_designs.specs.Again.{IsAgainPrint, IsDesignAnewPrint}
@@ -46,11 +57,23 @@ use Rattle.clr_desk_prints.specs.NameHints.{IsHinted}
 use Rattle.clr_desk_prints.specs.Printing.{IsPrintoutIn, IsPrintoutOfCase}
 
 -- a failed write isn't what a mark or a note makes of something else
-unmarked : (is_of_cut : Bool) (bare : PrintoutOrFault) → Err run_fault.WriteFailed ≡ with_mark is_of_cut bare → bare ≡ Err run_fault.WriteFailed
-unmarked true (Ok print) is = absurd cc
-unmarked false (Ok print) is = absurd cc
-unmarked true (Err e) is = sym is
-unmarked false (Err e) is = sym is
+unmarked : (is_marked is_of_cut : Bool) (c : Coordinates) (bare : PrintoutOrFault) → Err run_fault.WriteFailed ≡ marked_if is_marked is_of_cut c bare
+    → bare ≡ Err run_fault.WriteFailed
+unmarked true is_of_cut c (Ok print) is = absurd cc
+unmarked false is_of_cut c (Ok print) is = absurd cc
+unmarked true is_of_cut c (Err e) is = sym is
+unmarked false is_of_cut c (Err e) is = sym is
+
+unshown : (empties : List EmptyValue) (origin : Place) (bare : PrintoutOrFault) → Err run_fault.WriteFailed ≡ with_shown empties origin bare
+    → bare ≡ Err run_fault.WriteFailed
+unshown empties origin (Ok print) is = absurd cc
+unshown empties origin (Err e) is = sym is
+
+-- nor what is printed by coordinates
+untorn_by : (P : Coordinates → PrintoutOrFault → Type 0) (read : Result Coordinates TextFault) → ((c : Coordinates) → P c (Err run_fault.WriteFailed) → ⊥)
+    → IsByCoordinates P read (Err run_fault.WriteFailed) → ⊥
+untorn_by P (Ok c) never h = never c h
+untorn_by P (Err e) never h = absurd cc
 
 unnoted : (is_of_cut : Bool) (bare : PrintoutOrFault) → Err run_fault.WriteFailed ≡ with_cut_note is_of_cut bare → bare ≡ Err run_fault.WriteFailed
 unnoted true (Ok print) is = absurd cc
@@ -58,7 +81,19 @@ unnoted true (Err e) is = sym is
 unnoted false bare is = sym is
 
 untorn_marked : (P : PrintoutOrFault → Type 0) (text : List ℕ) → (P (Err run_fault.WriteFailed) → ⊥) → IsMarkedAlike P text (Err run_fault.WriteFailed) → ⊥
-untorn_marked P text never (bare, made, is) = never (subst P (unmarked (is_cut_text text) bare is) made)
+untorn_marked P text never h =
+    let cut = is_cut_text text in
+    untorn_by (λ c print. (bare : PrintoutOrFault) × P bare × (print ≡ with_mark cut c bare)) (coordinates_in text)
+    (λ c made. never (subst P (unmarked (cut || are_named c) cut c made.0 made.2) made.1)) h
+
+untorn_named_alike : (P : PrintoutOrFault → Type 0) (text : List ℕ) → (P (Err run_fault.WriteFailed) → ⊥) → IsNamedAlike P text (Err run_fault.WriteFailed) → ⊥
+untorn_named_alike P text never h =
+    untorn_by (λ c print. (bare : PrintoutOrFault) × P bare × (print ≡ with_names c bare)) (coordinates_in text)
+    (λ c made. never (subst P (unmarked (are_named c) true c made.0 made.2) made.1)) h
+
+untorn_shown : (P : PrintoutOrFault → Type 0) (empties : List EmptyValue) (origin : Place) → (P (Err run_fault.WriteFailed) → ⊥)
+    → IsShownAlike empties origin P (Err run_fault.WriteFailed) → ⊥
+untorn_shown P empties origin never (bare, made, is) = never (subst P (unshown empties origin bare is) made)
 
 untorn_noted : (P : PrintoutOrFault → Type 0) (text : List ℕ) → (P (Err run_fault.WriteFailed) → ⊥) → IsNotedCut P text (Err run_fault.WriteFailed) → ⊥
 untorn_noted P text never (bare, made, is) = never (subst P (unnoted (is_cut_text text) bare is) made)
@@ -108,26 +143,28 @@ untorn_by_book P (Some text) never made = by (book_in_text text) made
     by (Err e) h = absurd cc
 
 -- what is printed of layers that are asked about is never a failed write
-untorn_layers : (asked : LayersAsk) (office : List ℕ) (layers : List GivenLayer) (read : Result Office TextFault)
-    → IsLayersWhyOver asked office layers (Err run_fault.WriteFailed) read → ⊥
-untorn_layers asked office layers (Ok o) h = search rules
-untorn_layers asked office layers (Err e) h = search rules
+untorn_layers : (asked : LayersAsk) (office : List ℕ) (layers : List GivenLayer) (c : Coordinates) (read : Result Office TextFault)
+    → IsLayersWhyOver asked office layers (Err run_fault.WriteFailed) c read → ⊥
+untorn_layers asked office layers c (Ok o) h = search rules
+untorn_layers asked office layers c (Err e) h = search rules
 
 module _ (office second : List ℕ) (ids : Option (List ℕ)) (layers : List GivenLayer) (designs : List LayeredDesign) where
   untorn_geographic : (asked : GeographicAsk) → IsGeographicAnswer asked office second ids layers designs (Err run_fault.WriteFailed) → ⊥
   untorn_geographic (geographic.Features root names system) h =
       untorn_by_book (λ book. IsFeaturesAnswer root names system book (opened_in office)) ids (λ book torn. search rules) h
-  untorn_geographic (geographic.Layer table workspace) h =
+  untorn_geographic (geographic.Layer table workspace empties) h =
       let P = IsPrintoutIn (IsHinted (IsLayerPrint table workspace) (workspace ∷ [])) (opened_in office) in
-      untorn_named (IsNotedCut P office) ids (Layer table) (untorn_noted P office (λ torn. search rules)) h
+      untorn_named (IsByCoordinates (IsShownLayer table workspace empties office) (coordinates_in office)) ids (Layer table)
+      (untorn_by (IsShownLayer table workspace empties office) (coordinates_in office)
+      (λ c. untorn_noted (IsShownAlike empties c.origin P) office (untorn_shown P empties c.origin (λ torn. search rules)))) h
   untorn_geographic (geographic.Ids tables first) h = search rules
   untorn_geographic (geographic.Office tables rounded) h =
-      untorn_unless (is_cut_text office) (IsPrintoutIn (IsOfficePrint (options_of 1 rounded) layers) (opened_in office)) (first_table layers)
-      (λ torn. search rules) h
+      let P = IsPrintoutIn (IsOfficePrint (options_of 1 rounded) layers) (opened_in office) in
+      untorn_unless (is_cut_text office) (IsMarkedAlike P office) (first_table layers) (untorn_marked P office (λ torn. search rules)) h
   untorn_geographic (geographic.AcceptedOffice tables rounded) h =
-      untorn_unless (is_cut_text office) (IsPrintoutOfDraft (IsAcceptedOfficePrint (options_of 1 rounded) layers) (draft_in office)) (first_table layers)
-      (λ torn. search rules) h
-  untorn_geographic (geographic.Cut tables rounded) h = search rules
+      let P = IsPrintoutOfDraft (IsAcceptedOfficePrint (options_of 1 rounded) layers) (draft_in office) in
+      untorn_unless (is_cut_text office) (IsMarkedAlike P office) (first_table layers) (untorn_marked P office (λ torn. search rules)) h
+  untorn_geographic (geographic.Cut tables rounded) h = untorn_named_alike (IsCutAnswer rounded layers office) office (λ torn. search rules) h
   untorn_geographic (geographic.ErrorFeatures system) h = search rules
   untorn_geographic (geographic.Design design) h =
       let may_remove = may_remove_over design.may_remove office in
@@ -172,7 +209,9 @@ module _ (office second : List ℕ) (ids : Option (List ℕ)) (layers : List Giv
   untorn (ask.InOrder order.Certificate root names) h = search rules
   untorn (ask.InOrder order.Keep root names) h = search rules
   untorn (ask.Why kind) h = search rules
-  untorn (ask.WhyLayers asked) h = untorn_layers asked office layers (draft_in office) h
+  untorn (ask.WhyLayers asked) h =
+      untorn_by (λ c print. IsLayersWhyOver asked office layers print c (draft_in office)) (coordinates_in office)
+      (λ c. untorn_layers asked office layers c (draft_in office)) h
   untorn (ask.Map root names) h = search rules
   untorn (ask.Report root names source) h = search rules
   untorn (ask.Board root names) h = search rules
@@ -180,8 +219,10 @@ module _ (office second : List ℕ) (ids : Option (List ℕ)) (layers : List Giv
   untorn (ask.Geographic asked) h = untorn_geographic asked h
   untorn (ask.Skipping asked file) h = untorn_geographic asked h
   untorn (ask.Database database.Edits) h = untorn_named (IsEditsAnswer Records office second) ids Edits (λ torn. search rules) h
-  untorn (ask.Database (database.SqlEdits sql)) h = search rules
-  untorn (ask.Database (database.Proposal sql)) h = search rules
+  untorn (ask.Database (database.SqlEdits sql)) h =
+      untorn_by (λ c. IsSqlEditsAnswer sql.dialect (origin_or sql c) (system_or sql c) office second) (coordinates_in office) (λ c torn. search rules) h
+  untorn (ask.Database (database.Proposal sql)) h =
+      untorn_by (λ c. IsProposalAnswer sql.dialect (origin_or sql c) (system_or sql c) office) (coordinates_in office) (λ c torn. search rules) h
   untorn (ask.Plan root names) h = search rules
   untorn (ask.Json (json.Plan root names)) h = search rules
   untorn (ask.Json json.Check) h = search rules

@@ -4,7 +4,7 @@ use Rattle.clr_workspaces.specs.Marks.{Name}
 use Rattle.clr_cut_texts.specs.Marks.{is_cut_text}
 use Rattle.clr_layer_ids.specs.declared.named_texts.RowsForm.TheVariants.{Layer}
 use Rattle.clr_desk_ids.specs.GrownIds.{IsIdsPrint}
-use Rattle.clr_desk.specs.CutMarks.{IsMarkedAlike, IsNotedCut}
+use Rattle.clr_desk.specs.CutMarks.{IsMarkedAlike, IsNamedAlike, IsNotedCut}
 use Rattle.clr_desk.specs.Names.{IsByBook, IsNamed}
 use Rattle.clr_desk_edits.specs.Cuts.{IsCutAnswer}
 use Rattle.clr_office_reading.specs.Offices.{known_in}
@@ -24,6 +24,11 @@ use Rattle.clr_desk_command_line.specs.declared.asks.DesignAsk.{DesignAsk}
 use Rattle.clr_desk_command_line.specs.declared.asks.DesignsAsk.{DesignsAsk}
 use Rattle.clr_desk_pages.specs.Features.{IsFeaturesAnswer}
 use Rattle.clr_desk_layers.specs.Layers.{IsLayerPrint, unfit_print}
+use Rattle.clr_coordinates.specs.Coordinates.{coordinates_in}
+use Rattle.clr_coordinates.specs.declared.coordinates.Coordinates.{Coordinates}
+use Rattle.clr_desk_preparations.specs.ByCoordinates.{IsByCoordinates}
+use Rattle.clr_desk_preparations.specs.ShownLayers.{IsShownAlike}
+use Rattle.clr_prepared_layers.specs.declared.empty_values.EmptyValue.{EmptyValue}
 use Rattle.clr_desk_prints.specs.NameHints.{IsHinted}
 use Rattle.clr_desk_prints.specs.Printing.{IsPrintoutIn, PrintoutOrFault}
 
@@ -60,20 +65,28 @@ IsPrintIf false one other = other
 abbrev pub IsUnlessCut : (PrintoutOrFault → Type 0) → (text : List ℕ) → List GivenLayer → PrintoutOrFault → Type 0
 IsUnlessCut IsPrint text layers print = IsPrintIf (is_cut_text text) (print ≡ unfit_print cut_word (first_table layers)) (IsPrint print)
 
+-- layers -------------------------------------------------------------------------------------------
+
+-- the layer of a table in a workspace, with values as empty fields, in the coordinates that the office text names
+abbrev pub IsShownLayer : (table workspace : Name) → List EmptyValue → (office : List ℕ) → Coordinates → PrintoutOrFault → Type 0
+IsShownLayer table workspace empties office coordinates print =
+    IsNotedCut (IsShownAlike empties coordinates.origin (IsPrintoutIn (IsHinted (IsLayerPrint table workspace) (workspace ∷ [])) (opened_in office)))
+    office print
+
 -- what is to be printed for what is asked of an office text, a second one, which is that of the office from which layers were copied, that of a book of ids
 -- if one is given, layers, and designs
 abbrev pub IsGeographicAnswer : GeographicAsk → List ℕ → List ℕ → Option (List ℕ) → List GivenLayer → List LayeredDesign → PrintoutOrFault → Type 0
 IsGeographicAnswer (ask.Features root names system) office second ids layers designs print =
     IsByBook (λ book. IsFeaturesAnswer root names system book (opened_in office)) ids print
-IsGeographicAnswer (ask.Layer table workspace) office second ids layers designs print =
-    IsNamed ids (Layer table) (IsNotedCut (IsPrintoutIn (IsHinted (IsLayerPrint table workspace) (workspace ∷ [])) (opened_in office)) office) print
+IsGeographicAnswer (ask.Layer table workspace empties) office second ids layers designs print =
+    IsNamed ids (Layer table) (IsByCoordinates (IsShownLayer table workspace empties office) (coordinates_in office)) print
 IsGeographicAnswer (ask.Ids tables first) office second ids layers designs print =
     IsPrintoutOfDraft (IsIdsPrint (unwrap_or ids []) first layers) (draft_in office) print
 IsGeographicAnswer (ask.Office tables rounded) office second ids layers designs print =
-    IsUnlessCut (IsPrintoutIn (IsOfficePrint (options_of 1 rounded) layers) (opened_in office)) office layers print
+    IsUnlessCut (IsMarkedAlike (IsPrintoutIn (IsOfficePrint (options_of 1 rounded) layers) (opened_in office)) office) office layers print
 IsGeographicAnswer (ask.AcceptedOffice tables rounded) office second ids layers designs print =
-    IsUnlessCut (IsPrintoutOfDraft (IsAcceptedOfficePrint (options_of 1 rounded) layers) (draft_in office)) office layers print
-IsGeographicAnswer (ask.Cut tables rounded) office second ids layers designs print = IsCutAnswer rounded layers office print
+    IsUnlessCut (IsMarkedAlike (IsPrintoutOfDraft (IsAcceptedOfficePrint (options_of 1 rounded) layers) (draft_in office)) office) office layers print
+IsGeographicAnswer (ask.Cut tables rounded) office second ids layers designs print = IsNamedAlike (IsCutAnswer rounded layers office) office print
 IsGeographicAnswer (ask.ErrorFeatures system) office second ids layers designs print = IsErrorFeaturesAnswer (known_in office) system (draft_in office) print
 IsGeographicAnswer (ask.Design design) office second ids layers designs print =
     let may_remove = may_remove_over design.may_remove office in

@@ -13,7 +13,7 @@ use Rattle.clr_desk.specs.Answers.{IsDeskAnswerTo}
 -- leaves something open, and of cuts, of the designs of a folder, of databases and of JSON nothing is said here
 abbrev pub is_whole_layer : GeographicAsk → Bool
 is_whole_layer (geographic.Features root names system) = false
-is_whole_layer (geographic.Layer table workspace) = false
+is_whole_layer (geographic.Layer table workspace empties) = false
 is_whole_layer (geographic.ErrorFeatures system) = false
 is_whole_layer (geographic.Cut tables rounded) = false
 is_whole_layer (geographic.Designs asked) = false

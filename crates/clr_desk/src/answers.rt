@@ -32,7 +32,7 @@ use clr_desk_prints::Print;
 use clr_office::{MOST_INPUT_BYTES, RunFault, Sink, Words};
 use std::alloc::Global;
 
-/// Returns the office that merges under a certificate leave, marked as a cut where the office text is one.
+/// Returns the office that merges under a certificate leave, marked as the office text is.
 fn answer_marked_merge(
     alloc: Global,
     office: &[u8],
@@ -125,9 +125,9 @@ fn are_ids_too_long(ids: Option<&[u8]>) -> bool
 /// and then there is no text; 4 a need is broken that isn't known; 5 something refused, and a name that nothing has. Where a rule doesn't hold the line that
 /// says so is the only note, and there is no text, unless `why` asks for it. The first fault that applies answers, and nothing is written then, unless a sink
 /// failed. Fails with `TooLong` where a text or a layer has more than `MOST_INPUT_BYTES`, with `BadOffice` where the first text is no office, or the second
-/// where it is asked for as one, with `BadCertificate` where the second is no certificate, neither of them for `why`, and with `WriteFailed` where a sink
-/// fails: where it is that of the notes, nothing went to that of the text; how much else went out is not known. Want of memory is `OutOfMemory`, which may come
-/// in place of any other answer.
+/// where it is asked for as one, with `BadCertificate` where the second is no certificate, neither of them for `why`, with `BadOffice` also where what is
+/// printed depends on the coordinates that the first text names, and these can't be read, and with `WriteFailed` where a sink fails: where it is that of the
+/// notes, nothing went to that of the text; how much else went out is not known. Want of memory is `OutOfMemory`, which may come in place of any other answer.
 pub fn answer<W: Sink, N: Sink>(
     alloc: Global,
     ask: &DeskAsk,

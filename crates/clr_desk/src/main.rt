@@ -37,6 +37,9 @@
 //!   `split_given` skips is given to `answer`, and the text of those goes into the file, no contract says.
 //! - `layers_with_keys` of `clr_desk_ids` gives layers in which ids stand for keys their keys, by a book of ids. Where a book is given, a layer, edits and
 //!   features that are printed name rows by its ids (`IsNamed`).
+//! - Layers are given to `answer` as they are to be read, by `prepared_layers` of `clr_desk_preparations`, those with ids behind their keys, and those of
+//!   designs too; those that are asked about are prepared by the answer. That these are so no contract says. `refused_over` and `repair_lines` there say which
+//!   values of empty fields can't be taken, and which shapes are repaired.
 //! - `texts_have_one_answer` [`answer`]: memory aside, what is asked has one answer alone, but for what the definitions of clashes, of orders, of faults,
 //!   and of sentences, pictures, pages, features, layers and errors leave open.
 //! - `clr_desk_nights: night`, of `night`: what goes into the files of a folder, and the notes and the line, are what `IsNight` of that crate says.
@@ -49,6 +52,9 @@
 //!   how much was; where the sink of the notes failed, nothing went to that of the text (`IsTorn`).
 #![tactic(auto)]
 
+ghost use Rattle.std.specs.Prelude.{◌≡◌, true};
+ghost use Rattle.clr_prepared_layers.specs.PreparedShapes.{is_origin};
+
 mod answers;
 mod cut_marks;
 mod databases;
@@ -56,6 +62,7 @@ mod designs_over;
 mod geographic;
 mod laws;
 mod named_rows;
+mod shown_layers;
 mod skipped_files;
 mod whole_cuts;
 
@@ -66,21 +73,29 @@ use clr_design_folders::{
     FolderDesigns, FolderFault, read_designs, read_readable_designs, unfit_remark,
 };
 use clr_desk_command_line::{
-    AskFault, Asked, DeskAsk, GeographicAsk, NightAsk, ReachAsk, WholeCutAsk, ask_of, ids_file,
+    AskFault, Asked, DeskAsk, GeographicAsk, NightAsk, Preparation, ReachAsk, WholeCutAsk, ask_of,
+    ids_file,
 };
 use clr_desk_cuts::{Aim, LayerSource, ReachOptions, answer_reach};
+use clr_desk_designs::LayeredDesign;
 use clr_desk_faults::{
     SplitLayer, degrees_of_layers, fault_place, faults_of_keyed_layers, faults_of_layers,
-    growth_fault_place, id_fault_place, split_given, take_layers,
+    growth_fault_place, id_fault_place, is_rounded, office_count, split_given, take_layers,
 };
 use clr_desk_ids::layers_with_keys;
 use clr_desk_layers::GivenLayer;
+use clr_desk_preparations::{
+    coordinates_of, is_plain, prepared_layers, refused_over, repair_lines, shown_if_asked,
+};
 use clr_night_folders::run_night;
 use clr_office::{Port, RunFault, Sink, Words};
+use clr_office_texts::read_office;
+use clr_prepared_layers::CoordinateOptions;
 use clr_process_io::{
     BAD_WORDS, end_run, file_name, print_fault, print_parser_message, put_input_remark, read_files,
     text_at, texts_of_words, words,
 };
+use clr_rows::Place;
 use clr_streams::Screen;
 use std::alloc::AllocError;
 use std::io::ErrorKind;
@@ -89,6 +104,10 @@ use std::process::ExitCode;
 /// From what the program was built, behind its version. `write_build` of bin/program.sh writes over these characters once the program is proved and built.
 const BUILD: &str =
     "sources not recorded                                                    \ntoolchain not recorded                                      ";
+
+/// What is said where the coordinates that an office text names can't be read.
+const COORDINATES: &[u8] =
+    b": 'origin' is a list of two whole numbers of millimetres of at most 100000000000, and 'crs' is as EPSG:25832\n";
 
 /// The exit status where a layer has a fault, as where a text has one that `why` asks about.
 const UNREADABLE: u8 = 2;
@@ -106,7 +125,15 @@ fn refuse_texts(
         return print_fault(rt, RunFault::OutOfMemory);
     };
     let status = print_fault(rt, fault);
-    let _ = Screen::new(rt.alloc(), Port::new(rt.stderr()), true).put(place.as_slice());
+    let mut notes = Screen::new(rt.alloc(), Port::new(rt.stderr()), true);
+    let _ = notes.put(place.as_slice());
+    if matches!(
+        coordinates_of(rt.alloc(), office),
+        Err(RunFault::BadOffice(_))
+    ) {
+        let _ = notes.put(file_name(files, 0).as_bytes());
+        let _ = notes.put(COORDINATES);
+    }
     status
 }
 
@@ -143,6 +170,14 @@ struct Given<'a> {
     keyed: Option<&'a [GivenLayer]>,
     folder: &'a FolderDesigns,
     ids: Option<&'a IdsFile<'a>>,
+    preparation: &'a Preparation,
+}
+
+/// What is read of the layers and the designs that the words name.
+#[derive(Drop)]
+struct Read<'a> {
+    layers: &'a [GivenLayer],
+    designs: &'a [LayeredDesign],
 }
 
 /// Returns where the fault of a book of ids is, or that of the ids of layers; or nothing where there is none.
@@ -167,25 +202,54 @@ fn fault_of_ids(
     }
 }
 
-/// Returns what is wrong with a book of ids or with the layers that are given.
-fn faults_of(rt: &HostRuntime, ask: &DeskAsk, given: &Given<'_>) -> Result<Vec<u8>, AllocError> {
+/// Returns what is wrong with a book of ids or with the layers that are given, which are read as these.
+fn faults_of(
+    rt: &HostRuntime,
+    ask: &DeskAsk,
+    given: &Given<'_>,
+    read: &[GivenLayer],
+) -> Result<Vec<u8>, AllocError> {
     let (files, office, layers) = (given.files, given.office, given.layers);
     match (given.keyed, given.ids) {
-        (Some(keyed), _) => faults_of_keyed_layers(rt.alloc(), ask, files, office, layers, keyed),
+        (Some(_), _) => faults_of_keyed_layers(rt.alloc(), ask, files, office, layers, read),
         (None, Some(ids)) => fault_of_ids(rt, ask, given, ids),
         (None, None) if layers.is_empty() => Ok(Vec::new(rt.alloc())),
-        (None, None) => faults_of_layers(rt.alloc(), ask, files, office, layers),
+        (None, None) => faults_of_layers(rt.alloc(), ask, files, office, read, layers),
     }
 }
 
-/// Prints remarks on layers and ids on standard error: what is wrong with them, behind the line of the first fault, where this is the status; and which
-/// layers look like degrees. Where no memory is found for it, the line stands alone.
-fn print_layer_remarks(rt: &HostRuntime, ask: &DeskAsk, given: &Given<'_>, status: u8) {
+/// Prints which shapes of layers are repaired on standard error, unless the text of the office is none.
+fn print_repairs(rt: &HostRuntime, ask: &DeskAsk, given: &Given<'_>) {
+    let Ok(read) = read_office(rt.alloc(), given.office) else {
+        return;
+    };
+    let schema = read.draft.schema();
+    let layers = given.layers;
+    for at in 0..layers.len() {
+        let file = file_name(given.files, office_count(ask) + at);
+        let lines = repair_lines(rt.alloc(), schema, is_rounded(ask), file, &layers[at]);
+        print_remarks(rt, lines);
+    }
+}
+
+/// Prints remarks on layers and ids on standard error: which shapes are repaired, if they are; what is wrong with the layers, behind the line of the first
+/// fault, where this is the status; and which layers look like degrees. What was read of the layers may have been made of these. Where no memory is found for
+/// it, the line stands alone.
+fn print_layer_remarks(
+    rt: &HostRuntime,
+    ask: &DeskAsk,
+    given: &Given<'_>,
+    read: &[GivenLayer],
+    status: u8,
+) {
+    if given.preparation.is_repaired && !given.layers.is_empty() {
+        print_repairs(rt, ask, given);
+    }
     if matches!(ask, DeskAsk::WhyLayers(_)) {
         return;
     }
     if status == UNREADABLE {
-        print_remarks(rt, faults_of(rt, ask, given));
+        print_remarks(rt, faults_of(rt, ask, given, read));
     }
     if !given.layers.is_empty() {
         print_remarks(
@@ -223,21 +287,29 @@ fn refuse_folder(rt: &HostRuntime, fault: FolderFault) -> u8 {
     }
 }
 
-/// Prints remarks on the layers that are given, and on those of each design.
-fn print_all_remarks(rt: &HostRuntime, ask: &DeskAsk, given: &Given<'_>, status: u8) {
-    print_layer_remarks(rt, ask, given, status);
+/// Prints remarks on the layers that are given, and on those of each design, which are read as these.
+fn print_all_remarks(
+    rt: &HostRuntime,
+    ask: &DeskAsk,
+    given: &Given<'_>,
+    read: &Read<'_>,
+    status: u8,
+) {
+    print_layer_remarks(rt, ask, given, read.layers, status);
     let folder = given.folder;
-    for (design, names) in folder.designs.iter().zip(folder.files.iter()) {
+    let sources = folder.designs.iter().zip(folder.files.iter());
+    for ((source, names), design) in sources.zip(read.designs.iter()) {
         let of_design = Given {
             files: names.as_slice(),
             office: given.office,
             second: given.second,
-            layers: design.layers.as_slice(),
+            layers: source.layers.as_slice(),
             keyed: None,
             folder,
             ids: None,
+            preparation: given.preparation,
         };
-        print_layer_remarks(rt, ask, &of_design, status);
+        print_layer_remarks(rt, ask, &of_design, design.layers.as_slice(), status);
     }
 }
 
@@ -310,8 +382,15 @@ fn answer_whole_cut(rt: &HostRuntime, ask: &WholeCutAsk, files: &[Words]) -> Res
     Ok(end_answer(rt, ended, is_closed, files, office, &[]))
 }
 
-/// Answers what is asked of texts, layers and designs, and gives the exit status. What is said of layers as texts is said of those that were given.
-fn answer_texts(rt: &HostRuntime, ask: &DeskAsk, given: &Given<'_>, layers: &[GivenLayer]) -> u8 {
+/// Answers what is asked of texts, of layers, and of designs as they are read, and gives the exit status. What is said of layers as texts is said of all that
+/// are read, and at its place in those that were given.
+fn answer_texts(
+    rt: &HostRuntime,
+    ask: &DeskAsk,
+    given: &Given<'_>,
+    read: &Read<'_>,
+    layers: &[GivenLayer],
+) -> u8 {
     let is_read = matches!(
         ask,
         DeskAsk::WorkOrder(..) | DeskAsk::Why(_) | DeskAsk::WhyLayers(_)
@@ -325,12 +404,12 @@ fn answer_texts(rt: &HostRuntime, ask: &DeskAsk, given: &Given<'_>, layers: &[Gi
         given.second,
         given.ids.map(|ids| ids.text.as_slice()),
         layers,
-        given.folder.designs.as_slice(),
+        read.designs,
         &mut writer,
         &mut notes,
     );
     if let Ok(status) = ended {
-        print_all_remarks(rt, ask, given, status);
+        print_all_remarks(rt, ask, given, read, status);
     }
     let is_closed = writer.below().is_closed() || notes.below().is_closed();
     end_answer(
@@ -349,20 +428,26 @@ fn print_skipped(rt: &HostRuntime, count: usize) {
 }
 
 /// Answers what is asked of the records of a layer that have no fault, and gives the exit status. The others go into a new file of this name, which is
-/// written whole beside it before anything is printed, and gets its name where all is done.
+/// written whole beside it before anything is printed, and gets its name where all is done. They are written as layers are shown.
 fn answer_skipping(
     rt: &HostRuntime,
     ask: &DeskAsk,
     given: &Given<'_>,
+    read: &Read<'_>,
+    origin: Place,
     name: &str,
     table: &Words,
     split: SplitLayer,
-) -> Result<u8, RunFault> {
+) -> Result<u8, RunFault>
+    requires { is_origin origin ≡ true }
+{
     let SplitLayer {
         taken,
         skipped,
         count,
     } = split;
+    let empties = given.preparation.empties.as_slice();
+    let skipped = shown_if_asked(rt.alloc(), empties, origin, skipped)?;
     let beside = format!(in rt.alloc(); "{name}.part")?;
     let mut layers = Vec::new(rt.alloc());
     layers.push(GivenLayer {
@@ -372,7 +457,7 @@ fn answer_skipping(
     if let Err(status) = begin_file(rt, name, beside.as_str(), skipped.as_slice()) {
         return Ok(status);
     }
-    let status = answer_texts(rt, ask, given, layers.as_slice());
+    let status = answer_texts(rt, ask, given, read, layers.as_slice());
     if status != 0 {
         drop_file(rt, beside.as_str());
         return Ok(status);
@@ -384,14 +469,99 @@ fn answer_skipping(
     Ok(0)
 }
 
-/// Answers what is asked of what the words name, of which records may have to be skipped, and gives the exit status.
-fn answer_given(rt: &HostRuntime, ask: &DeskAsk, given: &Given<'_>) -> Result<u8, RunFault> {
-    if let (DeskAsk::Skipping(_, name), [layer]) = (ask, given.layers) {
+/// Answers what is asked of what is read of what the words name, of which records may have to be skipped, and gives the exit status.
+fn answer_read(
+    rt: &HostRuntime,
+    ask: &DeskAsk,
+    given: &Given<'_>,
+    read: &Read<'_>,
+    origin: Place,
+) -> Result<u8, RunFault>
+    requires { is_origin origin ≡ true }
+{
+    if let (DeskAsk::Skipping(_, name), [layer]) = (ask, read.layers) {
         if let Some(split) = split_given(rt.alloc(), ask, given.office, layer)? {
-            return answer_skipping(rt, ask, given, name.as_str(), &layer.table, split);
+            let name = name.as_str();
+            return answer_skipping(rt, ask, given, read, origin, name, &layer.table, split);
         }
     }
-    Ok(answer_texts(rt, ask, given, given.layers))
+    Ok(answer_texts(rt, ask, given, read, read.layers))
+}
+
+/// Returns the designs of a folder with their layers as they are to be read.
+fn prepared_designs(
+    rt: &HostRuntime,
+    preparation: &Preparation,
+    options: CoordinateOptions,
+    designs: &[LayeredDesign],
+) -> Result<Vec<LayeredDesign>, AllocError>
+    requires { is_origin options.origin ≡ true }
+{
+    let mut made = Vec::new(rt.alloc());
+    for design in designs {
+        let layers = design.layers.as_slice();
+        made.push(LayeredDesign {
+            name: design.name.copy()?,
+            layers: prepared_layers(rt.alloc(), preparation, options, layers)?,
+        })?;
+    }
+    Ok(made)
+}
+
+/// Answers what is asked of layers, which have keys, and of designs as they are to be read, and gives the exit status.
+fn answer_prepared(
+    rt: &HostRuntime,
+    ask: &DeskAsk,
+    given: &Given<'_>,
+    options: CoordinateOptions,
+) -> Result<u8, RunFault>
+    requires { is_origin options.origin ≡ true }
+{
+    let preparation = given.preparation;
+    let layers = given.keyed.unwrap_or(given.layers);
+    let designs = given.folder.designs.as_slice();
+    if is_plain(preparation, options) {
+        let read = Read { layers, designs };
+        return answer_read(rt, ask, given, &read, options.origin);
+    }
+    let layers = prepared_layers(rt.alloc(), preparation, options, layers)?;
+    let designs = prepared_designs(rt, preparation, options, designs)?;
+    let read = Read {
+        layers: layers.as_slice(),
+        designs: designs.as_slice(),
+    };
+    answer_read(rt, ask, given, &read, options.origin)
+}
+
+/// Returns whether layers are given to the answer as they are: those that are asked about it prepares itself, and of those whose ids a book gets it reads the
+/// ids alone.
+fn are_given_alone(ask: &DeskAsk) -> bool {
+    matches!(
+        ask,
+        DeskAsk::WhyLayers(_) | DeskAsk::Geographic(GeographicAsk::Ids(..))
+    )
+}
+
+/// Answers what is asked of layers, which have keys, and of designs, and gives the exit status.
+fn answer_given(rt: &HostRuntime, ask: &DeskAsk, given: &Given<'_>) -> Result<u8, RunFault> {
+    let is_without_layers = given.layers.is_empty() && given.folder.designs.is_empty();
+    if is_without_layers || are_given_alone(ask) {
+        let read = Read {
+            layers: given.layers,
+            designs: &[],
+        };
+        return Ok(answer_texts(rt, ask, given, &read, given.layers));
+    }
+    match coordinates_of(rt.alloc(), given.office) {
+        Ok(coordinates) => {
+            let options = CoordinateOptions {
+                is_rounded: is_rounded(ask),
+                origin: coordinates.origin,
+            };
+            answer_prepared(rt, ask, given, options)
+        }
+        Err(fault) => Ok(refuse_texts(rt, fault, given.files, given.office, given.second)),
+    }
 }
 
 /// Answers what is asked of what the words name, in which layers have ids of a book, and gives the exit status. Where the book gives them no keys, prints
@@ -404,17 +574,17 @@ fn answer_by_keys(
 ) -> Result<u8, RunFault> {
     match layers_with_keys(rt.alloc(), ids.text.as_slice(), given.layers)? {
         Ok(keyed) => {
-            let keyed = keyed.as_slice();
             let with_keys = Given {
                 files: given.files,
                 office: given.office,
                 second: given.second,
                 layers: given.layers,
-                keyed: Some(keyed),
+                keyed: Some(keyed.as_slice()),
                 folder: given.folder,
                 ids: given.ids,
+                preparation: given.preparation,
             };
-            Ok(answer_texts(rt, ask, &with_keys, keyed))
+            answer_given(rt, ask, &with_keys)
         }
         Err(print) => {
             let status = print.status();
@@ -435,6 +605,19 @@ fn answer_named(rt: &HostRuntime, ask: &DeskAsk, given: &Given<'_>) -> Result<u8
     }
 }
 
+/// Answers what is asked of what the words name, and gives the exit status. Where a value of empty fields can't be taken, prints the line that says why.
+fn answer_asked(rt: &HostRuntime, ask: &DeskAsk, given: &Given<'_>) -> Result<u8, RunFault> {
+    let empties = given.preparation.empties.as_slice();
+    match refused_over(rt.alloc(), given.office, empties)? {
+        Some(print) => {
+            let status = print.status();
+            print_remarks(rt, Ok(print.notes));
+            Ok(status)
+        }
+        None => answer_named(rt, ask, given),
+    }
+}
+
 /// Reads the file of a book of ids, if one is named. Where it can't be read, prints the line that says so, and gives the exit status instead.
 fn read_ids<'a>(rt: &HostRuntime, names: &'a [Words]) -> Result<Option<IdsFile<'a>>, u8> {
     let name = file_name(names, 0);
@@ -448,6 +631,7 @@ fn read_ids<'a>(rt: &HostRuntime, names: &'a [Words]) -> Result<Option<IdsFile<'
 fn answer_files(
     rt: &HostRuntime,
     ask: &DeskAsk,
+    preparation: &Preparation,
     files: &[Words],
     ids: &[Words],
 ) -> Result<u8, RunFault> {
@@ -472,8 +656,9 @@ fn answer_files(
         keyed: None,
         folder: &folder,
         ids: ids.as_ref(),
+        preparation,
     };
-    answer_named(rt, ask, &given)
+    answer_asked(rt, ask, &given)
 }
 
 /// Does a night's work over files and a folder, and gives the exit status.
@@ -520,9 +705,10 @@ fn asked_by(rt: &HostRuntime, texts: &[&str]) -> Result<AskedAndFiles, AskFault>
 fn run_words(rt: &HostRuntime, words: &[String]) -> Result<u8, RunFault> {
     let texts = texts_of_words(rt, words)?;
     match asked_by(rt, texts.as_slice()) {
-        Ok((Asked::OfTexts(ask), files, ids)) => answer_files(
+        Ok((Asked::OfTexts(ask, preparation), files, ids)) => answer_files(
             rt,
             &ask,
+            &preparation,
             files.as_slice(),
             ids.as_slice(),
         ),

@@ -5,7 +5,8 @@ use Rattle.std.specs.Prelude.{if◌then◌else◌}
 use Rattle.std.specs.List.{list_all, list_any, position_or_len}
 use Rattle.std.proofs.lemmas.List.{take_all}
 use Rattle.std.proofs.lemmas.List.Folds.{list_all-map, list_all_at}
-use Rattle.clr_desk_command_line.specs.Asks.{file_in, is_equals_sign, is_layer, table_in, tables_and_files}
+use Rattle.clr_prepared_layers.specs.declared.empty_values.EmptyValue.{EmptyValue}
+use Rattle.clr_desk_command_line.specs.Asks.{empties_in, empty_in, file_in, is_equals_sign, is_layer, table_in, tables_and_files}
 
 -- a word in which no equals sign is found names none
 pub names_no_layer : (word : List ℕ) → position_or_len is_equals_sign word ≡ length word → is_layer word ≡ false
@@ -48,5 +49,21 @@ all_layers words n tables files h layers tables_are files_are =
 pub not_all_layers : (words : List (Bor Text)) (i : ℕ) (d : Bor Text) → i < length words → is_layer (get_or words i d).now ≡ false
     → None ≡ tables_and_files (map (λ word. word.now) words)
 not_all_layers words i d h is_none =
+    let some = list_all-map is_layer (λ (word : Bor Text). word.now) words ∙ list_all_at (λ word. is_layer word.now) words i d h is_none in
+    untaken _ _ some
+
+-- the values of empty fields that words name, each of which names one
+pub all_empties : (words : List (Bor Text)) (n : ℕ) (empties : List EmptyValue) → length words ≤ n → list_all (λ word. is_layer word.now) (take n words) ≡ true
+    → empties ≡ map (λ word. empty_in word.now) (take n words) → Some empties ≡ empties_in (map (λ word. word.now) words)
+all_empties words n empties h layers are =
+    let whole = take_all n words h in
+    let all = list_all-map is_layer (λ (word : Bor Text). word.now) words ∙ ap (list_all (λ word. is_layer word.now)) (sym whole) ∙ layers in
+    let each = are ∙ ap (map (λ word. empty_in word.now)) whole ∙ of_each empty_in words in
+    ap (λ (list : List EmptyValue). Some list) each ∙ taken _ _ all
+
+-- where a word names none, there are no values
+pub not_all_empties : (words : List (Bor Text)) (i : ℕ) (d : Bor Text) → i < length words → is_layer (get_or words i d).now ≡ false
+    → None ≡ empties_in (map (λ word. word.now) words)
+not_all_empties words i d h is_none =
     let some = list_all-map is_layer (λ (word : Bor Text). word.now) words ∙ list_all_at (λ word. is_layer word.now) words i d h is_none in
     untaken _ _ some

@@ -1,13 +1,15 @@
 -- What a subcommand and its values ask for.
 use Rattle.std.specs.Prelude.{ℕ, ◌==◌, ◌&&◌, ◌||◌, not, Bool, true, false, List, [], ◌∷◌, ◌++◌, map, codes, Option, Some, None, if◌then◌else◌, is_some}
 use Rattle.std.specs.Prelude.{length, option_and_then, option_map, unwrap_or, unsigned_abs}
-use Rattle.std.specs.List.{after_first, before_first, list_all, list_any}
+use Rattle.std.specs.List.{after_first, before_first, list_all, list_any, slice_split}
 use Rattle.std.specs.Option.{option_map_or}
 use Rattle.std.specs.Str.{bytes_eq}
 use Rattle.clap.specs.Words.{Row, Text, all_of, first_of}
 use Rattle.clr_rows.specs.Names.{live_name}
 use Rattle.clr_rows.specs.Schemas.{is_key}
 use Rattle.clr_records.specs.Decimals.{number_of}
+use Rattle.clr_prepared_layers.specs.declared.empty_values.EmptyValue.{EmptyValue}
+use Rattle.clr_prepared_layers.specs.declared.preparations.Preparation.{Preparation}
 use Rattle.clr_command_line.specs.Asks.{database_and, database_of, given_names, given_value, is_set}
 use Rattle.clr_desk_command_line.specs.declared.asks.Asked.{Asked}
 use Rattle.clr_desk_command_line.specs.declared.asks.Asked.TheVariants.{Night, OfTexts, Reach, WholeCut}
@@ -26,7 +28,7 @@ use Rattle.clr_desk_command_line.specs.declared.asks.JsonAsk.TheVariants as json
 use Rattle.clr_desk_command_line.specs.declared.asks.OrderAsk.TheVariants as order
 use Rattle.clr_desk_command_line.specs.declared.asks.SourceAsk.{SourceAsk}
 use Rattle.clr_desk_command_line.specs.declared.asks.TextKind.TheVariants as kind
-use Rattle.clr_desk_command_line.specs.Databases.{database_asked}
+use Rattle.clr_desk_command_line.specs.Databases.{database_asked, is_comma}
 
 -- the value that is given, or another
 abbrev pub given_or : Text → Text → List Row → Text
@@ -125,14 +127,6 @@ members_asked name rows = option_map (λ asked. (asked, database_of rows)) (memb
 abbrev pub merge_ask : List Row → DeskAsk × List Text
 merge_ask rows = (Merge (given_names rows), database_and (codes "CERT") rows)
 
--- tables and designs as texts for geographic information systems ---------------------------------
-
-abbrev pub features_of : List Row → GeographicAsk × List Text
-features_of rows = (Features (given_root rows) (given_names rows) (first_of (codes "crs") rows), database_of rows)
-
-abbrev pub layer_ask : List Row → GeographicAsk × List Text
-layer_ask rows = (Layer (given_or [] (codes "TABLE") rows) (given_or live_name (codes "in") rows), database_of rows)
-
 -- layers, each a word of a table's name, `=` and a file's name ----------------------------------------
 
 abbrev pub is_equals_sign : ℕ → Bool
@@ -156,18 +150,54 @@ tables_and_files words = if list_all is_layer words then Some (map table_in word
 abbrev pub layers_ask : List Row → Option (List Text × List Text)
 layers_ask rows = tables_and_files (unwrap_or (all_of (codes "TABLE=FILE") rows) [])
 
+-- what empty fields are: words of a column's name, `=` and a value, with commas between them ----------------
+
+-- the column and the value round the first `=`
+abbrev pub empty_in : Text → EmptyValue
+empty_in word = record { column = table_in word; value = file_in word }
+
+-- the values that words name, if each of them names one
+abbrev pub empties_in : List Text → Option (List EmptyValue)
+empties_in words = if list_all is_layer words then Some (map empty_in words) else None
+
+-- the values that are given, if they can be read; none where none are
+abbrev pub empties_of : List Row → Option (List EmptyValue)
+empties_of rows = option_map_or (λ text. empties_in (slice_split is_comma text)) (first_of (codes "empty") rows) (Some [])
+
+-- how layers are prepared, with these values for empty fields
+abbrev pub preparation_with : List Row → List EmptyValue → Preparation
+preparation_with rows empties = record { empties = empties; is_repaired = is_set (codes "repair") rows }
+
+abbrev pub preparation_of : List Row → Option Preparation
+preparation_of rows = option_map (preparation_with rows) (empties_of rows)
+
+-- tables and designs as texts for geographic information systems ---------------------------------
+
+abbrev pub features_of : List Row → GeographicAsk × List Text
+features_of rows = (Features (given_root rows) (given_names rows) (first_of (codes "crs") rows), database_of rows)
+
+-- the layer of a table in a workspace, in which these values are empty fields
+abbrev pub layer_of : List Row → List EmptyValue → GeographicAsk × List Text
+layer_of rows empties = (Layer (given_or [] (codes "TABLE") rows) (given_or live_name (codes "in") rows) empties, database_of rows)
+
+-- what `layer` asks for, and its file, if the values can be read
+abbrev pub layer_ask : List Row → Option (GeographicAsk × List Text)
+layer_ask rows = option_map (layer_of rows) (empties_of rows)
+
 -- what `why` asks of layers of these tables in these files, and its files
-abbrev pub layers_why : List Row → List Text → List Text → DeskAsk × List Text
-layers_why rows tables files =
-    (WhyLayers (record { tables = tables; files = files; is_rounded = is_set (codes "round") rows }), database_of rows ++ files)
+abbrev pub layers_why : List Row → List Text → List Text → Preparation → DeskAsk × List Text
+layers_why rows tables files preparation = (
+  WhyLayers (record { tables = tables; files = files; is_rounded = is_set (codes "round") rows; preparation = preparation }),
+  database_of rows ++ files,
+)
 
 -- of these layers if there are some, else of a text
-abbrev pub why_of_given : List Row → List Text × List Text → DeskAsk × List Text
-why_of_given rows layers = if length layers.0 == 0 then why_of rows else layers_why rows layers.0 layers.1
+abbrev pub why_of_given : List Row → List Text × List Text → Preparation → DeskAsk × List Text
+why_of_given rows layers preparation = if length layers.0 == 0 then why_of rows else layers_why rows layers.0 layers.1 preparation
 
--- what `why` asks for, and its files, if each layer that is given can be read
+-- what `why` asks for, and its files, if each layer that is given and the values of empty fields can be read
 abbrev pub why_ask : List Row → Option (DeskAsk × List Text)
-why_ask rows = option_map (why_of_given rows) (layers_ask rows)
+why_ask rows = option_and_then (λ layers. option_map (why_of_given rows layers) (preparation_of rows)) (layers_ask rows)
 
 -- the key that a text is, if it is one
 abbrev pub key_in : Text → Option ℕ
@@ -296,7 +326,7 @@ imports_asked name rows =
 unfoldable pub geographic_asked : Text → List Row → Option (GeographicAsk × List Text)
 geographic_asked name rows =
     if bytes_eq name (codes "geojson") then Some (features_of rows)
-    else (if bytes_eq name (codes "layer") then Some (layer_ask rows)
+    else (if bytes_eq name (codes "layer") then layer_ask rows
     else (if bytes_eq name (codes "cut") then cut_ask rows
     else imports_asked name rows))
 
@@ -352,8 +382,27 @@ reach_of rows = (
   given_value (codes "CUT") rows ∷ [],
 )
 
-abbrev pub of_texts : Option (DeskAsk × List Text) → Option (Asked × List Text)
-of_texts asked = option_map (λ p. (OfTexts p.0, p.1)) asked
+-- a subcommand reads layers, or writes one
+abbrev pub reads_layers : Text → Bool
+reads_layers name =
+    (bytes_eq name (codes "office") || bytes_eq name (codes "design"))
+    || (bytes_eq name (codes "designs") || (bytes_eq name (codes "ids")
+    || (bytes_eq name (codes "why") || (bytes_eq name (codes "cut") || (bytes_eq name (codes "night") || bytes_eq name (codes "layer"))))))
+
+-- layers stay as they are
+abbrev pub no_preparation : Preparation
+no_preparation = record { empties = []; is_repaired = false }
+
+-- how a subcommand prepares layers, if it reads or writes some
+abbrev pub preparation_by : Text → List Row → Option Preparation
+preparation_by name rows = if reads_layers name then preparation_of rows else Some no_preparation
+
+-- what is asked of texts, where layers among them are prepared so
+abbrev pub prepared_so : DeskAsk × List Text → Preparation → Asked × List Text
+prepared_so asked preparation = (OfTexts asked.0 preparation, asked.1)
+
+abbrev pub of_texts : Text → List Row → Option (DeskAsk × List Text) → Option (Asked × List Text)
+of_texts name rows asked = option_and_then (λ p. option_map (prepared_so p) (preparation_by name rows)) asked
 
 -- the designs of a folder that a night brings, and the new folder; and the files of the offices
 abbrev pub night_of : List Row → ℕ → Bool → Asked × List Text
@@ -382,7 +431,7 @@ whole_cut_ask rows =
     )) (layers_ask rows)
 
 abbrev pub cut_asked : List Row → Option (Asked × List Text)
-cut_asked rows = if is_whole rows then whole_cut_ask rows else of_texts (ask_by_name (codes "cut") rows)
+cut_asked rows = if is_whole rows then whole_cut_ask rows else of_texts (codes "cut") rows (ask_by_name (codes "cut") rows)
 
 -- what a subcommand asks for, of texts, of files of tables, of a stream or of a folder, and its files
 unfoldable pub asked_by_name : Text → List Row → Option (Asked × List Text)
@@ -390,29 +439,23 @@ asked_by_name name rows =
     if bytes_eq name (codes "reach") then Some (reach_of rows)
     else (if bytes_eq name (codes "night") then night_ask rows
     else (if bytes_eq name (codes "cut") then cut_asked rows
-    else of_texts (ask_by_name name rows)))
+    else of_texts name rows (ask_by_name name rows)))
 
 -- what the subcommand that words name asks for, if they name one
 abbrev pub ask_of : Option (Text × List Row) → Option (Asked × List Text)
 ask_of found = option_and_then (λ p. asked_by_name p.0 p.1) found
 
--- a subcommand reads layers
-abbrev pub reads_layers : Text → Bool
-reads_layers name =
-    (bytes_eq name (codes "office") || bytes_eq name (codes "design"))
-    || (bytes_eq name (codes "designs") || (bytes_eq name (codes "ids")
-    || (bytes_eq name (codes "why") || (bytes_eq name (codes "cut") || bytes_eq name (codes "night")))))
-
 -- a subcommand has two options that can't be asked for together
 abbrev pub has_choice : Text → Bool
 has_choice name = bytes_eq name (codes "keep") || bytes_eq name (codes "order")
 
--- a subcommand reads more of its values than clap does: it reads layers, or the dialect and the origin of a database, or has such options
+-- a subcommand reads more of its values than clap does: it reads layers and what empty fields are, or the dialect and the origin of a database, or has such
+-- options
 abbrev pub reads_values : Text → Bool
 reads_values name = reads_layers name || (has_choice name || (bytes_eq name (codes "edits") || bytes_eq name (codes "propose")))
 
--- where a subcommand does, each layer, the first key, the choice, the dialect and the origin can be read, no script is asked for where there is none,
--- records are to be skipped of one layer alone that has no ids, ids aren't asked for in SQL, and JSON isn't asked for where there is none
+-- where a subcommand does, each layer, the values of empty fields, the first key, the choice, the dialect and the origin can be read, no script is asked for
+-- where there is none, records are to be skipped of one layer alone that has no ids, ids aren't asked for in SQL, and JSON isn't asked for where there is none
 abbrev pub is_readable : Option (Text × List Row) → Bool
 is_readable found = option_map_or (λ p. not (reads_values p.0) || is_some (asked_by_name p.0 p.1)) found true
 

@@ -35,9 +35,13 @@ abbrev pub place_in : Text → Option Place
 place_in text =
     if list_any is_comma text then place_of (metres_in (before_first is_comma text)) (metres_in (after_first is_comma text)) else None
 
--- the origin that is given, if it is a place, or (0, 0)
-abbrev pub origin_of : List Row → Option Place
-origin_of rows = option_map_or place_in (first_of (codes "origin") rows) (Some (record { x = pos 0; y = pos 0 }))
+-- the origin that a text gives, if it is a place
+abbrev pub given_origin : Text → Option (Option Place)
+given_origin text = option_map (λ p. Some p) (place_in text)
+
+-- the origin that is given, if one is and it is a place
+abbrev pub origin_of : List Row → Option (Option Place)
+origin_of rows = option_map_or given_origin (first_of (codes "origin") rows) (Some None)
 
 -- SQL of a dialect
 abbrev pub sql_in : List Row → Dialect → Option SqlAsk

@@ -1,6 +1,7 @@
 //! What can be asked.
 
-use clr_rows::{Names, Place, Words};
+use clr_prepared_layers::{EmptyValue, Preparation};
+use clr_rows::{List, Names, Place, Words};
 use clr_sql::Dialect;
 
 /// A kind of text that the program reads.
@@ -20,6 +21,7 @@ pub struct LayersAsk {
     pub files: Names,
     /// Whether coordinates finer than a millimetre are rounded.
     pub is_rounded: bool,
+    pub preparation: Preparation,
 }
 
 /// A design that has the rows of layers.
@@ -55,8 +57,8 @@ pub enum GeographicAsk {
     /// What the plan of these children of a root is about, as features of a map: the root, the children, or none for all, and the name of the
     /// reference system of their coordinates, as it was given.
     Features(Words, Names, Option<Words>),
-    /// The rows of a table in a workspace, as a layer: the table, and the workspace.
-    Layer(Words, Words),
+    /// The rows of a table in a workspace, as a layer: the table, the workspace, and the values that are empty fields of columns there.
+    Layer(Words, Words, List<EmptyValue>),
     /// The office in which LIVE has the rows of layers: the tables of the layers, in the order of their files, and whether coordinates finer than
     /// a millimetre are rounded.
     Office(Names, bool),
@@ -178,8 +180,8 @@ pub struct SqlAsk {
     pub dialect: Dialect,
     /// The name of the reference system of its coordinates, as it was given.
     pub system: Option<Words>,
-    /// Where the place (0, 0) of the office is in that system, in millimetres.
-    pub origin: Place,
+    /// Where the place (0, 0) of the office is in that system, in millimetres, if it is given.
+    pub origin: Option<Place>,
 }
 
 /// What is asked for a database.
@@ -227,7 +229,8 @@ pub struct WholeCutAsk {
 /// What is asked: of texts alone, of an office text and files of tables, of an office text and a stream, or of an office text and a folder.
 #[derive(Debug, Drop)]
 pub enum Asked {
-    OfTexts(DeskAsk),
+    /// What is asked of texts, and how layers among them are prepared.
+    OfTexts(DeskAsk, Preparation),
     /// The cut of the tables that files have, for all designs of the office text.
     WholeCut(WholeCutAsk),
     /// Which rows of a table, that is read from a stream, a cut lacks; the office text is the cut.

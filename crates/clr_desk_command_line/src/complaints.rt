@@ -30,8 +30,8 @@ fn database_complaint(alloc: Global, matches: &ArgMatches) -> Result<Option<Stri
 }
 
 /// Returns what is wrong with the words of a subcommand: what `database_complaint` says, or else that JSON is asked for where there is none, that a layer has
-/// no `=`, or else that a choice is neither yes nor no, that the script of a design is asked for that has none, that records of several layers, or of one with
-/// ids, are to be skipped, or else that the first key is none.
+/// no `=`, or else that a value of empty fields has none, or else that a choice is neither yes nor no, that the script of a design is asked for that has none,
+/// that records of several layers, or of one with ids, are to be skipped, or else that the first key is none.
 pub(crate) fn complaint(alloc: Global, matches: &ArgMatches) -> Result<String, AllocError> {
     if let Some(text) = database_complaint(alloc, matches)? {
         return Ok(text);
@@ -44,6 +44,13 @@ pub(crate) fn complaint(alloc: Global, matches: &ArgMatches) -> Result<String, A
     for word in matches.get_strs("TABLE=FILE").unwrap_or(&[]) {
         if !word.contains('=') {
             return format!(in alloc; "invalid value '{word}' for '<TABLE=FILE>...': it has no '='");
+        }
+    }
+    for word in matches.get_str("empty").unwrap_or("=").split(',') {
+        if !word.contains('=') {
+            return format!(in alloc;
+                "invalid value '{word}' for '--empty <COLUMN=VALUE,..>': it has no '='"
+            );
         }
     }
     let choice = matches.get_str("removes").unwrap_or("yes");

@@ -7,6 +7,7 @@ ghost use Rattle.clr_desk_command_line.specs.Databases.{
   dialect_in,
   edits_ask,
   edits_of,
+  given_origin,
   has_ids_in_sql,
   metres_in,
   origin_of,
@@ -72,13 +73,23 @@ fn place_in(text: &str) -> Option<Place>
     place_of(metres_in(x), metres_in(y))
 }
 
-/// Returns the origin that is given, which is (0, 0) where none is, or nothing where what is given is no place.
-fn origin(matches: &ArgMatches) -> Option<Place>
+/// Returns the origin that a text gives, or nothing where it is no place.
+fn given_origin(text: &str) -> Option<Option<Place>>
+    ensures { result ≡ given_origin text.now }
+{
+    match place_in(text) {
+        Some(place) => Some(Some(place)),
+        None => None,
+    }
+}
+
+/// Returns the origin that is given, if one is, or nothing where what is given is no place.
+fn origin(matches: &ArgMatches) -> Option<Option<Place>>
     ensures { result ≡ origin_of (rows_of (found_of matches.now)) }
 {
     match matches.get_str("origin") {
-        Some(text) => place_in(text),
-        None => Some(Place { x: 0, y: 0 }),
+        Some(text) => given_origin(text),
+        None => Some(None),
     }
 }
 

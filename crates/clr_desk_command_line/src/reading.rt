@@ -31,6 +31,8 @@ ghost use Rattle.clr_desk_command_line.specs.Asks.{
   or_texts_asked,
   pictures_ask,
   plan_ask,
+  preparation_by,
+  prepared_so,
   reach_of,
   source_of,
   words_ask,
@@ -46,6 +48,7 @@ use crate::complaints::complaint;
 use crate::database_reading::database_ask;
 use crate::layer_reading::geographic_ask;
 use crate::night_reading::night;
+use crate::preparation_reading::preparation_by;
 use crate::values::{given_or, given_value, root};
 use crate::whole_cut_reading::whole_cut;
 use crate::why_reading::{AskAndFiles, why};
@@ -390,17 +393,35 @@ fn reach(alloc: Global, matches: &ArgMatches) -> Result<AskedAndFiles, AllocErro
     Ok((Asked::Reach(ask), files))
 }
 
-/// Returns what a subcommand asks for of texts, and its files, or nothing where no such subcommand has the name, or where its layers or its first
-/// key can't be read.
+/// Returns what is asked of texts, and the files, with how layers among them are prepared, or nothing where the values of empty fields can't be read.
+fn prepared_so(
+    alloc: Global,
+    name: &str,
+    matches: &ArgMatches,
+    ask: DeskAsk,
+    files: Vec<Words>,
+) -> Result<Option<AskedAndFiles>, AllocError>
+    ensures { IfOk result (λ r. option_map (prepared_so (ask, files.items)) (preparation_by name.now (rows_of (found_of matches.now)))
+        ≡ option_map (λ p. (p.0, p.1.items)) r) }
+{
+    match preparation_by(alloc, name, matches)? {
+        Some(preparation) => Ok(Some((Asked::OfTexts(ask, preparation), files))),
+        None => Ok(None),
+    }
+}
+
+/// Returns what a subcommand asks for of texts, and its files, or nothing where no such subcommand has the name, or where its layers, its first
+/// key or the values of empty fields can't be read.
 fn of_texts(
     alloc: Global,
     name: &str,
     matches: &ArgMatches,
 ) -> Result<Option<AskedAndFiles>, AllocError>
-    ensures { IfOk result (λ r. of_texts (ask_by_name name.now (rows_of (found_of matches.now))) ≡ option_map (λ p. (p.0, p.1.items)) r) }
+    ensures { IfOk result (λ r. of_texts name.now (rows_of (found_of matches.now)) (ask_by_name name.now (rows_of (found_of matches.now)))
+        ≡ option_map (λ p. (p.0, p.1.items)) r) }
 {
     match ask_of_subcommand(alloc, name, matches)? {
-        Some((ask, files)) => Ok(Some((Asked::OfTexts(ask), files))),
+        Some((ask, files)) => prepared_so(alloc, name, matches, ask, files),
         None => Ok(None),
     }
 }
@@ -452,20 +473,21 @@ fn refusal(alloc: Global, matches: &ArgMatches) -> Result<AskFault, AllocError> 
 /// Returns what the words of a command line ask for, with the program's name first, and the names of the files that it is asked of: that of the office text,
 /// and then that of the script, the certificate or the office that was copied, and those of the layers, where there are some. The subcommands are `check DB
 /// CERT [--json]`, `merge DB CERT NAME..`, `format DB`, `accept DB`, `mended DB`, `errors DB [--geojson] [--crs SYSTEM]`, `why DB [TABLE=FILE..] [--script
-/// FILE] [--certificate FILE] [--round]`, `certificate`, `plan`, `keep`, `clashes`, `order`, `words`, `map`, `report` and `board`, each with `DB [--under ROOT]
-/// NAME..`, of which `certificate` and `keep` take `--in-order`, `order` takes `--certificate`, `report` takes `--as-of TEXT`, and all but `certificate`, `map`
-/// and `report` take `--json`, `geojson DB [--under ROOT] [--crs SYSTEM] [--ids IDS] NAME..`, `layer DB TABLE [--in WORKSPACE] [--ids IDS]`, `office SCHEMA
-/// TABLE=FILE.. [--round] [--accept] [--skip BAD] [--ids IDS]`, `design DB NAME TABLE=FILE.. [--base COPIED] [--removes CHOICE] [--again] [--script] [--keys N]
-/// [--round] [--ids IDS]`, `designs DB FOLDER` and `night DB FOLDER OUT`, both with `[--base COPIED] [--removes CHOICE] [--keys N] [--round]`, whose designs
-/// aren't among the files, `ids DB IDS TABLE=FILE.. [--keys N]`, `reach CUT TABLE NAME.. [--groups] [--round]`, which reads the table from a stream, `cut OFFICE
-/// TABLE=FILE.. [--whole] [--groups] [--round]`, and `propose OFFICE` and `edits OLD NEW`, both with `[--sql DIALECT] [--crs SYSTEM] [--origin X,Y]`, and `edits` with `[--ids IDS]`.
-/// IDS, which is the file of a book of ids, isn't among the files either: `ids_file` says it. There are none or more names, and one or more layers, but for
-/// `why` none or more. The root, and the workspace of a layer, is LIVE where none is given; N is 1, CHOICE is `yes`, the origin is (0, 0), and `propose` is for
-/// `postgis`.
+/// FILE] [--certificate FILE] [--round] [PREPARATION]`, `certificate`, `plan`, `keep`, `clashes`, `order`, `words`, `map`, `report` and `board`, each with `DB
+/// [--under ROOT] NAME..`, of which `certificate` and `keep` take `--in-order`, `order` takes `--certificate`, `report` takes `--as-of TEXT`, and all but
+/// `certificate`, `map` and `report` take `--json`, `geojson DB [--under ROOT] [--crs SYSTEM] [--ids IDS] NAME..`, `layer DB TABLE [--in WORKSPACE] [--ids IDS]
+/// [--empty VALUES]`, `office SCHEMA TABLE=FILE.. [--round] [--accept] [--skip BAD] [--ids IDS] [PREPARATION]`, `design DB NAME TABLE=FILE.. [--base COPIED]
+/// [--removes CHOICE] [--again] [--script] [--keys N] [--round] [--ids IDS] [PREPARATION]`, `designs DB FOLDER [PREPARATION]` and `night DB FOLDER OUT`, both
+/// with `[--base COPIED] [--removes CHOICE] [--keys N] [--round]`, whose designs aren't among the files, `ids DB IDS TABLE=FILE.. [--keys N]`, `reach CUT TABLE
+/// NAME.. [--groups] [--round]`, which reads the table from a stream, `cut OFFICE TABLE=FILE.. [--whole] [--groups] [--round] [PREPARATION]`, where PREPARATION
+/// is `[--empty VALUES] [--repair]` and VALUES is `COLUMN=VALUE,..`, and `propose OFFICE` and `edits OLD NEW`, both with `[--sql DIALECT] [--crs SYSTEM]
+/// [--origin X,Y]`, and `edits` with `[--ids IDS]`. IDS, which is the file of a book of ids, isn't among the files either: `ids_file` says it. There are none
+/// or more names, and one or more layers, but for `why` none or more. The root, and the workspace of a layer, is LIVE where none is given; N is 1, CHOICE is
+/// `yes`, the origin is that of the text or else (0, 0), and `propose` is for `postgis`.
 ///
-/// Fails with `Refused` where the words name no subcommand or another count of values than it has, where a layer has no `=`, N is no key, CHOICE is neither
-/// `yes` nor `no`, both COPIED and a script are asked for, both BAD and several layers or ids are given, both DIALECT and ids, or JSON is asked for with
-/// `--in-order` or `--certificate`; where DIALECT is neither `postgis` nor `spatialite`, or X or Y is no whole number of metres of at most
+/// Fails with `Refused` where the words name no subcommand or another count of values than it has, where a layer or a value of empty fields has no `=`, N is no
+/// key, CHOICE is neither `yes` nor `no`, both COPIED and a script are asked for, both BAD and several layers or ids are given, both DIALECT and ids, or JSON
+/// is asked for with `--in-order` or `--certificate`; where DIALECT is neither `postgis` nor `spatialite`, or X or Y is no whole number of metres of at most
 /// `MOST_ORIGIN_METRES`; or where they ask for help, as `help`, `--help` and `-h`, or for the version, as `--version` and `-V`; and with `OutOfMemory` for want
 /// of memory, which may come in place of any other answer.
 pub fn ask_of<'a>(alloc: Global, words: &'a [&'a str]) -> Result<(Asked, Vec<Words>), AskFault>

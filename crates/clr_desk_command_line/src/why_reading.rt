@@ -11,9 +11,11 @@ ghost use Rattle.clr_desk_command_line.specs.declared.asks.TextKind.TheVariants 
 use crate::asks::{DeskAsk, LayersAsk, TextKind};
 use crate::design_reading::append_files;
 use crate::named_layers::layers;
+use crate::preparation_reading::preparation;
 use crate::values::has_value;
 use clap::ArgMatches;
 use clr_command_line::{database, database_with, is_set};
+use clr_prepared_layers::Preparation;
 use clr_rows::{Names, Words};
 use std::alloc::{AllocError, Global};
 
@@ -80,8 +82,9 @@ fn layers_why(
     matches: &ArgMatches,
     tables: Vec<Words>,
     files: Vec<Words>,
+    preparation: Preparation,
 ) -> Result<AskAndFiles, AllocError>
-    ensures { IfOk result (λ r. layers_why (rows_of (found_of matches.now)) tables.items files.items ≡ (r.0, r.1.items)) }
+    ensures { IfOk result (λ r. layers_why (rows_of (found_of matches.now)) tables.items files.items preparation ≡ (r.0, r.1.items)) }
 {
     let named = copies(alloc, files.as_slice())?;
     let all = append_files(database(alloc, matches)?, files)?;
@@ -89,6 +92,7 @@ fn layers_why(
         tables: Names::new(tables),
         files: Names::new(named),
         is_rounded: is_set(matches, "round"),
+        preparation,
     };
     Ok((DeskAsk::WhyLayers(asked), all))
 }
@@ -99,22 +103,26 @@ fn why_of_given(
     matches: &ArgMatches,
     tables: Vec<Words>,
     files: Vec<Words>,
+    preparation: Preparation,
 ) -> Result<AskAndFiles, AllocError>
-    ensures { IfOk result (λ r. why_of_given (rows_of (found_of matches.now)) (tables.items, files.items) ≡ (r.0, r.1.items)) }
+    ensures { IfOk result (λ r. why_of_given (rows_of (found_of matches.now)) (tables.items, files.items) preparation ≡ (r.0, r.1.items)) }
 {
     if tables.is_empty() {
         text_why(alloc, matches)
     } else {
-        layers_why(alloc, matches, tables, files)
+        layers_why(alloc, matches, tables, files, preparation)
     }
 }
 
-/// Returns what `why` asks for, and its files, or nothing where a layer can't be read.
+/// Returns what `why` asks for, and its files, or nothing where a layer or the values of empty fields can't be read.
 pub(crate) fn why(alloc: Global, matches: &ArgMatches) -> Result<Option<AskAndFiles>, AllocError>
     ensures { IfOk result (λ r. why_ask (rows_of (found_of matches.now)) ≡ option_map (λ p. (p.0, p.1.items)) r) }
 {
     let Some((tables, files)) = layers(alloc, matches)? else {
         return Ok(None);
     };
-    Ok(Some(why_of_given(alloc, matches, tables, files)?))
+    let Some(preparation) = preparation(alloc, matches)? else {
+        return Ok(None);
+    };
+    Ok(Some(why_of_given(alloc, matches, tables, files, preparation)?))
 }

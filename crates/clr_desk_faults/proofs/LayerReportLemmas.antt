@@ -7,11 +7,11 @@ use Rattle.clr_layer_changes.specs.declared.options.GivenLayer.{GivenLayer}
 use Rattle.clr_degrees.specs.Degrees.{degrees_text}
 use Rattle.clr_layer_reports.specs.Reports.{IsLayerReport}
 use Rattle.clr_desk_faults.specs.FaultPlaces.{file_name}
-use Rattle.clr_desk_faults.specs.LayerFaults.{AreReports, degrees_lines}
+use Rattle.clr_desk_faults.specs.LayerFaults.{AreReports, degrees_lines, source_at}
 
-module _ (tables : List TableDef) (rounded : Bool) (files : List Name) (first : ℕ) (layers : List GivenLayer) where
+module _ (tables : List TableDef) (rounded : Bool) (files : List Name) (first : ℕ) (layers sources : List GivenLayer) where
   abbrev pub Said : ℕ → List GivenLayer → List ℕ → Type 0
-  Said at rest lines = AreReports tables rounded files first layers at rest lines
+  Said at rest lines = AreReports tables rounded files first layers sources at rest lines
 
   -- the lines so far, with those of the layers that are left, are all of them
   abbrev pub AreFirst : ℕ → List ℕ → Type 0
@@ -22,13 +22,14 @@ module _ (tables : List TableDef) (rounded : Bool) (files : List Name) (first : 
   none_left at = refl
 
   one_left : (at : ℕ) (layer : GivenLayer) (rest : List GivenLayer) (report behind : List ℕ)
-      → IsLayerReport tables rounded (file_name files (first + at)) (take at layers) layer report → Said (at + 1) rest behind
+      → IsLayerReport tables rounded (file_name files (first + at)) (take at layers) layer (source_at sources at) report → Said (at + 1) rest behind
       → Said at (layer ∷ rest) (report ++ behind)
   unfolding AreReports
   one_left at layer rest report behind is others = (report, behind, is, others, refl)
 
   pub goes_on : (at : ℕ) (layer : GivenLayer) (lines report now : List ℕ) → at < length layers → layer ≡ get_or layers at layer
-      → IsLayerReport tables rounded (file_name files (first + at)) (take at layers) layer report → now ≡ lines ++ report → AreFirst at lines → AreFirst (at + 1) now
+      → IsLayerReport tables rounded (file_name files (first + at)) (take at layers) layer (source_at sources at) report → now ≡ lines ++ report
+      → AreFirst at lines → AreFirst (at + 1) now
   goes_on at layer lines report now lt is said added so_far behind others =
       let step : drop at layers ≡ layer ∷ drop (at + 1) layers =
       at_drop_more (λ rest. rest) layers at layer lt ∙ ap (λ l. l ∷ drop (at + 1) layers) (sym is) in

@@ -1,5 +1,6 @@
 -- What is said of layers behind the line of the first fault, and of layers that look like degrees.
-use Rattle.std.specs.Prelude.{◌≡◌, ℕ, ◌+◌, Bool, false, List, [], ◌∷◌, ◌++◌, Result, Ok, Err, take}
+use Rattle.std.specs.Prelude.{◌≡◌, ℕ, ◌+◌, Bool, false, List, [], ◌∷◌, ◌++◌, Result, Ok, Err, slice_get, take}
+use Rattle.std.specs.Option.{option_map_or}
 use Rattle.clr_rows.specs.declared.tables.TableDef.{TableDef}
 use Rattle.clr_workspaces.specs.Marks.{Name}
 use Rattle.clr_steps.specs.Offices.{Office}
@@ -36,17 +37,24 @@ is_rounded (ask.Skipping asked file) = are_rounded asked
 is_rounded (ask.WhyLayers asked) = asked.is_rounded
 is_rounded _ = false
 
--- what is said of the layers from a position on, one behind another, by the names of their files, of which the first layer's has a position too
-unfoldable pub AreReports : List TableDef → Bool → List Name → ℕ → List GivenLayer → ℕ → List GivenLayer → List ℕ → Type 0
-AreReports tables rounded files first layers at [] lines = lines ≡ []
-AreReports tables rounded files first layers at (layer ∷ rest) lines =
-    (report : List ℕ) × (behind : List ℕ) × IsLayerReport tables rounded (file_name files (first + at)) (take at layers) layer report
-    × AreReports tables rounded files first layers (at + 1) rest behind × (lines ≡ report ++ behind)
+-- the text of the file of a layer at a position, of which the layer's own may have been made
+abbrev pub source_at : (sources : List GivenLayer) → (at : ℕ) → List ℕ
+source_at sources at = option_map_or (λ source. source.text.items) (slice_get sources at) []
 
--- what is said of all layers over an office; nothing where the text is no office
-abbrev pub AreLayerFaults : DeskAsk → List Name → List GivenLayer → List ℕ → Result Office TextFault → Type 0
-AreLayerFaults asked files layers lines (Ok o) = AreReports o.schema (is_rounded asked) files (office_count asked) layers 0 layers lines
-AreLayerFaults asked files layers lines (Err e) = lines ≡ []
+-- what is said of the layers from a position on, one behind another, by the names and the texts of their files, of which the first layer's has a
+-- position too
+unfoldable pub AreReports : List TableDef → Bool → List Name → ℕ → (layers sources : List GivenLayer) → ℕ → List GivenLayer → List ℕ → Type 0
+AreReports tables rounded files first layers sources at [] lines = lines ≡ []
+AreReports tables rounded files first layers sources at (layer ∷ rest) lines =
+    (report : List ℕ) × (behind : List ℕ)
+    × IsLayerReport tables rounded (file_name files (first + at)) (take at layers) layer (source_at sources at) report
+    × AreReports tables rounded files first layers sources (at + 1) rest behind × (lines ≡ report ++ behind)
+
+-- what is said of all layers over an office, by the texts of their files; nothing where the text is no office
+abbrev pub AreLayerFaults : DeskAsk → List Name → (layers sources : List GivenLayer) → List ℕ → Result Office TextFault → Type 0
+AreLayerFaults asked files layers sources lines (Ok o) =
+    AreReports o.schema (is_rounded asked) files (office_count asked) layers sources 0 layers lines
+AreLayerFaults asked files layers sources lines (Err e) = lines ≡ []
 
 -- which layers look like degrees, a line each, by the names of their files, of which the first layer's has a position
 unfoldable pub degrees_lines : List Name → ℕ → List GivenLayer → List ℕ

@@ -39,7 +39,7 @@ fn tables_of(ask: &DeskAsk) -> &[Words]
 }
 
 /// Returns how many texts stand before those of the layers.
-pub(crate) fn office_count(ask: &DeskAsk) -> usize
+pub fn office_count(ask: &DeskAsk) -> usize
     ensures value { result ≡ office_count ask.now }
     ensures small { result ≤ 2 }
 {

@@ -2,7 +2,7 @@
 ghost use Rattle.std.specs.Prelude.{◌≡◌, ◌+◌, ◌<◌, ◌^◌, IfOk, length};
 ghost use Rattle.clr_office_texts.specs.Drafts.{draft_in};
 ghost use Rattle.clr_desk_faults.specs.GivenLayers.{office_count};
-ghost use Rattle.clr_desk_faults.specs.LayerFaults.{AreLayerFaults, AreReports, are_rounded, degrees_lines, is_rounded};
+ghost use Rattle.clr_desk_faults.specs.LayerFaults.{AreLayerFaults, AreReports, are_rounded, degrees_lines, is_rounded, source_at};
 
 use crate::given_layers::office_count;
 use clr_degrees::degrees_text;
@@ -36,7 +36,7 @@ fn are_rounded(ask: &GeographicAsk) -> bool
 }
 
 /// Returns whether coordinates of the layers that are asked for are rounded.
-pub(crate) fn is_rounded(ask: &DeskAsk) -> bool
+pub fn is_rounded(ask: &DeskAsk) -> bool
     ensures { result ≡ is_rounded ask.now }
 {
     match ask {
@@ -46,7 +46,17 @@ pub(crate) fn is_rounded(ask: &DeskAsk) -> bool
     }
 }
 
-/// Returns what is said of layers, one behind another, by the names of their files, of which that of the first has a position.
+/// Returns the text of the file of a layer at a position.
+fn source_at(sources: &[GivenLayer], at: usize) -> &[u8]
+    ensures { result.now ≡ source_at sources.now at }
+{
+    match sources.get(at) {
+        Some(source) => source.text.as_slice(),
+        None => &[],
+    }
+}
+
+/// Returns what is said of layers, one behind another, by the texts of their files and by the names of these, of which that of the first has a position.
 pub(crate) fn layer_reports(
     alloc: Global,
     schema: &Schema,
@@ -54,30 +64,41 @@ pub(crate) fn layer_reports(
     files: &[Words],
     first: usize,
     layers: &[GivenLayer],
+    sources: &[GivenLayer],
 ) -> Result<Vec<u8>, AllocError>
     requires { first < 2 ^ 16 }
-    ensures { IfOk result (λ lines. AreReports schema.now rounded files.now first layers.now 0 layers.now lines.items) }
+    ensures { IfOk result (λ lines. AreReports schema.now rounded files.now first layers.now sources.now 0 layers.now lines.items) }
 {
     let mut lines = Vec::new(alloc);
     for at in 0..layers.len() {
         let file = file_name(files, first + at);
-        let report = layer_report(alloc, schema, rounded, file, &layers[..at], &layers[at])?;
+        let source = source_at(sources, at);
+        let report = layer_report(
+            alloc,
+            schema,
+            rounded,
+            file,
+            &layers[..at],
+            &layers[at],
+            source,
+        )?;
         lines.extend_from_slice(report.as_slice())?;
     }
     Ok(lines)
 }
 
 /// Returns what is wrong with the layers that are asked for, where `answer` gives the line of the first fault: of each layer each of its first 100 faults,
-/// with the name of its file, the line and the column, and how many they are, in all and of each kind and column. The files are those of the office
-/// texts and then those of the layers.
+/// with the name of its file, the line and the column there, and how many they are, in all and of each kind and column. The files are those of the office
+/// texts and then those of the layers, whose texts are the sources; each layer's own text may have been made of its source, record by record.
 pub fn faults_of_layers(
     alloc: Global,
     ask: &DeskAsk,
     files: &[Words],
     office: &[u8],
     layers: &[GivenLayer],
+    sources: &[GivenLayer],
 ) -> Result<Vec<u8>, AllocError>
-    ensures faults { IfOk result (λ lines. AreLayerFaults ask.now files.now layers.now lines.items (draft_in office.now)) }
+    ensures faults { IfOk result (λ lines. AreLayerFaults ask.now files.now layers.now sources.now lines.items (draft_in office.now)) }
 {
     match read_office(alloc, office) {
         Ok(read) => layer_reports(
@@ -87,6 +108,7 @@ pub fn faults_of_layers(
             files,
             office_count(ask),
             layers,
+            sources,
         ),
         Err(TextFault::OutOfMemory) => Err(AllocError),
         Err(_) => Ok(Vec::new(alloc)),

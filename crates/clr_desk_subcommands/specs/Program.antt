@@ -61,8 +61,12 @@ order = with_rule (with_rule (over_members (codes "order")) (flag (codes "certif
 abbrev pub why_of_texts : App
 why_of_texts = with_rule (with_rule (with_rule (database_command (codes "why")) given_layers) (option (codes "script"))) (option (codes "certificate"))
 
+-- the options by which layers are prepared
+abbrev pub with_preparation : App → App
+with_preparation app = with_rule (with_rule app (option (codes "empty"))) (flag (codes "repair"))
+
 abbrev pub why : App
-why = with_rule why_of_texts round
+why = with_preparation (with_rule why_of_texts round)
 
 abbrev pub words : App
 words = over_members_as_json (codes "words")
@@ -88,14 +92,16 @@ abbrev pub geojson : App
 geojson = with_rule (with_rule (over_members (codes "geojson")) system) ids_file
 
 abbrev pub layer : App
-layer = with_rule (with_rule (with_rule (database_command (codes "layer")) (value (codes "TABLE"))) (option (codes "in"))) ids_file
+layer =
+    with_rule (with_rule (with_rule (with_rule (database_command (codes "layer")) (value (codes "TABLE"))) (option (codes "in"))) ids_file)
+    (option (codes "empty"))
 
 -- an office text, and its layers
 abbrev pub office_of_layers : App
 office_of_layers = with_rule (with_rule (new_app (codes "office")) (value (codes "SCHEMA"))) layers
 
 abbrev pub office : App
-office = with_rule (with_rule (with_rule (with_rule office_of_layers round) (flag (codes "accept"))) (option (codes "skip"))) ids_file
+office = with_preparation (with_rule (with_rule (with_rule (with_rule office_of_layers round) (flag (codes "accept"))) (option (codes "skip"))) ids_file)
 
 -- the design's name, and its layers
 abbrev pub design_of_layers : App
@@ -106,14 +112,14 @@ abbrev pub design_from : App
 design_from = with_rule (with_rule (with_rule design_of_layers (option (codes "base"))) (option (codes "removes"))) (flag (codes "again"))
 
 abbrev pub design : App
-design = with_rule (with_rule (with_rule (with_rule design_from (flag (codes "script"))) (option (codes "keys"))) round) ids_file
+design = with_preparation (with_rule (with_rule (with_rule (with_rule design_from (flag (codes "script"))) (option (codes "keys"))) round) ids_file)
 
 -- the folder of the designs, and what they are differences to
 abbrev pub designs_from : App
 designs_from = with_rule (with_rule (database_command (codes "designs")) (value (codes "FOLDER"))) (option (codes "base"))
 
 abbrev pub designs : App
-designs = with_rule (with_rule (with_rule designs_from (option (codes "removes"))) (option (codes "keys"))) round
+designs = with_preparation (with_rule (with_rule (with_rule designs_from (option (codes "removes"))) (option (codes "keys"))) round)
 
 -- the folder of the designs that a night brings, the new folder, and what the designs are differences to
 abbrev pub night_from : App
@@ -151,7 +157,7 @@ abbrev pub cut_of_layers : App
 cut_of_layers = with_rule (with_rule (new_app (codes "cut")) (value (codes "OFFICE"))) layers
 
 abbrev pub cut : App
-cut = with_rule (with_rule (with_rule cut_of_layers (flag (codes "whole"))) (flag (codes "groups"))) round
+cut = with_preparation (with_rule (with_rule (with_rule cut_of_layers (flag (codes "whole"))) (flag (codes "groups"))) round)
 
 abbrev pub propose : App
 propose = with_database (with_rule (new_app (codes "propose")) (value (codes "OFFICE")))

@@ -61,6 +61,17 @@ const ROUND: Argument<'static> = Argument::Flag(
     "Round coordinates that are finer than a millimetre",
 );
 
+const EMPTY: Argument<'static> = Argument::ValueOption(
+    "empty",
+    "COLUMN=VALUE,..",
+    "What the empty fields of columns are",
+);
+
+const REPAIR: Argument<'static> = Argument::Flag(
+    "repair",
+    "Take out vertices that are the same as the one before them, and say where",
+);
+
 const COPIED: Argument<'static> = Argument::ValueOption(
     "base",
     "COPIED",
@@ -222,6 +233,8 @@ const TELLINGS: &[Subcommand<'static>] = &[
                 "The file of a certificate over this office",
             ),
             ROUND,
+            EMPTY,
+            REPAIR,
         ],
     },
     Subcommand {
@@ -275,6 +288,7 @@ const EXPORTS: &[Subcommand<'static>] = &[
                 "The workspace whose rows are printed [default: LIVE]",
             ),
             IDS,
+            EMPTY,
         ],
     },
     Subcommand {
@@ -313,6 +327,8 @@ const IMPORTS: &[Subcommand<'static>] = &[
                 "Take the records without a fault, and write the others to this new file",
             ),
             IDS,
+            EMPTY,
+            REPAIR,
         ],
     },
     Subcommand {
@@ -330,6 +346,8 @@ const IMPORTS: &[Subcommand<'static>] = &[
             LEAST_KEY,
             ROUND,
             IDS,
+            EMPTY,
+            REPAIR,
         ],
     },
     Subcommand {
@@ -346,6 +364,8 @@ const IMPORTS: &[Subcommand<'static>] = &[
             REMOVES,
             LEAST_KEY,
             ROUND,
+            EMPTY,
+            REPAIR,
         ],
     },
     Subcommand {
@@ -453,6 +473,8 @@ const CUTS: &[Subcommand<'static>] = &[
                 "The same, for what ties designs to one another too",
             ),
             ROUND,
+            EMPTY,
+            REPAIR,
         ],
     },
     Subcommand {

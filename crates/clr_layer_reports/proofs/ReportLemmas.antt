@@ -49,33 +49,34 @@ no_table_said result tables file name words hinted made =
     (λ lines same. (words, hinted, same)) made
 
 module _ {E : Type 0} (result : Result (Vec ℕ Global) E) (tables : List TableDef) (rounded : Bool) (file : List ℕ) where
-  module _ (at : ℕ) (table : TableDef) (text : List ℕ) where
+  module _ (at : ℕ) (table : TableDef) (text source : List ℕ) where
     -- a text with these records, where these names of the header are near those of columns
     pub records_are_said : (records : List Record) (near : List (Option (List ℕ))) (bytes : List ℕ) (faults : List FoundFault) → Some records ≡ records_in text
-        → AreNear table (header_in records) near → bytes ≡ strip_bom text → faults ≡ faults_in tables at table rounded records
+        → AreNear table (header_in records) near → bytes ≡ strip_bom source → faults ≡ faults_in tables at table rounded records
         → IfOk result (λ lines. lines.items ≡ faults_text file bytes table records near faults)
-        → IfOk result (λ lines. IsTextReport tables at table rounded file text lines.items (records_in text))
+        → IfOk result (λ lines. IsTextReport tables at table rounded file text source lines.items (records_in text))
     records_are_said records near bytes faults there are_near stripped found made =
         IfOk-weaker result (λ lines. lines.items ≡ faults_text file bytes table records near faults)
-        (λ lines. IsTextReport tables at table rounded file text lines.items (records_in text))
-        (λ lines h. subst (λ (read : Option (List Record)). IsTextReport tables at table rounded file text lines.items read) there
+        (λ lines. IsTextReport tables at table rounded file text source lines.items (records_in text))
+        (λ lines h. subst (λ (read : Option (List Record)). IsTextReport tables at table rounded file text source lines.items read) there
         (near, are_near, h ∙ (λ i. faults_text file (stripped i) table records near (found i)))) made
 
     -- a text that isn't UTF-8
     pub bytes_are_said : None ≡ records_in text
         → IfOk result (λ lines. (found : Option ℕ) × IsEncodingFault text found × (lines.items ≡ encoding_line file text found))
-        → IfOk result (λ lines. IsTextReport tables at table rounded file text lines.items (records_in text))
+        → IfOk result (λ lines. IsTextReport tables at table rounded file text source lines.items (records_in text))
     bytes_are_said there made =
-        subst (λ (read : Option (List Record)). IfOk result (λ lines. IsTextReport tables at table rounded file text lines.items read)) there made
+        subst (λ (read : Option (List Record)). IfOk result (λ lines. IsTextReport tables at table rounded file text source lines.items read)) there made
 
-  module _ (earlier : List GivenLayer) (layer : GivenLayer) where
-    said_by : (read : Result ℕ (ℕ × LayersFault)) → table_of tables earlier layer ≡ read → IfOk result (λ lines. IsReportBy tables rounded file layer lines.items read)
-        → IfOk result (λ lines. IsLayerReport tables rounded file earlier layer lines.items)
+  module _ (earlier : List GivenLayer) (layer : GivenLayer) (source : List ℕ) where
+    said_by : (read : Result ℕ (ℕ × LayersFault)) → table_of tables earlier layer ≡ read
+        → IfOk result (λ lines. IsReportBy tables rounded file layer source lines.items read)
+        → IfOk result (λ lines. IsLayerReport tables rounded file earlier layer source lines.items)
     said_by read is made =
-        subst (λ (r : Result ℕ (ℕ × LayersFault)). IfOk result (λ lines. IsReportBy tables rounded file layer lines.items r)) (sym is) made
+        subst (λ (r : Result ℕ (ℕ × LayersFault)). IfOk result (λ lines. IsReportBy tables rounded file layer source lines.items r)) (sym is) made
 
     pub twice_is_said : true ≡ list_any (is_layer_of_table layer.table) earlier → IfOk result (λ lines. lines.items ≡ table_twice_line file layer.table)
-        → IfOk result (λ lines. IsLayerReport tables rounded file earlier layer lines.items)
+        → IfOk result (λ lines. IsLayerReport tables rounded file earlier layer source lines.items)
     twice_is_said is made =
         said_by (Err (0, TableTwice)) (ap (λ b. cond b (Err (0, TableTwice)) (or_fault (0, NoTable) (table_named tables layer.table))) (sym is)) made
 
@@ -85,10 +86,10 @@ module _ {E : Type 0} (result : Result (Vec ℕ Global) E) (tables : List TableD
           ap (λ b. cond b (Err (0, TableTwice)) (or_fault (0, NoTable) (table_named tables layer.table))) (sym other) ∙ ap (or_fault (0, NoTable)) (sym is)
 
       pub none_is_said : None ≡ table_named tables layer.table → IfOk result (λ lines. IsTableReport tables file layer.table lines.items NoTable)
-          → IfOk result (λ lines. IsLayerReport tables rounded file earlier layer lines.items)
+          → IfOk result (λ lines. IsLayerReport tables rounded file earlier layer source lines.items)
       none_is_said is made = said_by (Err (0, NoTable)) (table_is None is) made
 
       pub table_is_said : (at : ℕ) → Some at ≡ table_named tables layer.table
-          → IfOk result (λ lines. IsReportOver tables at rounded file layer.text.items lines.items (slice_get tables at))
-          → IfOk result (λ lines. IsLayerReport tables rounded file earlier layer lines.items)
+          → IfOk result (λ lines. IsReportOver tables at rounded file layer.text.items source lines.items (slice_get tables at))
+          → IfOk result (λ lines. IsLayerReport tables rounded file earlier layer source lines.items)
       table_is_said at is made = said_by (Ok at) (table_is (Some at) is) made

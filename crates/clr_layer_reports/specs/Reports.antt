@@ -137,18 +137,18 @@ faults_text file bytes table records near faults =
 abbrev pub encoding_line : List ℕ → List ℕ → Option ℕ → List ℕ
 encoding_line file text found = place_text file text (unwrap_or found 0) ++ codes "NotCsv: a byte that isn't UTF-8; hint: save the file as UTF-8\n"
 
--- what is said of a text that has these records, or that isn't UTF-8
-abbrev pub IsTextReport : List TableDef → ℕ → TableDef → Bool → List ℕ → List ℕ → List ℕ → Option (List (List (List ℕ))) → Type 0
-IsTextReport tables at table rounded file text lines None =
+-- what is said of a text that has these records, or that isn't UTF-8; the places of faults are in the source, which has a record for each of the text's
+abbrev pub IsTextReport : List TableDef → ℕ → TableDef → Bool → List ℕ → (text source lines : List ℕ) → Option (List (List (List ℕ))) → Type 0
+IsTextReport tables at table rounded file text source lines None =
     (found : Option ℕ) × IsEncodingFault text found × (lines ≡ encoding_line file text found)
-IsTextReport tables at table rounded file text lines (Some records) =
+IsTextReport tables at table rounded file text source lines (Some records) =
     (near : List (Option (List ℕ))) × AreNear table (header_in records) near
-    × (lines ≡ faults_text file (strip_bom text) table records near (faults_in tables at table rounded records))
+    × (lines ≡ faults_text file (strip_bom source) table records near (faults_in tables at table rounded records))
 
 -- what is said of a text that is the layer of a table, which is there
-abbrev pub IsReportOver : List TableDef → ℕ → Bool → List ℕ → List ℕ → List ℕ → Option TableDef → Type 0
-IsReportOver tables at rounded file text lines None = lines ≡ []
-IsReportOver tables at rounded file text lines (Some table) = IsTextReport tables at table rounded file text lines (records_in text)
+abbrev pub IsReportOver : List TableDef → ℕ → Bool → List ℕ → (text source lines : List ℕ) → Option TableDef → Type 0
+IsReportOver tables at rounded file text source lines None = lines ≡ []
+IsReportOver tables at rounded file text source lines (Some table) = IsTextReport tables at table rounded file text source lines (records_in text)
 
 abbrev pub hint_text : Option (List ℕ) → List ℕ
 hint_text None = []
@@ -168,13 +168,13 @@ IsTableReport tables file name lines of_layer.NoTable =
     (words : Option (List ℕ)) × IsHintAtName name (map (λ table. table.name) tables) words × (lines ≡ no_table_line file name words)
 IsTableReport tables file name lines _ = lines ≡ table_twice_line file name
 
-abbrev pub IsReportBy : List TableDef → Bool → List ℕ → GivenLayer → List ℕ → Result ℕ (ℕ × LayersFault) → Type 0
-IsReportBy tables rounded file layer lines (Ok at) = IsReportOver tables at rounded file layer.text.items lines (slice_get tables at)
-IsReportBy tables rounded file layer lines (Err e) = IsTableReport tables file layer.table lines e.1
+abbrev pub IsReportBy : List TableDef → Bool → List ℕ → GivenLayer → (source lines : List ℕ) → Result ℕ (ℕ × LayersFault) → Type 0
+IsReportBy tables rounded file layer source lines (Ok at) = IsReportOver tables at rounded file layer.text.items source lines (slice_get tables at)
+IsReportBy tables rounded file layer source lines (Err e) = IsTableReport tables file layer.table lines e.1
 
--- what is said of a layer behind others, by its file: nothing where it has no fault
-abbrev pub IsLayerReport : List TableDef → Bool → List ℕ → List GivenLayer → GivenLayer → List ℕ → Type 0
-IsLayerReport tables rounded file earlier layer lines = IsReportBy tables rounded file layer lines (table_of tables earlier layer)
+-- what is said of a layer behind others, by its file, whose text is the source: nothing where it has no fault
+abbrev pub IsLayerReport : List TableDef → Bool → List ℕ → List GivenLayer → GivenLayer → (source lines : List ℕ) → Type 0
+IsLayerReport tables rounded file earlier layer source lines = IsReportBy tables rounded file layer source lines (table_of tables earlier layer)
 
 -- a layer with ids ---------------------------------------------------------------------------------------
 

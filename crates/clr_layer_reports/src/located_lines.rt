@@ -16,7 +16,7 @@ use csv::StringRecord;
 use std::alloc::{AllocError, Global};
 
 /// Adds the file, the line and the column of a byte of a text.
-pub(crate) fn add_place(
+pub fn add_place(
     line: &mut Vec<u8>,
     file: &str,
     text: &[u8],

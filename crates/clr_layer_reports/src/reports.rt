@@ -105,7 +105,7 @@ fn encoding_line(alloc: Global, file: &str, text: &[u8]) -> Result<Vec<u8>, Allo
     Ok(line)
 }
 
-/// Returns what is said of the text of a layer.
+/// Returns what is said of the text of a layer, with places in its source.
 fn text_report(
     alloc: Global,
     schema: &Schema,
@@ -114,8 +114,9 @@ fn text_report(
     rounded: bool,
     file: &str,
     text: &[u8],
+    source: &[u8],
 ) -> Result<Vec<u8>, AllocError>
-    ensures { IfOk result (λ lines. IsTextReport schema.now at table.now rounded file.now text.now lines.items (records_in text.now)) }
+    ensures { IfOk result (λ lines. IsTextReport schema.now at table.now rounded file.now text.now source.now lines.items (records_in text.now)) }
 {
     let Some(records) = records_of(alloc, text)? else {
         return encoding_line(alloc, file, text);
@@ -125,7 +126,7 @@ fn text_report(
     let names = names.as_slice();
     let faults = faults_in(alloc, schema, at, table, rounded, names, records)?;
     let near = near_names(alloc, table, names)?;
-    let bytes = without_mark(text);
+    let bytes = without_mark(source);
     faults_text(
         alloc,
         file,
@@ -212,16 +213,18 @@ fn table_report(
     rounded: bool,
     file: &str,
     text: &[u8],
+    source: &[u8],
 ) -> Result<Vec<u8>, AllocError>
-    ensures { IfOk result (λ lines. IsReportOver schema.now at rounded file.now text.now lines.items (slice_get schema.now at)) }
+    ensures { IfOk result (λ lines. IsReportOver schema.now at rounded file.now text.now source.now lines.items (slice_get schema.now at)) }
 {
     match schema.def(at) {
-        Some(table) => text_report(alloc, schema, at, table, rounded, file, text),
+        Some(table) => text_report(alloc, schema, at, table, rounded, file, text, source),
         None => Ok(Vec::new(alloc)),
     }
 }
 
-/// Returns what is wrong with a layer, by the name of its file and the layers before it: a line for each of its first 100 faults, with its place, its
+/// Returns what is wrong with a layer, by the name of its file and the layers before it, with places in the source: the text of the file, from which that of
+/// the layer was made record by record, or which is the same: a line for each of its first 100 faults, with its place, its
 /// name, a sentence, the row and perhaps a hint; and where there are more than one, how many they are, in all and of each kind and column. Each record
 /// has its first fault, or that a row before it has its key. A layer whose faults are none of these has no line: one without a fault, and one whose row
 /// gets no key.
@@ -232,15 +235,24 @@ pub fn layer_report(
     file: &str,
     earlier: &[GivenLayer],
     layer: &GivenLayer,
+    source: &[u8],
 ) -> Result<Vec<u8>, AllocError>
-    ensures { IfOk result (λ lines. IsLayerReport schema.now rounded file.now earlier.now layer.now lines.items) }
+    ensures { IfOk result (λ lines. IsLayerReport schema.now rounded file.now earlier.now layer.now source.now lines.items) }
 {
     let name = layer.table.as_str();
     if is_given(earlier, name) {
         return table_twice(alloc, file, name);
     }
     match schema.table(name) {
-        Some(at) => table_report(alloc, schema, at, rounded, file, layer.text.as_slice()),
+        Some(at) => table_report(
+            alloc,
+            schema,
+            at,
+            rounded,
+            file,
+            layer.text.as_slice(),
+            source,
+        ),
         None => no_table(alloc, schema, file, name),
     }
 }

@@ -329,7 +329,7 @@ pub(crate) fn add_sentence(
 }
 
 /// Adds the row of a record, where it has a key that is a number.
-pub(crate) fn add_row(
+pub fn add_row(
     line: &mut Vec<u8>,
     table: &TableDef,
     names: &[Words],

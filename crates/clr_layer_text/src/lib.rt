@@ -21,5 +21,7 @@ pub use laws::layer_is_read_back;
 pub use limits::{SHAPE, limits_of_layers};
 pub use reading::{read_layer, read_row};
 pub use rows::LayerRow;
+pub use shape_reading::read_shape;
+pub use shape_writing::shape_in_text;
 pub use table_rows::{rows_of_table, table_layer};
 pub use writing::{header_line, row_line, write_layer};

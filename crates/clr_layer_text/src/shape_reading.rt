@@ -152,12 +152,7 @@ fn shape_by(
 /// place. Fails with `NotWkt`, `NotFlat`, `Curve`, `SeveralParts`, `NotDecimal`, `Finer` or `OutOfRange`,
 /// each as it is told of the text, and with `WrongShape` where a line can't be a row of this form.
 #[tactic(auto, unfolding(crate::specs::Wkt::shape_of))]
-pub(crate) fn read_shape(
-    alloc: Global,
-    rounded: bool,
-    form: Form,
-    text: &str,
-) -> Result<Shape, LayerFault>
+pub fn read_shape(alloc: Global, rounded: bool, form: Form, text: &str) -> Result<Shape, LayerFault>
     ensures { Gives layer_lacks_memory (λ x. x) result (shape_of rounded form text.now) }
 {
     let (head, behind) = cut(text, '(').ok_or(LayerFault::NotWkt)?;

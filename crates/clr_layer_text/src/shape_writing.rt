@@ -80,7 +80,7 @@ fn add_point(text: &mut Vec<u8>, place: Place) -> Result<(), AllocError>
 }
 
 /// Returns a shape as WKT, and no bytes for none.
-pub(crate) fn shape_in_text(alloc: Global, shape: &Shape) -> Result<Vec<u8>, AllocError>
+pub fn shape_in_text(alloc: Global, shape: &Shape) -> Result<Vec<u8>, AllocError>
     ensures { IfOk result (λ text. text.items ≡ shape_text shape.now) }
 {
     let mut text = Vec::new(alloc);

@@ -7,4 +7,4 @@ returns-in-Features c =
     (rw (sym c.as_str.ensures) (rw (sym c.as_slice.ensures) (rw (sym c.as_ref.ensures.value) c.features_of_text.ensures)))
 
 pub returns-in-Layer : goal.returns-in-Layer
-returns-in-Layer c = rw c.in-Layer.is (rw (sym c.as_str-in-Layer.ensures) c.named_layer.ensures)
+returns-in-Layer c = rw c.in-Layer.is (rw (sym c.as_str-in-Layer.ensures) (rw (sym c.as_slice-in-Layer.ensures) c.named_layer.ensures))

@@ -1,0 +1,4 @@
+pub mod CoordinateLemmas
+mod PreparedLemmas
+mod RepairLemmas
+mod ShownLemmas

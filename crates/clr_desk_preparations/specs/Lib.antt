@@ -1,0 +1,5 @@
+pub mod ByCoordinates
+pub mod EmptyRefusals
+pub mod Preparing
+pub mod Repairs
+pub mod ShownLayers

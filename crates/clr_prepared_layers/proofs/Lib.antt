@@ -1,0 +1,5 @@
+mod AgainLemmas
+mod BelowLemmas
+mod EmptyLemmas
+mod PlaceLemmas
+mod TextLemmas

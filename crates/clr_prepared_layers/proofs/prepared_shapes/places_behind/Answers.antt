@@ -1,0 +1,15 @@
+use Rattle.std.proofs.Common.{◌∙◌, ◌∷◌, ◌++◌, [], ap}
+use Rattle.clr_layer_text.proofs.Turns.{itself}
+use Rattle.clr_records.proofs.Turns.{seen_more}
+use Rattle.clr_prepared_layers.specs.PreparedShapes.{place_behind}
+use Rattle.clr_prepared_layers.proofs.PlaceLemmas.{each_within}
+use Rattle.clr_prepared_layers.proofs.prepared_shapes.places_behind.Goals as goal
+
+pub place_behind-requires-clause-within : goal.place_behind-requires-clause-within
+place_behind-requires-clause-within c = each_within _ c.args.places.now c.loop-place.place-index _ c.loop-place-test.true c.requires.within
+
+pub loop-place-preserved : goal.loop-place-preserved
+loop-place-preserved c =
+    seen_more (place_behind c.args.origin) c.args.places.now c.loop-place.place-index _ [] _ _ c.loop-place-test.true
+    (itself c.args.places.now c.loop-place.place-index _ c.loop-place-test.true) c.loop-place.invariant
+    (c.in_ok-push.ensures.items ∙ ap (λ moved. c.loop-place.moved.items ++ moved ∷ []) c.place_behind.ensures)

@@ -1,0 +1,5 @@
+pub mod EmptyValues
+pub mod Laws
+pub mod PreparedRecords
+pub mod PreparedShapes
+pub mod PreparedTexts
